@@ -1,0 +1,33 @@
+//! The types of the simulated scheduler, and the definitions that every contract cites.
+#![tactic(auto)]
+
+pub mod audit;
+pub mod command;
+pub mod entry;
+pub mod history;
+pub mod ids;
+pub mod merit;
+pub mod name;
+pub mod partition;
+pub mod program;
+pub mod scenario;
+pub mod shape;
+pub mod state;
+
+pub use audit::{Audit, Worst};
+pub use command::{
+    Answer, Call, Change, ChangeKind, CommandRow, CtlRefusal, CtlView, Reply, ThreadView,
+};
+pub use entry::{Done, End, Entry, Order};
+pub use history::History;
+pub use ids::{ChannelId, CpuId, Nanos, NoMemory, OutOfRange, PartitionId, ThreadId};
+pub use merit::{
+    Contender, Merit, PartFacts, has_allowance, is_below, is_candidate, is_critical_pick,
+    is_greater, less_fraction, merit_of,
+};
+pub use name::{Name, NameBad};
+pub use partition::{PartitionRow, TreeRefusal};
+pub use program::{Op, Program};
+pub use scenario::{Policy, Scenario, ThreadRow};
+pub use shape::{Bankruptcy, Free, Shape};
+pub use state::{CpuNow, Facts, Pick, State, ThreadNow};
