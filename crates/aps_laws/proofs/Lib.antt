@@ -1,4 +1,4 @@
-pub mod Threads
+pub mod ThreadFacts
 pub mod WaitFacts
 pub mod WaitMoves
 pub mod WaitBears
@@ -8,7 +8,7 @@ pub mod ThreadMoves
 pub mod Mid
 pub mod Picked
 pub mod StepOf
-pub mod Moments
+pub mod MomentLaws
 pub mod Opening
 pub mod Carry
 pub mod Channels
