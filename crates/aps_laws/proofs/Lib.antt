@@ -1,3 +1,6 @@
+pub mod Turns
+pub mod Prefixes
+pub mod FixedRun
 pub mod ThreadFacts
 pub mod WaitFacts
 pub mod WaitMoves
