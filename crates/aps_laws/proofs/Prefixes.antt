@@ -49,3 +49,22 @@ legal_up_to scenario order h later e legal =
 
 pub goes_on : (scenario : Scenario) (order : Order) (h later : List Entry) (e : Entry) → IsLegal scenario order (h ++ e ∷ later) → GoesOn scenario order h e
 goes_on scenario order h later e legal = (one_more scenario order h e (legal_up_to scenario order h later e legal)).goes_on
+
+-- ---- induction on the last entry
+
+entries_from : (scenario : Scenario) (order : Order) (P : List Entry → Type 0) → ((h : List Entry) (e : Entry) → IsLegal scenario order (h ++ e ∷ []) → P h → P (h ++ e ∷ []))
+    → (es done : List Entry) → IsLegal scenario order (done ++ es) → P done → P (done ++ es)
+entries_from scenario order P more [] done legal p = subst P (sym (append-nil done)) p
+entries_from scenario order P more (e ∷ es) done legal p =
+    let next : P (done ++ e ∷ []) = more done e (legal_up_to scenario order done es e legal) p in
+    subst P (append_assoc done (e ∷ []) es)
+    (entries_from scenario order P more es (done ++ e ∷ []) (subst (IsLegal scenario order) (sym (append_assoc done (e ∷ []) es)) legal) next)
+
+-- what holds of a prefix and is kept by each further entry holds of the whole
+pub by_more : (scenario : Scenario) (order : Order) (P : List Entry → Type 0) → ((h : List Entry) (e : Entry) → IsLegal scenario order (h ++ e ∷ []) → P h → P (h ++ e ∷ []))
+    → (h later : List Entry) → IsLegal scenario order (h ++ later) → P h → P (h ++ later)
+by_more scenario order P more h later legal p = entries_from scenario order P more later h legal p
+
+pub by_entries : (scenario : Scenario) (order : Order) (P : List Entry → Type 0) → ((h : List Entry) (e : Entry) → IsLegal scenario order (h ++ e ∷ []) → P h → P (h ++ e ∷ []))
+    → (h : List Entry) → IsLegal scenario order h → P [] → P h
+by_entries scenario order P more h legal p = entries_from scenario order P more h [] legal p
