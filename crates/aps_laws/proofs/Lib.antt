@@ -20,3 +20,10 @@ pub mod Chains
 pub mod Words
 pub mod Grown
 pub mod StepGrown
+pub mod EachThread
+pub mod ThreadSteps
+pub mod EachStep
+pub mod Programs
+pub mod RowsGrow
+pub mod ThreadFit
+pub mod Counts
