@@ -27,3 +27,4 @@ pub mod Programs
 pub mod RowsGrow
 pub mod ThreadFit
 pub mod Counts
+pub mod StampCounts

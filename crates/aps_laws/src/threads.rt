@@ -8,6 +8,7 @@ ghost use Rattle.aps_model.specs.After.{after, state_after};
 ghost use Rattle.aps_model.specs.Legal.{IsLegal};
 ghost use Rattle.aps_laws.specs.Untouched.{IsKept};
 ghost use Rattle.aps_laws.specs.Stamps.{IsStamped};
+ghost use Rattle.aps_laws.specs.Stamped.{HasFewStamps};
 ghost use Rattle.aps_laws.specs.Counts.{IsCounted, NoneShared};
 ghost use Rattle.aps_laws.specs.ThreadFits.{Each, IsThreadFit, IsThreadTimed};
 
@@ -39,4 +40,9 @@ pub fn places_fit()
 /// A ready thread has time left, and so has a running one unless the run is over for its processor; the time that a thread ran since its stamp is at most the time that has passed, and that of its processor where it runs.
 pub fn time_is_left()
     ensures { (scenario : Scenario) (order : Order) (h : List Entry) → IsScenario scenario → IsLegal scenario order h → Each (λ x t. IsThreadTimed scenario (after scenario h).reboot h t) (state_after scenario h).threads }
+{}
+
+/// A step gives at most one stamp for each thread and two more; so for 4,000,000 entries all stamps of ready and running threads are below 2^32.
+pub fn stamps_are_few()
+    ensures { (scenario : Scenario) (order : Order) (h : List Entry) → IsScenario scenario → IsLegal scenario order h → HasFewStamps (state_after scenario h) h }
 {}
