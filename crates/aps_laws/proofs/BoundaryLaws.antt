@@ -208,7 +208,7 @@ boundaries scenario order h r legal =
 
 -- ---- ticks
 
-div_rises : (t y z : ℕ) → 0 < t → y ≤ z → y / t ≤ z / t
+pub div_rises : (t y z : ℕ) → 0 < t → y ≤ z → y / t ≤ z / t
 div_rises t y z pos rises = search (arith)
 
 -- before a boundary the tick is an earlier one

@@ -9,6 +9,7 @@ pub mod BoundaryLaws
 pub mod HeldRows
 pub mod Places
 pub mod ReplyLaws
+pub mod ChangeLaws
 pub mod ThreadFacts
 pub mod WaitFacts
 pub mod WaitMoves
