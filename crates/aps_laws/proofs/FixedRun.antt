@@ -1,13 +1,13 @@
 -- The run in fixed order, and how a legal history is finished by steps in fixed order.
 use Rattle.std.proofs.Common.{◌≡◌, ℕ, zero, suc, ◌+◌, ◌-◌, ◌<◌, ◌≤◌, List, [], ◌∷◌, ◌++◌, length, take, drop, refl, sym, ◌∙◌, ap, subst, append_assoc, cond, Option, Some, None, is_some, IsSome, arith, inl, inr, ◌⊎◌, length-append, take-append-drop}
-use Rattle.std.proofs.lemmas.Bool.{cases_lt}
+use Rattle.std.proofs.lemmas.Bool.{cases_eq, cases_lt}
 use Rattle.std.proofs.lemmas.List.{append-nil, length-drop}
 use Rattle.aps_model.specs.declared.entry.Entry.{Entry}
 use Rattle.aps_model.specs.declared.entry.End.{End}
 use Rattle.aps_model.specs.declared.entry.End.TheVariants.{Limit}
 use Rattle.aps_model.specs.declared.entry.Order.{Order}
 use Rattle.aps_model.specs.declared.entry.Order.TheVariants.{Fixed}
-use Rattle.aps_laws.specs.Runs.{GoesOn, IsRun, IsEndedLate, Extends, finished}
+use Rattle.aps_laws.specs.Runs.{with_fixed_step, GoesOn, IsRun, IsEndedLate, Extends, finished}
 use Rattle.aps_laws.proofs.WaitFacts.{test_ne, test_eq}
 use Rattle.aps_laws.proofs.Turns.{one_turn, any_turn}
 use Rattle.aps_laws.proofs.Prefixes.{legal_more, goes_on}
@@ -257,3 +257,26 @@ steps_extend scenario (suc n) a h = elim (over_or_not (over a h)) [
 
 pub finish_extends : (scenario : Scenario) (limit : ℕ) (h : List Entry) → Extends h (finished scenario limit h)
 finish_extends scenario limit h = steps_extend scenario (limit - length h) (after scenario h) h
+
+-- ---- one step at a time
+
+pub finish_stops : (scenario : Scenario) (limit : ℕ) (h : List Entry) → IsSome (end_of scenario limit h) → finished scenario limit h ≡ h
+finish_stops scenario limit h ended = elim (over_or_not (over (after scenario h) h)) [
+  | inr stop ↦ steps_stop scenario (limit - length h) (after scenario h) h stop
+  | inl run ↦ elim (cases_eq (length h) limit) [
+    | inl full ↦
+        let no_fuel : limit - length h ≡ 0 = omega (arith, full) in
+        ap (λ n. fixed_steps scenario n (after scenario h) h) no_fuel
+    | inr ne ↦ absurd (none_or_some (end_of scenario limit h) (ap (λ o. or_limit o limit (length h)) run ∙ ap (λ t. cond t (Some Limit) None) (test_ne (length h) limit ne)) ended)
+  ]
+]
+
+pub finish_steps : (scenario : Scenario) (order : Order) (limit : ℕ) (h : List Entry) → IsScenario scenario → IsLegal scenario order h → length h < limit → end_of scenario limit h ≡ None
+    → finished scenario limit h ≡ finished scenario limit (with_fixed_step scenario h)
+finish_steps scenario order limit h r legal short none =
+    let e = (next_in scenario (after scenario h) h).entry in
+    let run = not_over scenario limit h none in
+    let fuel : limit - length h ≡ suc (limit - length (h ++ e ∷ [])) = omega (arith, length-append h (e ∷ []), short) in
+    ap (λ n. fixed_steps scenario n (after scenario h) h) fuel
+    ∙ steps_go_on scenario (limit - length (h ++ e ∷ [])) (after scenario h) h run
+    ∙ ap (λ a. fixed_steps scenario (limit - length (h ++ e ∷ [])) a (h ++ e ∷ [])) (sym (fixed_next scenario order h r legal).leaves)

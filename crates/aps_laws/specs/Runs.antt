@@ -41,6 +41,12 @@ pub record IsRun (scenario : Scenario) (order : Order) (limit : ℕ) (h : List E
 abbrev pub finished : Scenario → ℕ → List Entry → List Entry
 finished scenario limit h = fixed_steps scenario (limit - length h) (after scenario h) h
 
+-- the history with the step of the lowest processor that is due least
+abbrev pub with_fixed_step : Scenario → List Entry → List Entry
+with_fixed_step scenario h =
+    let s = state_after scenario h in
+    h ++ (step scenario s h (first_due s h s.shape.cpus)).entry ∷ []
+
 -- the history, and more
 abbrev pub Extends : List Entry → List Entry → Type 0
 Extends h g = (more : List Entry) × (g ≡ h ++ more)

@@ -1,5 +1,5 @@
 //! The partition rows and the parameters of a legal history.
-ghost use Rattle.std.specs.Prelude.{◌≡◌, ℕ, ◌≤◌, false, length, List, [], ◌∷◌, ◌++◌, ◌/◌};
+ghost use Rattle.std.specs.Prelude.{◌≡◌, ℕ, ◌≤◌, false, length, All, List, [], ◌∷◌, ◌++◌, ◌/◌};
 ghost use Rattle.aps_model.specs.declared.entry.Entry.{Entry};
 ghost use Rattle.aps_model.specs.declared.entry.Order.{Order};
 ghost use Rattle.aps_model.specs.Scenario.{Scenario};
@@ -9,6 +9,7 @@ ghost use Rattle.aps_model.specs.Legal.{IsLegal};
 ghost use Rattle.aps_laws.specs.Changes.{AreInTicks, HasRoomForChanges, OnlyGrow};
 ghost use Rattle.aps_laws.specs.Grown.{IsGrown};
 ghost use Rattle.aps_model.specs.Loaded.{has_change};
+ghost use Rattle.aps_model.specs.Partition.{IsRow};
 ghost use Rattle.aps_laws.specs.Held.{HoldsRows};
 ghost use Rattle.aps_laws.specs.Rows.{AreInOrder, AreKept};
 
@@ -19,7 +20,8 @@ pub fn change_or_same()
 
 /// Rows and shape stay in order: 1 to 32 rows with distinct names, each parent before its children, row 0 `System` and its own parent; budgets sum to the parts and each is at most its maximum; the sizes are the scenario's, and the window stays within 8 to 400 ticks.
 pub fn rows_sound()
-    ensures { (scenario : Scenario) (order : Order) (h : List Entry) → IsScenario scenario → IsLegal scenario order h → AreInOrder scenario (state_after scenario h) }
+    ensures in_order { (scenario : Scenario) (order : Order) (h : List Entry) → IsScenario scenario → IsLegal scenario order h → AreInOrder scenario (state_after scenario h) }
+    ensures in_range { (scenario : Scenario) (order : Order) (h : List Entry) → IsScenario scenario → IsLegal scenario order h → All IsRow (state_after scenario h).rows }
 {}
 
 /// Rows never go, and none changes its name or its parent.
