@@ -7,7 +7,7 @@ use Rattle.aps_model.specs.declared.entry.End.{End}
 use Rattle.aps_model.specs.declared.entry.End.TheVariants.{Limit}
 use Rattle.aps_model.specs.declared.entry.Order.{Order}
 use Rattle.aps_model.specs.declared.entry.Order.TheVariants.{Fixed}
-use Rattle.aps_laws.specs.Runs.{with_fixed_step, GoesOn, IsRun, IsEndedLate, Extends, finished}
+use Rattle.aps_laws.specs.Runs.{with_fixed_step, GoesOn, IsRun, EndsNoSooner, Extends, finished}
 use Rattle.aps_laws.proofs.WaitFacts.{test_ne, test_eq}
 use Rattle.aps_laws.proofs.Turns.{one_turn, any_turn}
 use Rattle.aps_laws.proofs.Prefixes.{legal_more, goes_on}
@@ -83,7 +83,7 @@ before_last (b ∷ before) later (y ∷ h) x e same =
       | inr k ↦ inr (k.0, ap (λ z. z ∷ h) parts.0 ∙ ap (λ zs. b ∷ zs) k.1)
     ]
 
-late_more : (scenario : Scenario) (limit : ℕ) (h : List Entry) (e : Entry) → IsEndedLate scenario limit h → end_of scenario limit h ≡ None → IsEndedLate scenario limit (h ++ e ∷ [])
+late_more : (scenario : Scenario) (limit : ℕ) (h : List Entry) (e : Entry) → EndsNoSooner scenario limit h → end_of scenario limit h ≡ None → EndsNoSooner scenario limit (h ++ e ∷ [])
 late_more scenario limit h e late none = λ before later x same.
     elim (before_last before later h x e same) [
       | inl is ↦ subst (λ g. end_of scenario limit g ≡ None) is none
@@ -91,7 +91,7 @@ late_more scenario limit h e late none = λ before later x same.
     ]
 
 -- such a history is no longer than the limit
-late_short : (scenario : Scenario) (limit : ℕ) (h : List Entry) → IsEndedLate scenario limit h → length h ≤ limit
+late_short : (scenario : Scenario) (limit : ℕ) (h : List Entry) → EndsNoSooner scenario limit h → length h ≤ limit
 late_short scenario limit h late = elim (cases_lt limit (length h)) [
   | inr fits ↦ fits
   | inl long ↦ absurd (by_rest (drop limit h) refl long)
@@ -157,7 +157,7 @@ fixed_next scenario order h r legal =
     }
 
 -- steps in fixed order lead to the end
-steps_end : (scenario : Scenario) (order : Order) (limit n : ℕ) (a : After) (h : List Entry) → IsScenario scenario → a ≡ after scenario h → n + length h ≡ limit → IsLegal scenario order h → IsEndedLate scenario limit h
+steps_end : (scenario : Scenario) (order : Order) (limit n : ℕ) (a : After) (h : List Entry) → IsScenario scenario → a ≡ after scenario h → n + length h ≡ limit → IsLegal scenario order h → EndsNoSooner scenario limit h
     → IsRun scenario order limit (fixed_steps scenario n a h)
 steps_end scenario order limit zero a h r is count legal late = record { legal = legal; ended = ended_limit scenario limit h (omega (arith, count)); no_sooner = late }
 steps_end scenario order limit (suc n) a h r is count legal late = elim (over_or_not (over a h)) [
@@ -178,7 +178,7 @@ steps_end scenario order limit (suc n) a h r is count legal late = elim (over_or
       ∙ sym (steps_go_on scenario n a h run)) rest
 ]
 
-pub finish_ends : (scenario : Scenario) (order : Order) (limit : ℕ) (h : List Entry) → IsScenario scenario → IsLegal scenario order h → IsEndedLate scenario limit h → IsRun scenario order limit (finished scenario limit h)
+pub finish_ends : (scenario : Scenario) (order : Order) (limit : ℕ) (h : List Entry) → IsScenario scenario → IsLegal scenario order h → EndsNoSooner scenario limit h → IsRun scenario order limit (finished scenario limit h)
 finish_ends scenario order limit h r legal late =
     steps_end scenario order limit (limit - length h) (after scenario h) h r refl (omega (arith, late_short scenario limit h late)) legal late
 
@@ -240,7 +240,7 @@ pub run_is_one : (scenario : Scenario) (limit : ℕ) (h : List Entry) → IsScen
 run_is_one scenario limit h r m =
     sym (steps_same scenario limit limit (at_start scenario) [] h h r m (record { is = sym (empty_after scenario); count = omega arith; split = refl }))
 
-pub finish_is_run : (scenario : Scenario) (limit : ℕ) (h : List Entry) → IsScenario scenario → IsLegal scenario Fixed h → IsEndedLate scenario limit h → finished scenario limit h ≡ fixed_run scenario limit
+pub finish_is_run : (scenario : Scenario) (limit : ℕ) (h : List Entry) → IsScenario scenario → IsLegal scenario Fixed h → EndsNoSooner scenario limit h → finished scenario limit h ≡ fixed_run scenario limit
 finish_is_run scenario limit h r legal late = run_is_one scenario limit (finished scenario limit h) r (finish_ends scenario Fixed limit h r legal late)
 
 -- ---- the beginning stays
