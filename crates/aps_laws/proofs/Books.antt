@@ -117,6 +117,10 @@ commands_among scenario j C each =
     let inside : i < length scenario.commands = subst (λ n. i < n) (length-enumerate_from 0 scenario.commands) below in
     subst (λ (k : ℕ × CommandRow). C k.1) (sym (get_or-enumerate_from 0 scenario.commands i d inside)) (each i d.1 inside)))
 
+pub wake_books : (Q : List PartitionRow → Shape → List Reply → List Change → Type 0) (scenario : Scenario) (now : ℕ) (s : SchedulerState) → OfBooks Q s → OfBooks Q (wake_all scenario now s)
+wake_books Q scenario now s m =
+    wake_each scenario now (OfBooks Q) (λ t y u q st. books_go_on scenario t y now Q q) (waking s now) s (sleepers_fold s now (length s.threads) 0 [] (λ y l. tt) tt) m
+
 tick_books : (Q : List PartitionRow → Shape → List Reply → List Change → Type 0) (C : CommandRow → Type 0)
     → ((h : List Entry) (j : ℕ) (t : SchedulerState) (k : ℕ × CommandRow) → C k.1 → OfBooks Q t → OfBooks Q (do_command h j t k))
     → (scenario : Scenario) (s : SchedulerState) (h : List Entry) (now : ℕ) → All C scenario.commands → OfBooks Q s → OfBooks Q (tick_work scenario s h now)
@@ -128,8 +132,7 @@ tick_books Q C commands scenario s h now each m = by_test (has_tick_work s h now
     ])
     by_test true =
         let j = now / s.shape.tick in
-        let mid = do_commands scenario h j s in
-        wake_each scenario now (OfBooks Q) (λ t y u q st. books_go_on scenario t y now Q q) (waking mid now) mid (sleepers_fold mid now (length mid.threads) 0 [] (λ y l. tt) tt)
+        wake_books Q scenario now (do_commands scenario h j s)
         (commands_all h j (OfBooks Q) (λ k. C k.1) (λ t k fits q. commands h j t k fits q) (commands_of scenario j) s (commands_among scenario j C each) m)
     by_test false = m
 

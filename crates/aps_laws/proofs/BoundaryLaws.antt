@@ -9,7 +9,7 @@ use Rattle.std.proofs.lemmas.List.Sums.{AllPass-from_list_all}
 use Rattle.std.proofs.lemmas.List.Folds.{list_any-append, Any-from_list_any}
 use Rattle.aps_model.specs.declared.entry.Entry.{Entry}
 use Rattle.aps_model.specs.declared.entry.Order.{Order}
-use Rattle.aps_laws.specs.Boundaries.{IsInTick, MeetsBoundaries, is_met, steps_at}
+use Rattle.aps_laws.specs.Boundaries.{IsInTick, MeetsBoundaries, is_met, steps_at, ticks_begun}
 use Rattle.aps_laws.specs.Moments.{moment}
 use Rattle.aps_laws.specs.Sound.{IsNext}
 use Rattle.aps_laws.proofs.WaitFacts.{test_eq}
@@ -208,7 +208,7 @@ boundaries scenario order h r legal =
 
 -- ---- ticks
 
-div_rises : (t y z : ℕ) → 0 < t → y ≤ z → y / t ≤ z / t
+pub div_rises : (t y z : ℕ) → 0 < t → y ≤ z → y / t ≤ z / t
 div_rises t y z pos rises = search (arith)
 
 -- before a boundary the tick is an earlier one
@@ -236,14 +236,19 @@ met_last h = elim (last_split h) [
       inr (ap (λ l. is_met l (moment h)) more.2 ∙ met_more front x (moment h) ∙ or_right (is_met front (moment h)) _ (or_left (nat_eq x.to (moment h)) false (test_eq x.to (moment h) (sym at))))
 ]
 
+pub begun_some : (tick : ℕ) (h : List Entry) → (h ≡ [] → ⊥) → ticks_begun tick h ≡ moment h / tick + 1
+begun_some tick [] some = absurd (some refl)
+begun_some tick (x ∷ h) some = refl
+
 pub in_tick : (scenario : Scenario) (order : Order) (h : List Entry) (e : Entry) → IsScenario scenario → IsLegal scenario order (h ++ e ∷ []) → IsInTick scenario.shape.tick h e
 in_tick scenario order h e r legal =
     let t = scenario.shape.tick in
     let m = step_at scenario order h e r legal in
     let all = latest scenario order h r (legal_last scenario order h e legal).0 in
     let rises = m.next.rises in
+    let opens : h ≡ [] → e.to ≡ 0 = λ empty. m.next.opens (ap (λ l. last_to l e.cpu) empty) in
     let later : is_met h e.to ≡ false → ((h ≡ []) × (e.to ≡ 0)) ⊎ (moment h < e.to) = λ none. elim (met_last h) [
-      | inl empty ↦ inl (empty, m.next.opens (ap (λ l. last_to l e.cpu) empty))
+      | inl empty ↦ inl (empty, opens empty)
       | inr met ↦ inr (elim (cases_order (moment h) e.to) [
         | inl same ↦ absurd (clash (sym met ∙ ap (is_met h) same ∙ none))
         | inr other ↦ elim other [
@@ -253,9 +258,12 @@ in_tick scenario order h e r legal =
       ])
     ] in
     record {
-      again = λ met. let l = met_somewhere h e.to all met in omega (arith, l, rises);
+      again = λ met.
+          let l = met_somewhere h e.to all met in
+          let at : e.to ≡ moment h = omega (arith, l, rises) in
+          (at, ap (λ n. n / t + 1) at ∙ sym (begun_some t h (λ empty. clash (sym met ∙ ap (λ l. is_met l e.to) empty))));
       later = later;
-      inside = λ not_at. after_last scenario h e ((e.to / t ≡ moment h / t) × (e.to / t ≡ e.from / t)) m
+      inside = λ not_at. after_last scenario h e ((e.to / t + 1 ≡ ticks_begun t h) × (e.to / t ≡ e.from / t)) m
           (λ first. absurd (not_at (zero_mod t e.to first)))
           (λ y last a.
           let past = a.past in
@@ -263,19 +271,24 @@ in_tick scenario order h e r legal =
           let whole : e.to / t ≡ y / t = same_tick t y e.to m.pos (omega (arith, past, rises)) short not_at in
           let low = div_rises t y (moment h) m.pos past in
           let high = div_rises t (moment h) e.to m.pos rises in
-          (omega (arith, whole, low, high), whole ∙ ap (λ n. n / t) (sym a.from)));
+          let begun = begun_some t h (λ empty. not_at (zero_mod t e.to (opens empty))) in
+          (omega (arith, whole, low, high, begun), whole ∙ ap (λ n. n / t) (sym a.from)));
       begins = λ at none. elim (later none) [
-        | inl opens ↦ inl opens
-        | inr less ↦ inr (after_last scenario h e (e.to / t ≡ moment h / t + 1) m
+        | inl first ↦ ap (λ n. n / t) first.1 ∙ zero_div t m.pos ∙ ap (ticks_begun t) (sym first.0)
+        | inr less ↦ after_last scenario h e (e.to / t ≡ ticks_begun t h) m
             (λ first. absurd (omega (arith, first, less)))
             (λ y last a.
             let past = a.past in
             let next : e.to / t ≡ y / t + 1 = next_tick t y e.to m.pos (omega (arith, past, less)) a.short at in
             let low = div_rises t y (moment h) m.pos past in
             let high = div_less t (moment h) e.to m.pos less at in
-            omega (arith, next, low, high)))
+            let begun = begun_some t h (λ empty. absurd (omega (arith, opens empty, less))) in
+            omega (arith, next, low, high, begun))
       ];
     }
   where
     clash : ◌≡◌ {A = Bool} true false → ⊥
     clash e = cc
+
+    zero_div : (t : ℕ) → 0 < t → 0 / t ≡ 0
+    zero_div t pos = search (arith)

@@ -1,13 +1,13 @@
 -- The run in fixed order, and how a legal history is finished by steps in fixed order.
 use Rattle.std.proofs.Common.{◌≡◌, ℕ, zero, suc, ◌+◌, ◌-◌, ◌<◌, ◌≤◌, List, [], ◌∷◌, ◌++◌, length, take, drop, refl, sym, ◌∙◌, ap, subst, append_assoc, cond, Option, Some, None, is_some, IsSome, arith, inl, inr, ◌⊎◌, length-append, take-append-drop}
-use Rattle.std.proofs.lemmas.Bool.{cases_lt}
+use Rattle.std.proofs.lemmas.Bool.{cases_eq, cases_lt}
 use Rattle.std.proofs.lemmas.List.{append-nil, length-drop}
 use Rattle.aps_model.specs.declared.entry.Entry.{Entry}
 use Rattle.aps_model.specs.declared.entry.End.{End}
 use Rattle.aps_model.specs.declared.entry.End.TheVariants.{Limit}
 use Rattle.aps_model.specs.declared.entry.Order.{Order}
 use Rattle.aps_model.specs.declared.entry.Order.TheVariants.{Fixed}
-use Rattle.aps_laws.specs.Runs.{GoesOn, IsRun, IsEndedLate, Extends, finished}
+use Rattle.aps_laws.specs.Runs.{with_fixed_step, GoesOn, IsRun, EndsNoSooner, Extends, finished}
 use Rattle.aps_laws.proofs.WaitFacts.{test_ne, test_eq}
 use Rattle.aps_laws.proofs.Turns.{one_turn, any_turn}
 use Rattle.aps_laws.proofs.Prefixes.{legal_more, goes_on}
@@ -83,7 +83,7 @@ before_last (b ∷ before) later (y ∷ h) x e same =
       | inr k ↦ inr (k.0, ap (λ z. z ∷ h) parts.0 ∙ ap (λ zs. b ∷ zs) k.1)
     ]
 
-late_more : (scenario : Scenario) (limit : ℕ) (h : List Entry) (e : Entry) → IsEndedLate scenario limit h → end_of scenario limit h ≡ None → IsEndedLate scenario limit (h ++ e ∷ [])
+late_more : (scenario : Scenario) (limit : ℕ) (h : List Entry) (e : Entry) → EndsNoSooner scenario limit h → end_of scenario limit h ≡ None → EndsNoSooner scenario limit (h ++ e ∷ [])
 late_more scenario limit h e late none = λ before later x same.
     elim (before_last before later h x e same) [
       | inl is ↦ subst (λ g. end_of scenario limit g ≡ None) is none
@@ -91,7 +91,7 @@ late_more scenario limit h e late none = λ before later x same.
     ]
 
 -- such a history is no longer than the limit
-late_short : (scenario : Scenario) (limit : ℕ) (h : List Entry) → IsEndedLate scenario limit h → length h ≤ limit
+late_short : (scenario : Scenario) (limit : ℕ) (h : List Entry) → EndsNoSooner scenario limit h → length h ≤ limit
 late_short scenario limit h late = elim (cases_lt limit (length h)) [
   | inr fits ↦ fits
   | inl long ↦ absurd (by_rest (drop limit h) refl long)
@@ -157,7 +157,7 @@ fixed_next scenario order h r legal =
     }
 
 -- steps in fixed order lead to the end
-steps_end : (scenario : Scenario) (order : Order) (limit n : ℕ) (a : After) (h : List Entry) → IsScenario scenario → a ≡ after scenario h → n + length h ≡ limit → IsLegal scenario order h → IsEndedLate scenario limit h
+steps_end : (scenario : Scenario) (order : Order) (limit n : ℕ) (a : After) (h : List Entry) → IsScenario scenario → a ≡ after scenario h → n + length h ≡ limit → IsLegal scenario order h → EndsNoSooner scenario limit h
     → IsRun scenario order limit (fixed_steps scenario n a h)
 steps_end scenario order limit zero a h r is count legal late = record { legal = legal; ended = ended_limit scenario limit h (omega (arith, count)); no_sooner = late }
 steps_end scenario order limit (suc n) a h r is count legal late = elim (over_or_not (over a h)) [
@@ -178,7 +178,7 @@ steps_end scenario order limit (suc n) a h r is count legal late = elim (over_or
       ∙ sym (steps_go_on scenario n a h run)) rest
 ]
 
-pub finish_ends : (scenario : Scenario) (order : Order) (limit : ℕ) (h : List Entry) → IsScenario scenario → IsLegal scenario order h → IsEndedLate scenario limit h → IsRun scenario order limit (finished scenario limit h)
+pub finish_ends : (scenario : Scenario) (order : Order) (limit : ℕ) (h : List Entry) → IsScenario scenario → IsLegal scenario order h → EndsNoSooner scenario limit h → IsRun scenario order limit (finished scenario limit h)
 finish_ends scenario order limit h r legal late =
     steps_end scenario order limit (limit - length h) (after scenario h) h r refl (omega (arith, late_short scenario limit h late)) legal late
 
@@ -240,7 +240,7 @@ pub run_is_one : (scenario : Scenario) (limit : ℕ) (h : List Entry) → IsScen
 run_is_one scenario limit h r m =
     sym (steps_same scenario limit limit (at_start scenario) [] h h r m (record { is = sym (empty_after scenario); count = omega arith; split = refl }))
 
-pub finish_is_run : (scenario : Scenario) (limit : ℕ) (h : List Entry) → IsScenario scenario → IsLegal scenario Fixed h → IsEndedLate scenario limit h → finished scenario limit h ≡ fixed_run scenario limit
+pub finish_is_run : (scenario : Scenario) (limit : ℕ) (h : List Entry) → IsScenario scenario → IsLegal scenario Fixed h → EndsNoSooner scenario limit h → finished scenario limit h ≡ fixed_run scenario limit
 finish_is_run scenario limit h r legal late = run_is_one scenario limit (finished scenario limit h) r (finish_ends scenario Fixed limit h r legal late)
 
 -- ---- the beginning stays
@@ -257,3 +257,26 @@ steps_extend scenario (suc n) a h = elim (over_or_not (over a h)) [
 
 pub finish_extends : (scenario : Scenario) (limit : ℕ) (h : List Entry) → Extends h (finished scenario limit h)
 finish_extends scenario limit h = steps_extend scenario (limit - length h) (after scenario h) h
+
+-- ---- one step at a time
+
+pub finish_stops : (scenario : Scenario) (limit : ℕ) (h : List Entry) → IsSome (end_of scenario limit h) → finished scenario limit h ≡ h
+finish_stops scenario limit h ended = elim (over_or_not (over (after scenario h) h)) [
+  | inr stop ↦ steps_stop scenario (limit - length h) (after scenario h) h stop
+  | inl run ↦ elim (cases_eq (length h) limit) [
+    | inl full ↦
+        let no_fuel : limit - length h ≡ 0 = omega (arith, full) in
+        ap (λ n. fixed_steps scenario n (after scenario h) h) no_fuel
+    | inr ne ↦ absurd (none_or_some (end_of scenario limit h) (ap (λ o. or_limit o limit (length h)) run ∙ ap (λ t. cond t (Some Limit) None) (test_ne (length h) limit ne)) ended)
+  ]
+]
+
+pub finish_steps : (scenario : Scenario) (order : Order) (limit : ℕ) (h : List Entry) → IsScenario scenario → IsLegal scenario order h → length h < limit → end_of scenario limit h ≡ None
+    → finished scenario limit h ≡ finished scenario limit (with_fixed_step scenario h)
+finish_steps scenario order limit h r legal short none =
+    let e = (next_in scenario (after scenario h) h).entry in
+    let run = not_over scenario limit h none in
+    let fuel : limit - length h ≡ suc (limit - length (h ++ e ∷ [])) = omega (arith, length-append h (e ∷ []), short) in
+    ap (λ n. fixed_steps scenario n (after scenario h) h) fuel
+    ∙ steps_go_on scenario (limit - length (h ++ e ∷ [])) (after scenario h) h run
+    ∙ ap (λ a. fixed_steps scenario (limit - length (h ++ e ∷ [])) a (h ++ e ∷ [])) (sym (fixed_next scenario order h r legal).leaves)

@@ -21,6 +21,10 @@ use Rattle.aps_model.specs.Scenario.{Scenario}
 use Rattle.aps_model.specs.SchedulerState.{SchedulerState}
 use Rattle.aps_model.specs.Valid.{IsScenario}
 
+not_empty : (front : List Entry) (x : Entry) → front ++ x ∷ [] ≡ [] → ⊥
+not_empty [] x k = cc
+not_empty (y ∷ front) x k = cc
+
 -- ---- the entries up to a moment
 
 -- only the first entry that ends there or later counts
@@ -116,10 +120,6 @@ held_step scenario order h e a b r legal held from to none =
     first : through_moment (a * scenario.shape.tick) (h ++ e ∷ []) ≡ h ++ e ∷ [] → IsHeldFrom scenario (h ++ e ∷ []) a
     first whole = (ap (λ l. (state_after scenario l).rows) (sym whole), ap (λ l. (state_after scenario l).shape) (sym whole))
 
-    not_empty : (front : List Entry) (x : Entry) → front ++ x ∷ [] ≡ [] → ⊥
-    not_empty [] x k = cc
-    not_empty (y ∷ front) x k = cc
-
 held : (scenario : Scenario) (order : Order) (h : List Entry) (a b : ℕ) → IsScenario scenario → IsLegal scenario order h
     → (h ≡ [] → ⊥) → a * scenario.shape.tick ≤ moment h → moment h < b * scenario.shape.tick → has_change (state_after scenario h).changes a b ≡ false → IsHeldFrom scenario h a
 held scenario order h a b r legal =
@@ -142,7 +142,3 @@ rows_held scenario order h a b r legal none = λ before later e split from to.
     let same : state_of_tick scenario (before ++ e ∷ []) a ≡ state_of_tick scenario h a =
     ap (state_after scenario) (sym (ap (through_moment (a * t)) split ∙ through_more (a * t) before later e from)) in
     (m.0 ∙ ap (λ (s : SchedulerState). s.rows) same, m.1 ∙ ap (λ (s : SchedulerState). s.shape) same)
-  where
-    not_empty : (front : List Entry) (x : Entry) → front ++ x ∷ [] ≡ [] → ⊥
-    not_empty [] x k = cc
-    not_empty (y ∷ front) x k = cc

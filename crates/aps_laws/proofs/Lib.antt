@@ -7,6 +7,9 @@ pub mod RowTree
 pub mod RowLaws
 pub mod BoundaryLaws
 pub mod HeldRows
+pub mod Places
+pub mod ReplyLaws
+pub mod ChangeLaws
 pub mod ThreadFacts
 pub mod WaitFacts
 pub mod WaitMoves

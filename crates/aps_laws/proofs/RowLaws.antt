@@ -1,5 +1,6 @@
 -- Rows and shape stay in order, and rows keep their names and parents.
-use Rattle.std.proofs.Common.{◌≡◌, ℕ, List, ◌++◌, length, subst, Bool, Option, Some, None, IfSome}
+use Rattle.std.proofs.lemmas.List.Elements.{All-weaker}
+use Rattle.std.proofs.Common.{All, ◌≤◌, ◌⊎◌, inl, inr, arith, ◌≡◌, ℕ, List, ◌++◌, length, subst, Bool, Option, Some, None, IfSome}
 use Rattle.aps_model.specs.declared.command.Change.{Change}
 use Rattle.aps_model.specs.declared.command.Reply.{Reply}
 use Rattle.aps_model.specs.declared.entry.Entry.{Entry}
@@ -18,7 +19,7 @@ use Rattle.aps_laws.proofs.RowTree.{cancelled_kept, cancelled_tree, created_kept
 use Rattle.aps_model.specs.After.{after, state_after}
 use Rattle.aps_model.specs.Command.{Performed, shape_set}
 use Rattle.aps_model.specs.Legal.{IsLegal}
-use Rattle.aps_model.specs.Partition.{AreRows}
+use Rattle.aps_model.specs.Partition.{AreRows, IsFundedRow, IsRow}
 use Rattle.aps_model.specs.Scenario.{Scenario}
 use Rattle.aps_model.specs.Shape.{IsShape}
 use Rattle.aps_model.specs.TickWork.{view_of}
@@ -98,6 +99,21 @@ in_order scenario order h r legal =
       sizes = sizes_same scenario.shape;
     }) in
     record { named = m.tree.0; funded = m.tree.1; shape = m.shaped; sizes = m.sizes }
+
+-- the ranges that rows have whatever the parts
+pub in_range : (scenario : Scenario) (order : Order) (h : List Entry) → IsScenario scenario → IsLegal scenario order h → All IsRow (state_after scenario h).rows
+in_range scenario order h r legal =
+    All-weaker (IsFundedRow scenario.shape.parts) IsRow
+    (λ row m.
+    let few : scenario.shape.parts ≤ 1000 = by_parts r.shape.parts in
+    let max = m.max in
+    let budget = m.budget in
+    record { budget = omega (arith, budget, max, few); critical = m.critical; max = omega (arith, max, few) })
+    (state_after scenario h).rows (in_order scenario order h r legal).funded.each
+  where
+    by_parts : (scenario.shape.parts ≡ 100) ⊎ (scenario.shape.parts ≡ 1000) → scenario.shape.parts ≤ 1000
+    by_parts (inl e) = omega (arith, e)
+    by_parts (inr e) = omega (arith, e)
 
 -- ---- kept
 

@@ -28,18 +28,24 @@ pub record IsOneMore (scenario : Scenario) (order : Order) (h : List Entry) (e :
   pub leaves : after scenario (h ++ e ∷ []) ≡ left_by (step scenario (state_after scenario h) h e.cpu)
 
 -- no shorter prefix of the history has ended with this limit
-abbrev pub IsEndedLate : Scenario → ℕ → List Entry → Type 0
-IsEndedLate scenario limit h = (before later : List Entry) (e : Entry) → h ≡ before ++ e ∷ later → end_of scenario limit before ≡ None
+abbrev pub EndsNoSooner : Scenario → ℕ → List Entry → Type 0
+EndsNoSooner scenario limit h = (before later : List Entry) (e : Entry) → h ≡ before ++ e ∷ later → end_of scenario limit before ≡ None
 
 -- a legal history that has ended with this limit, and no sooner
 pub record IsRun (scenario : Scenario) (order : Order) (limit : ℕ) (h : List Entry) : Type 0 where
   pub legal : IsLegal scenario order h
   pub ended : IsSome (end_of scenario limit h)
-  pub no_sooner : IsEndedLate scenario limit h
+  pub no_sooner : EndsNoSooner scenario limit h
 
 -- the history, and then steps in fixed order until it has ended with this limit
 abbrev pub finished : Scenario → ℕ → List Entry → List Entry
 finished scenario limit h = fixed_steps scenario (limit - length h) (after scenario h) h
+
+-- the history with the step of the lowest processor that is due least
+abbrev pub with_fixed_step : Scenario → List Entry → List Entry
+with_fixed_step scenario h =
+    let s = state_after scenario h in
+    h ++ (step scenario s h (first_due s h s.shape.cpus)).entry ∷ []
 
 -- the history, and more
 abbrev pub Extends : List Entry → List Entry → Type 0

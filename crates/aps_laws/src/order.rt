@@ -1,14 +1,15 @@
 //! Prefixes of legal histories, and the one run in fixed order.
-ghost use Rattle.std.specs.Prelude.{◌≡◌, ℕ, ◌≤◌, ◌↔◌, List, [], ◌∷◌, ◌++◌};
+ghost use Rattle.std.specs.Prelude.{◌≡◌, ℕ, ◌<◌, ◌≤◌, List, [], ◌∷◌, ◌++◌, length, None, IsSome};
 ghost use Rattle.aps_model.specs.declared.entry.Entry.{Entry};
 ghost use Rattle.aps_model.specs.declared.entry.Order.{Order};
 ghost use Rattle.aps_model.specs.declared.entry.Order.TheVariants.{Fixed};
 ghost use Rattle.aps_model.specs.Scenario.{Scenario};
 ghost use Rattle.aps_model.specs.SchedulerState.{SchedulerState};
 ghost use Rattle.aps_model.specs.Valid.{IsScenario};
+ghost use Rattle.aps_model.specs.After.{end_of};
 ghost use Rattle.aps_model.specs.Due.{HasTurn};
 ghost use Rattle.aps_model.specs.Legal.{IsLegal, fixed_run};
-ghost use Rattle.aps_laws.specs.Runs.{IsTurnOfOne, GoesOn, IsOneMore, IsEndedLate, IsRun, Extends, finished};
+ghost use Rattle.aps_laws.specs.Runs.{IsTurnOfOne, GoesOn, IsOneMore, EndsNoSooner, IsRun, Extends, finished, with_fixed_step};
 
 /// In fixed order one processor has the turn: the lowest of those that are due least.
 pub fn one_has_the_turn()
@@ -49,7 +50,13 @@ pub fn fixed_run_is_one()
 
 /// A legal history none of whose shorter prefixes has ended goes on by steps in fixed order to one that has ended with the limit, and no sooner. In fixed order that is the run.
 pub fn finished_ends()
-    ensures run { (scenario : Scenario) (order : Order) (limit : ℕ) (h : List Entry) → IsScenario scenario → IsLegal scenario order h → IsEndedLate scenario limit h → IsRun scenario order limit (finished scenario limit h) }
+    ensures run { (scenario : Scenario) (order : Order) (limit : ℕ) (h : List Entry) → IsScenario scenario → IsLegal scenario order h → EndsNoSooner scenario limit h → IsRun scenario order limit (finished scenario limit h) }
     ensures extends { (scenario : Scenario) (limit : ℕ) (h : List Entry) → Extends h (finished scenario limit h) }
-    ensures fixed { (scenario : Scenario) (limit : ℕ) (h : List Entry) → IsScenario scenario → IsLegal scenario Fixed h → IsEndedLate scenario limit h → finished scenario limit h ≡ fixed_run scenario limit }
+    ensures fixed { (scenario : Scenario) (limit : ℕ) (h : List Entry) → IsScenario scenario → IsLegal scenario Fixed h → EndsNoSooner scenario limit h → finished scenario limit h ≡ fixed_run scenario limit }
+{}
+
+/// Finishing leaves a history that has ended as it is, and one that hasn't may first go on by one step in fixed order.
+pub fn finished_by_steps()
+    ensures stops { (scenario : Scenario) (limit : ℕ) (h : List Entry) → IsSome (end_of scenario limit h) → finished scenario limit h ≡ h }
+    ensures steps { (scenario : Scenario) (order : Order) (limit : ℕ) (h : List Entry) → IsScenario scenario → IsLegal scenario order h → length h < limit → end_of scenario limit h ≡ None → finished scenario limit h ≡ finished scenario limit (with_fixed_step scenario h) }
 {}
