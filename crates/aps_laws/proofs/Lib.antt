@@ -28,3 +28,5 @@ pub mod RowsGrow
 pub mod ThreadFit
 pub mod Counts
 pub mod StampCounts
+pub mod Sleepers
+pub mod SleepLaw
