@@ -30,3 +30,8 @@ pub mod Counts
 pub mod StampCounts
 pub mod Sleepers
 pub mod SleepLaw
+pub mod Inherits
+pub mod Ranges
+pub mod ListsFit
+pub mod IdsLaw
+pub mod Servers
