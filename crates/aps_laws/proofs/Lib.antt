@@ -35,3 +35,4 @@ pub mod Ranges
 pub mod ListsFit
 pub mod IdsLaw
 pub mod Servers
+pub mod SmallNumbers
