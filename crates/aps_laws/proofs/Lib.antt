@@ -40,3 +40,11 @@ pub mod RowsGrow
 pub mod ThreadFit
 pub mod Counts
 pub mod StampCounts
+pub mod Sleepers
+pub mod SleepLaw
+pub mod Inherits
+pub mod Ranges
+pub mod ListsFit
+pub mod IdsLaw
+pub mod Servers
+pub mod SmallNumbers

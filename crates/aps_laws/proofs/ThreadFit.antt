@@ -385,7 +385,7 @@ started_at shape P [] number next y below each = absurd (omega arith)
 started_at shape P (row ∷ rows) number next zero below each = each number next
 started_at shape P (row ∷ rows) number next (suc y) below each = started_at shape P rows (number + 1) (stamp_after (first_state row) next) y (omega arith) each
 
-fit_opening : (scenario : Scenario) → IsScenario scenario → AreFit scenario (at_start scenario) []
+pub fit_opening : (scenario : Scenario) → IsScenario scenario → AreFit scenario (at_start scenario) []
 fit_opening scenario r y below =
     let inside : y < length scenario.threads = subst (λ n. y < n) (start_count scenario.shape scenario.threads 0 0) below in
     let row = row_fits scenario r y inside in

@@ -10,7 +10,7 @@ ghost use Rattle.aps_laws.specs.Untouched.{IsKept};
 ghost use Rattle.aps_laws.specs.Stamps.{IsStamped};
 ghost use Rattle.aps_laws.specs.Stamped.{HasFewStamps};
 ghost use Rattle.aps_laws.specs.Counts.{IsCounted, NoneShared};
-ghost use Rattle.aps_laws.specs.ThreadFits.{Each, IsThreadFit, IsThreadTimed};
+ghost use Rattle.aps_laws.specs.ThreadFits.{Each, IsThreadFit, IsThreadTimed, SleepsOn};
 
 /// A thread runs exactly where a processor keeps it.
 pub fn one_each()
@@ -45,4 +45,9 @@ pub fn time_is_left()
 /// A step gives at most one stamp for each thread and two more; so for 4,000,000 entries all stamps of ready and running threads are below 2^32.
 pub fn stamps_are_few()
     ensures { (scenario : Scenario) (order : Order) (h : List Entry) → IsScenario scenario → IsLegal scenario order h → HasFewStamps (state_after scenario h) h }
+{}
+
+/// Below the horizon each sleeper sleeps until a moment later than the begin of the tick, so nobody sleeps too long.
+pub fn sleepers_wake()
+    ensures { (scenario : Scenario) (order : Order) (h : List Entry) → IsScenario scenario → IsLegal scenario order h → Each (λ x t. SleepsOn scenario h t) (state_after scenario h).threads }
 {}
