@@ -8,6 +8,8 @@ mod path;
 mod reading;
 mod refusal;
 mod row;
+#[cfg(test)]
+mod tests;
 mod threads;
 
 pub use kind::Kind;
