@@ -5,3 +5,6 @@ pub mod Readers
 pub mod Numbers
 pub mod Operations
 pub mod Options
+pub mod Entries
+pub mod Places
+pub mod Journals

@@ -3,6 +3,8 @@
 
 mod line;
 mod printing;
+mod refusal;
 
 pub use line::{LineBuffer, MAX_LINE};
 pub use printing::{print_journal, push_entry};
+pub use refusal::JournalRefusal;
