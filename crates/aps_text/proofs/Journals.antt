@@ -122,17 +122,27 @@ bad_behind es bytes (x ∷ xs) front h some e parts local = λ (fs, more, j).
     let g = goes_on fs es (front ++ x ∷ more) j.lines h regrouped in
     no_line g.more (front ++ x ∷ more) (x ∷ more) g.lines (cons_apart front x more) (local x xs more refl) g.rest
 
--- behind whole lines, bytes that are no line: the text is bad where its reader stopped
-pub first_bad : (es : List Entry) (whole bytes rest : List ℕ) → All IsLine es → whole ≡ journal_text es ++ bytes → (bytes ≡ [] → ⊥) → line_at bytes ≡ Err rest
-    → IsFirstBad whole (record { line = 1 + length es; column = 1 + (length bytes - length rest) })
-first_bad es whole bytes rest h same some e =
+-- the text is bad first where this rest begins
+pub record IsBadFrom (bytes rest : List ℕ) (place : Place) : Type 0 where
+  pub front : List ℕ
+  pub parts : bytes ≡ front ++ rest
+  pub begun : BeginsJournal front
+  pub bad : IsBadNext front rest
+  pub here : place ≡ place_after front
+
+-- behind whole lines, bytes that are no line: the text is bad where their reader stopped
+pub bad_from : (es : List Entry) (whole bytes rest : List ℕ) → All IsLine es → whole ≡ journal_text es ++ bytes → (bytes ≡ [] → ⊥) → line_at bytes ≡ Err rest
+    → IsBadFrom whole rest (record { line = 1 + length es; column = 1 + (length bytes - length rest) })
+bad_from es whole bytes rest h same some e =
     let s = IsReader-line.stuck bytes rest e in
     let long : length bytes - length rest ≡ length s.front = omega (arith, ap length s.parts, length-append s.front rest) in
     record {
       front = journal_text es ++ s.front;
-      rest = rest;
       parts = same ∙ ap (λ (t : List ℕ). journal_text es ++ t) s.parts ∙ sym (append_assoc (journal_text es) s.front rest);
       begun = begins_behind es s.front h s.begun;
       bad = bad_behind es bytes rest s.front h some e s.parts s.local;
       here = rw long (sym (place_behind es s.front h (one_line_begun bytes rest s.front e s.parts s.begun)));
     }
+
+pub first_bad : (bytes rest : List ℕ) (place : Place) → IsBadFrom bytes rest place → IsFirstBad bytes place
+first_bad bytes rest place b = record { front = b.front; rest = rest; parts = b.parts; begun = b.begun; bad = b.bad; here = b.here }

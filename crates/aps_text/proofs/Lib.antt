@@ -8,3 +8,5 @@ pub mod Options
 pub mod Entries
 pub mod Places
 pub mod Journals
+pub mod Wholes
+pub mod Words

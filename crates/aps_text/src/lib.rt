@@ -1,6 +1,7 @@
 //! The journal: the entries of a run as text, one line each, printed and read back.
 #![tactic(auto)]
 
+mod fields;
 mod line;
 mod printing;
 mod refusal;
