@@ -2,8 +2,6 @@ ghost use Rattle.std.specs.Prelude.{◌≡◌, ◌≤◌, IfOk, IfSome, Option};
 ghost use Rattle.aps_text.specs.Reader.{Gives, word_at, digits_at, number_at};
 ghost use Rattle.aps_text.specs.Fields.{option_at, mark_at};
 
-use aps_model::{CpuId, PartitionId, ThreadId};
-
 /// A value and the bytes behind it, or the bytes from the first one on that fits nothing.
 pub type Reading<'a, T> = Result<(T, &'a [u8]), &'a [u8]>;
 
@@ -78,47 +76,12 @@ pub fn number_or_none(bytes: &[u8], most: u64, stop: u8) -> Reading<Option<u64>>
     Ok((Some(number), rest))
 }
 
-/// A processor, and a space.
-pub fn cpu(bytes: &[u8]) -> Reading<CpuId>
-    ensures { Gives (λ x. (x.0, x.1.now)) result (number_at 15 32 bytes.now) }
+/// The number of a thread, and a space.
+pub fn thread(bytes: &[u8]) -> Reading<u64>
+    ensures read { Gives (λ x. (x.0, x.1.now)) result (number_at 1023 32 bytes.now) }
+    ensures within { IfOk result (λ x. x.0 ≤ 1023) }
 {
-    let (number, rest) = number(bytes, 15, b' ')?;
-    Ok((CpuId::at(number as usize), rest))
-}
-
-/// A thread, and a space.
-pub fn thread(bytes: &[u8]) -> Reading<ThreadId>
-    ensures { Gives (λ x. (x.0, x.1.now)) result (number_at 1023 32 bytes.now) }
-{
-    let (number, rest) = number(bytes, 1023, b' ')?;
-    Ok((ThreadId::at(number as usize), rest))
-}
-
-/// A thread or `-`, and a space.
-pub fn thread_or_none(bytes: &[u8]) -> Reading<Option<ThreadId>>
-    ensures { Gives (λ x. (x.0, x.1.now)) result (option_at 1023 32 bytes.now) }
-{
-    let (number, rest) = number_or_none(bytes, 1023, b' ')?;
-    Ok((number.map(|number| ThreadId::at(number as usize)), rest))
-}
-
-/// A partition or `-`, and a space.
-pub fn partition_or_none(bytes: &[u8]) -> Reading<Option<PartitionId>>
-    ensures { Gives (λ x. (x.0, x.1.now)) result (option_at 31 32 bytes.now) }
-{
-    let (number, rest) = number_or_none(bytes, 31, b' ')?;
-    Ok((
-        number.map(|number| PartitionId::at(number as usize)),
-        rest,
-    ))
-}
-
-/// A processor or `-`, and the newline.
-pub fn last_cpu_or_none(bytes: &[u8]) -> Reading<Option<CpuId>>
-    ensures { Gives (λ x. (x.0, x.1.now)) result (option_at 15 10 bytes.now) }
-{
-    let (number, rest) = number_or_none(bytes, 15, b'\n')?;
-    Ok((number.map(|number| CpuId::at(number as usize)), rest))
+    number(bytes, 1023, b' ')
 }
 
 /// The mark of critical time, and a space.

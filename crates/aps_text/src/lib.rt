@@ -3,7 +3,9 @@
 
 mod fields;
 mod line;
+mod operation;
 mod printing;
+mod reading;
 mod refusal;
 
 pub use line::{LineBuffer, MAX_LINE};
