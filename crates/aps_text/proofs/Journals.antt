@@ -146,3 +146,25 @@ bad_from es whole bytes rest h same some e =
 
 pub first_bad : (bytes rest : List ℕ) (place : Place) → IsBadFrom bytes rest place → IsFirstBad bytes place
 first_bad bytes rest place b = record { front = b.front; rest = rest; parts = b.parts; begun = b.begun; bad = b.bad; here = b.here }
+
+-- ---- one line more
+
+pub record ReadsOn (es : List Entry) (bytes rest after : List ℕ) : Type 0 where
+  pub lines : All IsLine es
+  pub parts : bytes ≡ journal_text es ++ after
+  pub shorter : length after < length rest
+
+pub reads_on : (es : List Entry) (bytes rest : List ℕ) (e : Entry) (after : List ℕ) → All IsLine es → bytes ≡ journal_text es ++ rest → line_at rest ≡ Ok (e, after) → ReadsOn (es ++ e ∷ []) bytes rest after
+reads_on es bytes rest e after h same read =
+    let t = IsReader-line.takes rest e after read in
+    let parts : rest ≡ (line_body e ++ 10 ∷ []) ++ after = t.parts ∙ ap (λ (s : List ℕ). s ++ after) t.spells.1 in
+    record {
+      lines = All-push IsLine es e h t.spells.0;
+      parts = same ∙ ap (λ (s : List ℕ). journal_text es ++ s) parts ∙ sym (append_assoc (journal_text es) (entry_line e) after) ∙ ap (λ (s : List ℕ). s ++ after) (sym (journal_text-push es e));
+      shorter = omega (arith, ap length parts, length-append (line_body e ++ 10 ∷ []) after, length-append (line_body e) (10 ∷ []));
+    }
+
+pub not_longer : (bytes rest : List ℕ) → line_at bytes ≡ Err rest → length rest ≤ length bytes
+not_longer bytes rest e =
+    let s = IsReader-line.stuck bytes rest e in
+    omega (arith, ap length s.parts, length-append s.front rest)

@@ -2,6 +2,9 @@ ghost use Rattle.std.specs.Prelude.{◌≡◌, ◌≤◌, IfOk, IfSome, Option};
 ghost use Rattle.aps_text.specs.Reader.{Gives, word_at, digits_at, number_at};
 ghost use Rattle.aps_text.specs.Fields.{option_at, mark_at};
 
+/// The greatest number of a thread.
+pub const LAST_THREAD: u64 = 1023;
+
 /// A value and the bytes behind it, or the bytes from the first one on that fits nothing.
 pub type Reading<'a, T> = Result<(T, &'a [u8]), &'a [u8]>;
 
@@ -81,7 +84,7 @@ pub fn thread(bytes: &[u8]) -> Reading<u64>
     ensures read { Gives (λ x. (x.0, x.1.now)) result (number_at 1023 32 bytes.now) }
     ensures within { IfOk result (λ x. x.0 ≤ 1023) }
 {
-    number(bytes, 1023, b' ')
+    number(bytes, LAST_THREAD, b' ')
 }
 
 /// The mark of critical time, and a space.

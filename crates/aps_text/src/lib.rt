@@ -10,4 +10,5 @@ mod refusal;
 
 pub use line::{LineBuffer, MAX_LINE};
 pub use printing::{print_journal, push_entry};
+pub use reading::read_journal;
 pub use refusal::JournalRefusal;

@@ -6,33 +6,62 @@ ghost use Rattle.aps_text.specs.Line.{line_at};
 ghost use Rattle.aps_text.specs.Refusal.{Refuses};
 ghost use Rattle.aps_text.specs.declared.refusal.JournalRefusal.TheVariants.{NoMemory};
 
-use crate::fields::{Reading, mark, number, number_or_none};
+use crate::fields::{LAST_THREAD, Reading, mark, number, number_or_none};
 use crate::operation::done;
 use crate::refusal::JournalRefusal;
 use aps_model::{CpuId, Entry, PartitionId, ThreadId};
 use std::alloc::Global;
 
-// The latest moment of a line, in nanoseconds.
+const LAST_CPU: u64 = 15;
+const LAST_PARTITION: u64 = 31;
 const LAST_MOMENT: u64 = 10_000_000_000_000;
+
+/// The entries whose journal the bytes are. The answer is `BadLine` exactly where they are no
+/// journal, unless memory runs out.
+pub fn read_journal(alloc: Global, bytes: &[u8]) -> Result<Vec<Entry>, JournalRefusal>
+    requires { length bytes.now ≤ 4000000000 }
+    ensures journal { IfOk result (λ entries. IsJournal entries.items bytes.now) }
+    ensures whole { (entries : List PlainEntry) → IsJournal entries bytes.now
+        → MatchResult result (λ read. read.items ≡ entries) (λ refusal. refusal ≡ NoMemory) }
+    ensures first_bad { IfErr result (Refuses bytes.now) }
+{
+    let mut entries = Vec::new(alloc);
+    let mut rest = bytes;
+    while !rest.is_empty() {
+        match line(rest) {
+            Ok((entry, after)) => {
+                entries.push(entry)?;
+                rest = after;
+            }
+            Err(bad) => {
+                return Err(JournalRefusal::BadLine {
+                    line: 1 + entries.len() as u32,
+                    column: 1 + (rest.len() - bad.len()) as u32,
+                });
+            }
+        }
+    }
+    Ok(entries)
+}
 
 // An entry by its line.
 #[tactic(auto, unfolding(crate::specs::Line::line_at))]
 fn line(bytes: &[u8]) -> Reading<Entry>
     ensures { Gives (λ x. (x.0, x.1.now)) result (line_at bytes.now) }
 {
-    let (cpu, rest) = number(bytes, 15, b' ')?;
+    let (cpu, rest) = number(bytes, LAST_CPU, b' ')?;
     let (from, rest) = number(rest, LAST_MOMENT, b' ')?;
     let (to, rest) = number(rest, LAST_MOMENT, b' ')?;
-    let (ran, rest) = number_or_none(rest, 1023, b' ')?;
-    let (billed, rest) = number_or_none(rest, 31, b' ')?;
+    let (ran, rest) = number_or_none(rest, LAST_THREAD, b' ')?;
+    let (billed, rest) = number_or_none(rest, LAST_PARTITION, b' ')?;
     let (critical, rest) = mark(rest)?;
     let (done, rest) = match done(rest) {
         Ok(read) => read,
         Err(rest) => return Err(rest),
     };
-    let (picked, rest) = number_or_none(rest, 1023, b' ')?;
-    let (starved, rest) = number_or_none(rest, 31, b' ')?;
-    let (flagged, rest) = number_or_none(rest, 15, b'\n')?;
+    let (picked, rest) = number_or_none(rest, LAST_THREAD, b' ')?;
+    let (starved, rest) = number_or_none(rest, LAST_PARTITION, b' ')?;
+    let (flagged, rest) = number_or_none(rest, LAST_CPU, b'\n')?;
     let entry = Entry {
         from,
         to,
