@@ -2,3 +2,4 @@ pub mod Sums
 pub mod Ascii
 pub mod Rows
 pub mod Tables
+pub mod Answers

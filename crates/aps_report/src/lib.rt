@@ -1,8 +1,11 @@
 //! The reports that a run prints: the summary of its history, its windows and its journal.
 #![tactic(auto)]
 
+mod audit;
 mod lines;
-mod summary;
+mod overview;
+mod replies;
+
 mod totals;
 
-pub use summary::usage;
+pub use overview::{summary, usage};
