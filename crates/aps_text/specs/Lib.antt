@@ -1,0 +1,5 @@
+pub mod Ascii
+pub mod Reader
+pub mod Fields
+pub mod Operation
+pub mod Line
