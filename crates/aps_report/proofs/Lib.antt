@@ -1,3 +1,6 @@
+pub mod Taken
+pub mod Ranges
+pub mod Ends
 pub mod Sums
 pub mod Ascii
 pub mod Rows

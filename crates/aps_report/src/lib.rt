@@ -2,6 +2,7 @@
 #![tactic(auto)]
 
 mod audit;
+mod finished;
 mod lines;
 mod overview;
 mod replies;
