@@ -38,5 +38,8 @@ fn add_amount(out: &mut String, word: &str, worst: &Worst) -> Result<(), NoMemor
     let amount = worst.amount;
     let partition = worst.partition.index();
     let window = worst.window;
-    write!(out, "{word} {amount} partition {partition} window {window}\n")
+    write!(
+        out,
+        "{word} {amount} partition {partition} window {window}\n"
+    )
 }

@@ -1,5 +1,6 @@
 //! How much of a run every processor has billed.
-ghost use Rattle.std.specs.Prelude.{◌≡◌, ℕ, ◌<◌, slice_index};
+ghost use Rattle.std.specs.Prelude.{◌≡◌, ℕ, ◌<◌, ◌≤◌, All, slice_index};
+ghost use Rattle.aps_model.specs.History.{IsEntry};
 ghost use Rattle.aps_model.specs.Shape.{IsShape};
 ghost use Rattle.aps_model.specs.Due.{last_end};
 ghost use Rattle.aps_model.specs.Loaded.{finished_ticks};
@@ -10,8 +11,10 @@ const CPUS: usize = 16;
 
 /// The number of whole ticks that every processor has billed.
 pub fn finished_ticks(shape: &Shape, entries: &[Entry]) -> u64
-    requires { IsShape shape.now }
-    ensures { result ≡ finished_ticks shape.now entries.now }
+    requires shape { IsShape shape.now }
+    requires entries { All IsEntry entries.now }
+    ensures same { result ≡ finished_ticks shape.now entries.now }
+    ensures few { result ≤ 100000000 }
 {
     let ends = last_ends(entries);
     let mut least = ends[0];
@@ -23,7 +26,9 @@ pub fn finished_ticks(shape: &Shape, entries: &[Entry]) -> u64
 
 /// Where the last entry of each processor ended, or 0 where it has none.
 fn last_ends(entries: &[Entry]) -> [Nanos; CPUS]
-    ensures { (c : ℕ) → c < 16 → slice_index result c ≡ last_end entries.now c }
+    requires { All IsEntry entries.now }
+    ensures same { (c : ℕ) → c < 16 → slice_index result c ≡ last_end entries.now c }
+    ensures early { All (λ end. end ≤ 10000000000000) result }
 {
     let mut ends = [0; CPUS];
     for e in entries {

@@ -2,11 +2,13 @@
 #![tactic(auto)]
 
 mod audit;
+mod by_window;
 mod finished;
 mod lines;
 mod overview;
 mod replies;
-
 mod totals;
+mod zeros;
 
+pub use by_window::windows;
 pub use overview::{summary, usage};

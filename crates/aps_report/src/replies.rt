@@ -68,23 +68,13 @@ fn add_word(out: &mut String, command: u16, word: &str) -> Result<(), NoMemory>
     write!(out, "reply {command} {word}\n")
 }
 
-fn add_number(
-    out: &mut String,
-    command: u16,
-    word: &str,
-    number: usize,
-) -> Result<(), NoMemory>
+fn add_number(out: &mut String, command: u16, word: &str, number: usize) -> Result<(), NoMemory>
     ensures { OnOk result (string_bytes out.new ≡ string_bytes out.old ++ line_of (codes "reply" ∷ decimal command ∷ word.now ∷ decimal number ∷ [])) }
 {
     write!(out, "reply {command} {word} {number}\n")
 }
 
-fn add_bad_max(
-    out: &mut String,
-    command: u16,
-    partition: usize,
-    least: u16,
-) -> Result<(), NoMemory>
+fn add_bad_max(out: &mut String, command: u16, partition: usize, least: u16) -> Result<(), NoMemory>
     ensures { OnOk result (string_bytes out.new ≡ string_bytes out.old ++ line_of (codes "reply" ∷ decimal command ∷ codes "bad-max" ∷ decimal partition ∷ decimal least ∷ [])) }
 {
     write!(out, "reply {command} bad-max {partition} {least}\n")
@@ -103,20 +93,21 @@ fn add_partition(
     add_row(out, command, id, row)?;
     let critical = row.critical;
     let max = row.max;
-    write!(out, " critical {critical} max {max} used {used} critical_used {critical_used}\n")
+    write!(
+        out,
+        " critical {critical} max {max} used {used} critical_used {critical_used}\n"
+    )
 }
 
-fn add_row(
-    out: &mut String,
-    command: u16,
-    id: usize,
-    row: &PartitionRow,
-) -> Result<(), NoMemory>
+fn add_row(out: &mut String, command: u16, id: usize, row: &PartitionRow) -> Result<(), NoMemory>
     ensures { OnOk result (string_bytes out.new ≡ string_bytes out.old ++ row_words command id row.now) }
 {
     let parent = row.parent.index();
     let budget = row.budget;
-    write!(out, "reply {command} partition {id} parent {parent} budget {budget}")
+    write!(
+        out,
+        "reply {command} partition {id} parent {parent} budget {budget}"
+    )
 }
 
 fn add_thread(
@@ -147,7 +138,10 @@ fn add_facts(out: &mut String, now: &Facts) -> Result<(), NoMemory>
     let partition = now.partition.index();
     let priority = now.priority;
     let critical = yes_text(now.critical);
-    write!(out, " partition {partition} priority {priority} critical {critical}")
+    write!(
+        out,
+        " partition {partition} priority {priority} critical {critical}"
+    )
 }
 
 fn add_state(out: &mut String, state: &State) -> Result<(), NoMemory>
@@ -180,7 +174,10 @@ fn add_statistics(
 ) -> Result<(), NoMemory>
     ensures { OnOk result (string_bytes out.new ≡ string_bytes out.old ++ reply_line (record { command = command; answer = Statistics id used critical_used })) }
 {
-    write!(out, "reply {command} statistics {id} used {used} critical_used {critical_used}\n")
+    write!(
+        out,
+        "reply {command} statistics {id} used {used} critical_used {critical_used}\n"
+    )
 }
 
 fn yes_text(yes_or_no: bool) -> &'static str
