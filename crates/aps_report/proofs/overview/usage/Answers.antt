@@ -1,6 +1,6 @@
 use Rattle.std.proofs.Common.{string_bytes}
 use Rattle.aps_report.proofs.Tables.{usage-by}
-use Rattle.aps_report.proofs.summary.usage.Goals as goal
+use Rattle.aps_report.proofs.overview.usage.Goals as goal
 
 pub returns : goal.returns
 returns c =

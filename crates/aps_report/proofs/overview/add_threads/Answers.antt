@@ -1,7 +1,7 @@
 use Rattle.std.proofs.Common.{arith}
 use Rattle.aps_report.specs.Lines.{thread_with}
 use Rattle.aps_report.proofs.Rows.{row_more, rows_all}
-use Rattle.aps_report.proofs.summary.add_threads.Goals as goal
+use Rattle.aps_report.proofs.overview.add_threads.Goals as goal
 
 pub loop-id-preserved : goal.loop-id-preserved
 loop-id-preserved c =
