@@ -1,0 +1,4 @@
+pub mod Sums
+pub mod Lanes
+pub mod Debts
+pub mod Pasts
