@@ -1,3 +1,5 @@
 pub mod Debts
 pub mod Upper
 pub mod Budget
+pub mod Prefixes
+pub mod Wides
