@@ -3,3 +3,4 @@ pub mod Upper
 pub mod Budget
 pub mod Prefixes
 pub mod Wides
+pub mod Picks
