@@ -4,3 +4,4 @@ pub mod Budget
 pub mod Prefixes
 pub mod Wides
 pub mod Picks
+pub mod Steady

@@ -125,6 +125,10 @@ chosen_at r t h now ps e best starved flagged below to shape rows parts is lacks
           ∙ ap (λ xs. keeps_of xs (greatest t.shape.free xs (contenders r))) same;
     }
 
+kept_running : (r : SchedulerState) (ps : List PartFacts) (c now : ℕ) (best : Option Contender) (other : Option ℕ) (d : ℕ) → d ≡ c
+    → (cpu_at (with_flag (chosen r ps c best) now other) d).running ≡ (cpu_at (chosen r ps d best) d).running
+kept_running r ps c now best other d same = flag_running (chosen r ps c best) now other d ∙ ap (λ n. (cpu_at (chosen r ps n best) d).running) (sym same)
+
 none_picked : (c from now : ℕ) (running : Option Pick) → (bill_of c from now running).picked ≡ None
 none_picked c from now None = refl
 none_picked c from now (Some p) = refl
@@ -157,11 +161,9 @@ step_chooses scenario s h c names plain k below =
     let below_r : c < length r.cpus = rw (mid_count scenario s c r back.mid) below in
     let q = chosen r ps c best in
     let other = flag_for q h ps c now (greatest r.shape.free ps (contenders q)) in
-    let own : (cpu_at (with_flag q now other) e0.cpu).running ≡ (cpu_at (chosen r ps e0.cpu best) e0.cpu).running =
-    flag_running q now other e0.cpu ∙ ap (λ n. (cpu_at (chosen r ps n best) e0.cpu).running) (sym says.cpu) in
     inr (chosen_at r (with_flag q now other) h now ps e0 best (missing ps (contenders r)) other
     (subst (λ n. n < length r.cpus) (sym says.cpu) below_r) says.to
-    (flag_shape q now other ∙ chosen_shape r ps c best) (flag_rows q now other ∙ chosen_rows r ps c best) refl refl refl own))
+    (flag_shape q now other ∙ chosen_shape r ps c best) (flag_rows q now other ∙ chosen_rows r ps c best) refl refl refl (kept_running r ps c now best other e0.cpu says.cpu)))
 
 pub chosen_law : (scenario : Scenario) (order : Order) (h : List Entry) (e : Entry) → IsScenario scenario → IsLegal scenario order (h ++ e ∷ [])
     → IsPickless (state_after scenario h) e (after scenario (h ++ e ∷ [])).reboot ⊎ IsChosen h e (state_after scenario (h ++ e ∷ []))
