@@ -1,3 +1,4 @@
+-- What is billed of a window, against the whole of it.
 use Rattle.std.proofs.Common.{◌≡◌, ℕ, zero, suc, ◌+◌, ◌-◌, ◌*◌, ◌≤◌, ◌<◌, Bool, true, false, if◌then◌else◌, nat_eq, nat_lt, nat_le, List, [], ◌∷◌, length, slice_set, Some, None, refl, arith, sym, subst, ap, ◌∙◌}
 use Rattle.std.specs.List.{sum_by, All}
 use Rattle.std.proofs.lemmas.List.Sums.{sum_by-set, sum_by-cons, sum_by-le}
@@ -12,26 +13,7 @@ use Rattle.aps_bound_laws.specs.Lanes.{lanes_at, in_window, is_of, is_ordinary, 
 use Rattle.aps_bound_laws.specs.Debts.{debt, Resets, Never}
 use Rattle.aps_bound_laws.specs.Sums.{sum_below}
 use Rattle.aps_bound_laws.specs.Pasts.{past, Filled}
-
-sum_below_zero : (n : ℕ) (f : ℕ → ℕ) → ((p : ℕ) → f p ≡ 0) → sum_below n f ≡ 0
-sum_below_zero zero f z = refl
-sum_below_zero (suc n) f z = omega (arith, sum_below_zero n f z, z n)
-
-sum_below_add : (n : ℕ) (f g h : ℕ → ℕ) → ((p : ℕ) → h p ≡ f p + g p) → sum_below n h ≡ sum_below n f + sum_below n g
-sum_below_add zero f g h e = refl
-sum_below_add (suc n) f g h e = omega (arith, sum_below_add n f g h e, e n)
-
-unbilled : (n k q : ℕ) → n ≤ q → sum_below n (λ p. if nat_eq q p then k else 0) ≡ 0
-unbilled zero k q le = refl
-unbilled (suc n) k q le = grind (arith, nat_tests, unbilled n k q (omega (arith, le)), le)
-
-single_step : (n k q : ℕ) (b : Bool) → nat_eq q n ≡ b → sum_below n (λ p. if nat_eq q p then k else 0) ≤ k → sum_below n (λ p. if nat_eq q p then k else 0) + (if b then k else 0) ≤ k
-single_step n k q true is le = omega (arith, unbilled n k q (grind (arith, nat_tests, is)))
-single_step n k q false is le = omega (arith, le)
-
-single_one : (n k q : ℕ) → sum_below n (λ p. if nat_eq q p then k else 0) ≤ k
-single_one zero k q = omega (arith)
-single_one (suc n) k q = single_step n k q (nat_eq q n) refl (single_one n k q)
+use Rattle.aps_bound_laws.proofs.Sums.{sum_below_zero, sum_below_add, single_one, single_full, some_less, sum_below_scale, one_of_sum, each_below}
 
 -- at most one partition is billed
 single : (n k : ℕ) (bills : Kept) → sum_below n (λ p. if is_of p bills then k else 0) ≤ k
@@ -70,19 +52,6 @@ past_cases tick a w j now last le inside some pos is false test =
 past_less : (tick a w j now : ℕ) (l : Lane) → l.last ≤ now → now < (j + 1) * tick → 0 < w → 0 < tick → a ≡ (j + 1) - w → past tick a (j + 1) l < w * tick
 past_less tick a w j now l le inside some pos is = past_cases tick a w j now l.last le inside some pos is (nat_le w (j + 1)) refl
 
-some_step : (n : ℕ) (f g : ℕ → ℕ) → sum_below (suc n) f < sum_below (suc n) g → (b : Bool) → nat_lt (f n) (g n) ≡ b
-    → (sum_below n f < sum_below n g → (p : ℕ) × (p < n) × (f p < g p)) → (p : ℕ) × (p < suc n) × (f p < g p)
-some_step n f g less true is below = (n, omega (arith), grind (arith, nat_tests, is))
-some_step n f g less false is below =
-    let more : g n ≤ f n = grind (arith, nat_tests, is) in
-    let found = below (omega (arith, less, more)) in
-    (found.0, omega (arith, found.1), found.2)
-
--- if a sum is less than another then so is one of its terms
-pub some_less : (n : ℕ) (f g : ℕ → ℕ) → sum_below n f < sum_below n g → (p : ℕ) × (p < n) × (f p < g p)
-some_less zero f g less = absurd (omega (arith, less))
-some_less (suc n) f g less = some_step n f g less (nat_lt (f n) (g n)) refl (some_less n f g)
-
 pub length_lanes : (lanes : List Lane) (entries : List Wide) → length (lanes_at lanes entries) ≡ length lanes
 length_lanes lanes [] = refl
 length_lanes lanes (e ∷ es) = length_lanes (slice_set lanes e.cpu (lane_after e)) es ∙ length-set lanes e.cpu (lane_after e)
@@ -101,10 +70,6 @@ below tick a w j now n lanes entries pos some seats inside is tiles late =
     let less : length lanes * k < length lanes * (w * tick) = mul-lt-mul_of_pos_left (omega (arith, big)) seats in
     omega (arith, covered tick a (j + 1) n lanes entries tiles, sum', less)
 
-sum_below_scale : (n c : ℕ) (f : ℕ → ℕ) → sum_below n (λ p. c * f p) ≡ c * sum_below n f
-sum_below_scale zero c f = omega (arith)
-sum_below_scale (suc n) c f = omega (arith, sum_below_scale n c f, mul-add c (sum_below n f) (f n))
-
 -- some partition is in budget
 pub in_budget : (n parts whole : ℕ) (uses budgets : ℕ → ℕ) → 0 < parts → sum_below n budgets ≡ parts → sum_below n uses < whole
     → (p : ℕ) × (p < n) × (parts * uses p < whole * budgets p)
@@ -113,20 +78,6 @@ in_budget n parts whole uses budgets pos all less =
     let right : sum_below n (λ p. whole * budgets p) ≡ whole * parts = sum_below_scale n whole budgets ∙ ap (λ m. whole * m) all in
     let smaller : parts * sum_below n uses < parts * whole = mul-lt-mul_of_pos_left less pos in
     some_less n (λ p. parts * uses p) (λ p. whole * budgets p) (omega (arith, left, right, smaller))
-
-one_step : (n i : ℕ) (f : ℕ → ℕ) → i < suc n → (b : Bool) → nat_eq i n ≡ b → (i < n → f i ≤ sum_below n f) → f i ≤ sum_below n f + f n
-one_step n i f in' true is ih =
-    let same : i ≡ n = grind (arith, nat_tests, is) in
-    subst (λ m. f m ≤ sum_below n f + f n) (sym same) (omega (arith))
-one_step n i f in' false is ih = omega (arith, ih (grind (arith, nat_tests, is, in')))
-
-one_of_sum : (n i : ℕ) (f : ℕ → ℕ) → i < n → f i ≤ sum_below n f
-one_of_sum zero i f in' = absurd (omega (arith, in'))
-one_of_sum (suc n) i f in' = one_step n i f in' (nat_eq i n) refl (λ less. one_of_sum n i f less)
-
-each_below : (n : ℕ) (f g k : ℕ → ℕ) → ((q : ℕ) → q < n → f q ≤ g q + k q) → sum_below n f ≤ sum_below n g + sum_below n k
-each_below zero f g k each = omega (arith)
-each_below (suc n) f g k each = omega (arith, each_below n f g k (λ q less. each q (omega (arith, less))), each n (omega (arith)))
 
 apart_step : (n i : ℕ) (f g k : ℕ → ℕ) → i < suc n → ((q : ℕ) → q < suc n → f q ≤ g q + k q) → (b : Bool) → nat_eq i n ≡ b
     → (i < n → sum_below n f + (g i + k i) ≤ (sum_below n g + sum_below n k) + f i)
@@ -154,14 +105,6 @@ others n parts whole i uses budgets slack in' all full each =
     let part : slack i ≤ sum_below n slack = one_of_sum n i slack in' in
     let cut : parts * (sum_below n slack - slack i) + parts * slack i ≡ parts * sum_below n slack = sym (mul-add parts (sum_below n slack - slack i) (slack i)) ∙ ap (λ m. parts * m) (omega (arith, part)) in
     omega (arith, left, right, slacks, apart, cut)
-
-single_full_step : (n k q : ℕ) → q < suc n → (b : Bool) → nat_eq q n ≡ b → (q < n → sum_below n (λ p. if nat_eq q p then k else 0) ≡ k) → sum_below n (λ p. if nat_eq q p then k else 0) + (if b then k else 0) ≡ k
-single_full_step n k q in' true is ih = omega (arith, unbilled n k q (grind (arith, nat_tests, is)))
-single_full_step n k q in' false is ih = omega (arith, ih (grind (arith, nat_tests, is, in')))
-
-single_full : (n k q : ℕ) → q < n → sum_below n (λ p. if nat_eq q p then k else 0) ≡ k
-single_full zero k q in' = absurd (omega (arith, in'))
-single_full (suc n) k q in' = single_full_step n k q in' (nat_eq q n) refl (λ less. single_full n k q less)
 
 -- where the time counts at all, exactly one partition is billed
 billed_once : (n k : ℕ) (bills : Kept) → (0 < k → (r : ℕ × Bool) × (bills ≡ Some r) × (r.0 < n)) → sum_below n (λ p. if is_of p bills then k else 0) ≡ k

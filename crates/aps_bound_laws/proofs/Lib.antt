@@ -1,3 +1,4 @@
+pub mod Sums
 pub mod Debts
 pub mod Upper
 pub mod Budget
