@@ -6,3 +6,4 @@ pub mod Prefixes
 pub mod Wides
 pub mod Picks
 pub mod Steady
+pub mod Late
