@@ -7,3 +7,6 @@ pub mod Wides
 pub mod Picks
 pub mod Steady
 pub mod Late
+pub mod Funded
+pub mod Inside
+pub mod Above
