@@ -1,3 +1,10 @@
+pub mod Turns
+pub mod Prefixes
+pub mod FixedRun
+pub mod Performed
+pub mod Books
+pub mod RowTree
+pub mod RowLaws
 pub mod ThreadFacts
 pub mod WaitFacts
 pub mod WaitMoves

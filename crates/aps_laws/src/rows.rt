@@ -7,8 +7,19 @@ ghost use Rattle.aps_model.specs.Valid.{IsScenario};
 ghost use Rattle.aps_model.specs.After.{state_after};
 ghost use Rattle.aps_model.specs.Legal.{IsLegal};
 ghost use Rattle.aps_laws.specs.Grown.{IsGrown};
+ghost use Rattle.aps_laws.specs.Rows.{AreInOrder, AreKept};
 
 /// Changes only grow, by changes at the entry's tick, and where there is none more rows and shape are the same.
 pub fn change_or_same()
     ensures { (scenario : Scenario) (order : Order) (h : List Entry) (e : Entry) → IsScenario scenario → IsLegal scenario order (h ++ e ∷ []) → IsGrown (e.to / scenario.shape.tick) (state_after scenario h) (state_after scenario (h ++ e ∷ [])) }
+{}
+
+/// Rows and shape stay in order: 1 to 32 rows with distinct names, each parent before its children, row 0 `System` and its own parent; budgets sum to the parts and each is at most its maximum; the sizes are the scenario's, and the window stays within 8 to 400 ticks.
+pub fn rows_sound()
+    ensures { (scenario : Scenario) (order : Order) (h : List Entry) → IsScenario scenario → IsLegal scenario order h → AreInOrder scenario (state_after scenario h) }
+{}
+
+/// Rows never go, and none changes its name or its parent.
+pub fn rows_stay()
+    ensures { (scenario : Scenario) (order : Order) (h later : List Entry) → IsScenario scenario → IsLegal scenario order (h ++ later) → AreKept (state_after scenario h).rows (state_after scenario (h ++ later)).rows }
 {}
