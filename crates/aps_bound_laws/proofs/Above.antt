@@ -86,7 +86,7 @@ keeps_none scenario h e k nobody keeps = by_picked e.picked (pair_kept (cpu_at (
 -- ---- ordinary picks in the window
 
 module _ (scenario : Scenario) (order : Order) (h : List Entry) (r : IsScenario scenario) (legal : IsLegal scenario order h) (a : ℕ) (s : SchedulerState) (w : IsWindowOf scenario h a s) where
-  pos : 0 < s.shape.tick
+  pub pos : 0 < s.shape.tick
   pos = tick_pos scenario s r w.sizes
 
   ordinary_within : IsCalm h a s → (p : ℕ) (before later : List Entry) (e : Entry) → h ≡ before ++ e ∷ later → is_ordinary p (wide_at scenario before e).keeps ≡ true
@@ -141,10 +141,10 @@ module _ (scenario : Scenario) (order : Order) (h : List Entry) (r : IsScenario 
 
   -- ---- the upper line
 
-  count : length (lanes_at_start scenario) ≡ s.shape.cpus
+  pub count : length (lanes_at_start scenario) ≡ s.shape.cpus
   count = length-replicate scenario.shape.cpus still ∙ sym w.sizes.cpus
 
-  walks_here : Walks s.shape.tick (lanes_at_start scenario) (wides scenario h)
+  pub walks_here : Walks s.shape.tick (lanes_at_start scenario) (wides scenario h)
   walks_here = subst (λ n. Walks n (lanes_at_start scenario) (wides scenario h)) (sym w.sizes.tick) (walks scenario order h r legal).0
 
   pub above : IsCalm h a s → (p : ℕ)

@@ -14,7 +14,7 @@ use Rattle.aps_bound_laws.specs.Lanes.{lanes_at, in_window, is_of, is_ordinary, 
 use Rattle.aps_bound_laws.specs.Debts.{debt, Resets, Never}
 
 -- a run that counts in the window began inside it
-began : (tick a b from to : ℕ) → 0 < tick → to ≤ next_boundary tick from → 0 < overlap tick a b from to → (a * tick ≤ from) × (from < b * tick)
+pub began : (tick a b from to : ℕ) → 0 < tick → to ≤ next_boundary tick from → 0 < overlap tick a b from to → (a * tick ≤ from) × (from < b * tick)
 began tick a b from to pos near some =
     let q : ℕ = from / tick in
     let low : q * tick ≤ from = div-mul-le_self from tick in

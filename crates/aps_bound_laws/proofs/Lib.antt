@@ -10,3 +10,4 @@ pub mod Late
 pub mod Funded
 pub mod Inside
 pub mod Above
+pub mod Idle
