@@ -77,7 +77,7 @@ some_factor : (n k b : ℕ) → n < k * b → 0 < b
 some_factor n k zero less = absurd (omega (arith, less))
 some_factor n k (suc b) less = omega arith
 
-budgets_sum : (rows : List PartitionRow) (parts : ℕ) → sum (map (λ (row : PartitionRow). row.budget) rows) ≡ parts → sum_below (length rows) (λ p. (row_or_none rows p).budget) ≡ parts
+pub budgets_sum : (rows : List PartitionRow) (parts : ℕ) → sum (map (λ (row : PartitionRow). row.budget) rows) ≡ parts → sum_below (length rows) (λ p. (row_or_none rows p).budget) ≡ parts
 budgets_sum rows parts all = sum_places (λ (row : PartitionRow). row.budget) no_row rows ∙ sym (sum-map (λ (row : PartitionRow). row.budget) rows) ∙ all
 
 -- in each state of a legal history less than the whole of the window at its tick was billed, so some partition is in budget
@@ -85,7 +85,7 @@ pub record IsInBudget (t : SchedulerState) (h : List Entry) (e : Entry) (q : ℕ
   pub inside : q < length t.rows
   pub less : t.shape.parts * window_used t.shape (h ++ e ∷ []) (tick_of t e) q < (row_or_none t.rows q).budget * whole t.shape
 
-whole_is : (m w t : ℕ) → m * (w * t) ≡ m * w * t
+pub whole_is : (m w t : ℕ) → m * (w * t) ≡ m * w * t
 whole_is m w t = sym (mul_assoc m w t)
 
 some_in_budget : (scenario : Scenario) (order : Order) (h : List Entry) (e : Entry) → IsScenario scenario → IsLegal scenario order (h ++ e ∷ [])

@@ -11,3 +11,4 @@ pub mod Funded
 pub mod Inside
 pub mod Above
 pub mod Idle
+pub mod Below
