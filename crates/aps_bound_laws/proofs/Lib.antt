@@ -12,3 +12,4 @@ pub mod Inside
 pub mod Above
 pub mod Idle
 pub mod Below
+pub mod Bound
