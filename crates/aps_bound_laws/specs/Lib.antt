@@ -2,3 +2,4 @@ pub mod Sums
 pub mod Lanes
 pub mod Debts
 pub mod Pasts
+pub mod Loaded
