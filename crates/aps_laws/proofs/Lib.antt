@@ -5,6 +5,8 @@ pub mod Performed
 pub mod Books
 pub mod RowTree
 pub mod RowLaws
+pub mod BoundaryLaws
+pub mod HeldRows
 pub mod ThreadFacts
 pub mod WaitFacts
 pub mod WaitMoves

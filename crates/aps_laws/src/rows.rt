@@ -1,5 +1,5 @@
 //! The partition rows and the parameters of a legal history.
-ghost use Rattle.std.specs.Prelude.{List, [], ◌∷◌, ◌++◌, ◌/◌};
+ghost use Rattle.std.specs.Prelude.{◌≡◌, ℕ, false, List, [], ◌∷◌, ◌++◌, ◌/◌};
 ghost use Rattle.aps_model.specs.declared.entry.Entry.{Entry};
 ghost use Rattle.aps_model.specs.declared.entry.Order.{Order};
 ghost use Rattle.aps_model.specs.Scenario.{Scenario};
@@ -7,6 +7,8 @@ ghost use Rattle.aps_model.specs.Valid.{IsScenario};
 ghost use Rattle.aps_model.specs.After.{state_after};
 ghost use Rattle.aps_model.specs.Legal.{IsLegal};
 ghost use Rattle.aps_laws.specs.Grown.{IsGrown};
+ghost use Rattle.aps_model.specs.Loaded.{has_change};
+ghost use Rattle.aps_laws.specs.Held.{HoldsRows};
 ghost use Rattle.aps_laws.specs.Rows.{AreInOrder, AreKept};
 
 /// Changes only grow, by changes at the entry's tick, and where there is none more rows and shape are the same.
@@ -22,4 +24,9 @@ pub fn rows_sound()
 /// Rows never go, and none changes its name or its parent.
 pub fn rows_stay()
     ensures { (scenario : Scenario) (order : Order) (h later : List Entry) → IsScenario scenario → IsLegal scenario order (h ++ later) → AreKept (state_after scenario h).rows (state_after scenario (h ++ later)).rows }
+{}
+
+/// Where no change stands at ticks a to b-1, each entry that ends in them leaves the rows and the shape that the first entry at or after tick a leaves.
+pub fn rows_hold()
+    ensures { (scenario : Scenario) (order : Order) (h : List Entry) (a b : ℕ) → IsScenario scenario → IsLegal scenario order h → has_change (state_after scenario h).changes a b ≡ false → HoldsRows scenario h a b }
 {}
