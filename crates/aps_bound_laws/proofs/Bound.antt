@@ -13,6 +13,7 @@ use Rattle.aps_model.specs.Loaded.{finished_ticks, has_change, has_starved, is_a
 use Rattle.aps_model.specs.Scenario.{Scenario}
 use Rattle.aps_model.specs.SchedulerState.{SchedulerState}
 use Rattle.aps_model.specs.Valid.{IsScenario}
+use Rattle.aps_laws.proofs.HeldRows.{rows_held}
 use Rattle.aps_laws.proofs.RowLaws.{in_order}
 use Rattle.aps_laws.proofs.Sound.{tick_pos}
 use Rattle.aps_laws.proofs.Words.{prefix_legal}
@@ -20,11 +21,6 @@ use Rattle.aps_bound_laws.specs.Lanes.{in_window}
 use Rattle.aps_bound_laws.proofs.Above.{IsCalm, IsWindowOf, above, critical_above, critical_none}
 use Rattle.aps_bound_laws.proofs.Below.{below}
 use Rattle.aps_bound_laws.proofs.Inside.{in_ticks}
-
-abbrev pub HoldsRows : Scenario → List Entry → ℕ → ℕ → Type 0
-HoldsRows scenario h a b =
-    (before later : List Entry) (e : Entry) → h ≡ before ++ e ∷ later → a * scenario.shape.tick ≤ e.to → e.to < b * scenario.shape.tick
-    → ((state_after scenario (before ++ e ∷ [])).rows ≡ (state_of_tick scenario h a).rows) × ((state_after scenario (before ++ e ∷ [])).shape ≡ (state_of_tick scenario h a).shape)
 
 -- ---- the window of a tick
 
@@ -46,9 +42,10 @@ window_ends tick a b moment inside = tests (nat_le (a * tick) moment) (nat_lt mo
     tests false two x y e = absurd cc
 
 pub window_of : (scenario : Scenario) (order : Order) (h : List Entry) (a : ℕ) → IsScenario scenario → IsLegal scenario order h
-    → HoldsRows scenario h a (a + (state_of_tick scenario h a).shape.window) → IsWindowOf scenario h a (state_of_tick scenario h a)
-window_of scenario order h a r legal holds =
+    → has_change (state_after scenario h).changes a (a + (state_of_tick scenario h a).shape.window) ≡ false → IsWindowOf scenario h a (state_of_tick scenario h a)
+window_of scenario order h a r legal none =
     let s = state_of_tick scenario h a in
+    let holds = rows_held scenario order h a (a + s.shape.window) r legal none in
     let front = through_prefix (a * scenario.shape.tick) h in
     let o = in_order scenario order (through_moment (a * scenario.shape.tick) h) r (prefix_legal scenario order (through_moment (a * scenario.shape.tick) h) front.0 (subst (IsLegal scenario order) front.1 legal)) in
     let long = o.shape.window_long in
@@ -104,26 +101,24 @@ steady_parts tick h changes a b steady = by_tests (has_change changes a b) (has_
 
 -- ---- the bounds
 
--- where rows hold while no change stands
-abbrev pub HoldWithoutChange : Scenario → List Entry → Type 0
-HoldWithoutChange scenario h = (a b : ℕ) → has_change (state_after scenario h).changes a b ≡ false → HoldsRows scenario h a b
-
-pub window_bound : (scenario : Scenario) (order : Order) (h : List Entry) → HoldWithoutChange scenario h → IsScenario scenario → IsLegal scenario order h → KeepsWindowBound scenario h
-window_bound scenario order h hold r legal a p finished steady inside =
+-- each finished window of steady ticks keeps the bound
+pub window_bound : (scenario : Scenario) (order : Order) (h : List Entry) → IsScenario scenario → IsLegal scenario order h → KeepsWindowBound scenario h
+window_bound scenario order h r legal a p finished steady inside =
     let s = state_of_tick scenario h a in
     let b : ℕ = a + s.shape.window in
     let parts = steady_parts scenario.shape.tick h (state_after scenario h).changes a b steady in
-    let w = window_of scenario order h a r legal (hold a b parts.0) in
+    let w = window_of scenario order h a r legal parts.0 in
     let calm = calm_of h a s (tick_pos scenario s r w.sizes) (subst (λ n. has_starved n h a b ≡ false) (sym w.sizes.tick) parts.1) in
     record {
       above = above scenario order h r legal a s w calm p;
       below = below scenario order h r legal a s w calm finished p inside;
     }
 
-pub critical_bound : (scenario : Scenario) (order : Order) (h : List Entry) → HoldWithoutChange scenario h → IsScenario scenario → IsLegal scenario order h → KeepsCriticalBound scenario h
-critical_bound scenario order h hold r legal a p finished none inside =
+-- each finished window without a change keeps the critical bound
+pub critical_bound : (scenario : Scenario) (order : Order) (h : List Entry) → IsScenario scenario → IsLegal scenario order h → KeepsCriticalBound scenario h
+critical_bound scenario order h r legal a p finished none inside =
     let s = state_of_tick scenario h a in
-    let w = window_of scenario order h a r legal (hold a (a + s.shape.window) none) in
+    let w = window_of scenario order h a r legal none in
     record {
       above = critical_above scenario order h r legal a s w p;
       none = critical_none scenario order h r legal a s w p;

@@ -17,10 +17,11 @@ use Rattle.aps_model.specs.Step.{step}
 use Rattle.aps_model.specs.Valid.{IsScenario}
 use Rattle.aps_laws.specs.Window.{Lane, Wide, lane_after, lanes_at_start, still, wide_of, wides, wides_from}
 use Rattle.aps_laws.proofs.MomentLaws.{last_own, last_other}
+use Rattle.aps_laws.proofs.Prefixes.{by_entries}
 use Rattle.aps_laws.proofs.Sound.{legal_last, sound}
 use Rattle.aps_bound_laws.specs.Lanes.{lanes_at}
 use Rattle.aps_bound_laws.proofs.Budget.{length_lanes}
-use Rattle.aps_bound_laws.proofs.Prefixes.{AllBefore, legal_by_last, state-append}
+use Rattle.aps_bound_laws.proofs.Prefixes.{AllBefore, state-append}
 
 -- ---- one entry more
 
@@ -98,12 +99,12 @@ start_stands (suc n) zero = refl
 start_stands (suc n) (suc c) = start_stands n c
 
 pub lanes_stand : (scenario : Scenario) (order : Order) → IsScenario scenario → (h : List Entry) → IsLegal scenario order h → (c : ℕ) → (slice_index_or (lanes_of scenario h) c still).last ≡ last_end h c
-lanes_stand scenario order r =
-    legal_by_last scenario order (λ h. (c : ℕ) → (slice_index_or (lanes_of scenario h) c still).last ≡ last_end h c)
-    (λ c. start_stands scenario.shape.cpus c)
+lanes_stand scenario order r h legal =
+    by_entries scenario order (λ h. (c : ℕ) → (slice_index_or (lanes_of scenario h) c still).last ≡ last_end h c)
     (λ h e legal stands c.
     let last = legal_last scenario order h e legal in
     let sizes = (sound scenario order r h last.0).grounded.sizes in
     let exists : e.cpu < length (lanes_of scenario h) = rw (count_of scenario h, ← sizes.cpus) last.1.turn.exists in
     ap (λ (ls : List Lane). (slice_index_or ls c still).last) (lanes_of-append scenario h e)
     ∙ stands_step (lanes_of scenario h) h e (lane_after (wide_of e (state_after scenario (h ++ e ∷ [])))) refl exists stands c)
+    h legal (λ c. start_stands scenario.shape.cpus c)

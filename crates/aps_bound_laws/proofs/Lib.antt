@@ -13,4 +13,4 @@ pub mod Above
 pub mod Idle
 pub mod Below
 pub mod Bound
-pub mod Audited
+pub mod Loaded

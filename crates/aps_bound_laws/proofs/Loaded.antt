@@ -1,4 +1,4 @@
--- What the numbers of an audit inherit from the bound.
+-- Steady ticks among steady ticks, and the loaded tick.
 use Rattle.std.proofs.Common.{◌≡◌, ℕ, zero, suc, ◌+◌, ◌-◌, ◌*◌, ◌/◌, ◌<◌, ◌≤◌, List, [], ◌∷◌, ◌++◌, length, refl, sym, ◌∙◌, ap, subst, Bool, true, false, not, cond, if◌then◌else◌, ◌&&◌, ◌||◌, nat_eq, nat_le, nat_lt, Option, Some, None, arith, ◌⊎◌, inl, inr}
 use Rattle.std.specs.Prelude.{IsTrue, IsFalse, IfSome, unwrap_or, min, is_some}
 use Rattle.std.specs.List.{All, find, fold, list_any, range_with_len}
@@ -28,10 +28,7 @@ use Rattle.aps_laws.proofs.MomentLaws.{moment-append}
 use Rattle.aps_laws.proofs.Sound.{sound, tick_pos}
 use Rattle.aps_bound_laws.specs.Loaded.{IsLoaded, IsSettled, IsUncritical, KeepsLast}
 use Rattle.aps_bound_laws.proofs.Below.{finished_end}
-use Rattle.aps_bound_laws.proofs.Bound.{HoldWithoutChange, critical_bound, steady_parts, window_bound}
-use Rattle.aps_bound_laws.proofs.Prefixes.{by_last}
-
--- ---- steady ticks among steady ticks
+use Rattle.aps_bound_laws.proofs.Bound.{steady_parts}
 
 -- where nothing passes a test, nothing passes a stricter one
 none_stricter : {X : Type 0} (p q : X → Bool) → ((x : X) → q x ≡ true → p x ≡ true) → (xs : List X) → list_any p xs ≡ false → list_any q xs ≡ false
@@ -82,13 +79,22 @@ steady_none tick h changes a =
     under true two is = is
     under false two is = refl
 
+-- what is found passes the test
+found_passes : (p : ℕ → Bool) (xs : List ℕ) (s : ℕ) → find p xs ≡ Some s → p s ≡ true
+found_passes p [] s is = absurd cc
+found_passes p (x ∷ xs) s is = by_test (p x) refl is (found_passes p xs s)
+  where
+    some_same : (a b : ℕ) → Some a ≡ Some b → a ≡ b
+    some_same a b e = cc
+
+    by_test : (t : Bool) → p x ≡ t → cond t (Some x) (find p xs) ≡ Some s → (find p xs ≡ Some s → p s ≡ true) → p s ≡ true
+    by_test true passes e more = ap p (sym (some_same x s e)) ∙ passes
+    by_test false fails e more = more e
+
 -- the loaded tick begins steady ticks
 pub loaded_steady : (shape : Shape) (h : List Entry) (changes : List Change) → is_steady shape.tick h changes (loaded_tick shape h changes) (finished_ticks shape h) ≡ true
 loaded_steady shape h changes = by_found (find (λ s. is_steady shape.tick h changes s (finished_ticks shape h)) (range_with_len 0 (finished_ticks shape h + 1))) refl
   where
-    found_passes : (p : ℕ → Bool) (xs : List ℕ) (s : ℕ) → find p xs ≡ Some s → p s ≡ true
-    found_passes p xs s is = ?
-
     by_found : (o : Option ℕ) → find (λ s. is_steady shape.tick h changes s (finished_ticks shape h)) (range_with_len 0 (finished_ticks shape h + 1)) ≡ o
         → is_steady shape.tick h changes (unwrap_or o (finished_ticks shape h)) (finished_ticks shape h) ≡ true
     by_found None is = steady_none shape.tick h changes (finished_ticks shape h)
