@@ -14,3 +14,4 @@ pub mod Idle
 pub mod Below
 pub mod Bound
 pub mod Loaded
+pub mod Audited
