@@ -24,14 +24,14 @@ use Rattle.aps_laws.proofs.Sound.{sound, tick_pos}
 use Rattle.aps_laws.proofs.Windows.{walks}
 use Rattle.aps_bound_laws.specs.Lanes.{in_window, is_critical, is_ordinary, paid, paid_of}
 use Rattle.aps_bound_laws.specs.Debts.{debt}
+use Rattle.aps_bound_laws.specs.Picks.{wide_at}
 use Rattle.aps_bound_laws.proofs.Debts.{walk, walk_none}
-use Rattle.aps_bound_laws.proofs.Funded.{AreFunded, critical_pick, same_kept, steady_pick, tick_of}
+use Rattle.aps_bound_laws.proofs.Funded.{AreFunded, critical_pick, same_kept, steady_pick}
 use Rattle.aps_bound_laws.proofs.Inside.{critical_tested, used_tested}
 use Rattle.aps_bound_laws.proofs.Late.{sum_at_start}
-use Rattle.aps_bound_laws.proofs.Picks.{IsPickless}
 use Rattle.aps_bound_laws.proofs.Prefixes.{latest, legal_through}
 use Rattle.aps_bound_laws.proofs.Upper.{upper, upper_none}
-use Rattle.aps_bound_laws.proofs.Wides.{critical_is, critical_used_is, never_of, ordinary_below, ordinary_by, ordinary_is, resets_of, used_is, wide_at}
+use Rattle.aps_bound_laws.proofs.Wides.{critical_is, critical_used_is, never_of, ordinary_below, ordinary_by, ordinary_is, resets_of, used_is}
 
 -- after each entry of the window rows and shape are those of this state
 abbrev pub RowsHold : Scenario → List Entry → ℕ → SchedulerState → Type 0

@@ -4,7 +4,7 @@ use Rattle.std.specs.Prelude.{IfSome, unwrap_or}
 use Rattle.std.specs.List.{fold, list_any, range_with_len}
 use Rattle.std.proofs.lemmas.Bool.{cases_lt}
 use Rattle.std.proofs.lemmas.Bool.Decides.{nat_tests}
-use Rattle.std.proofs.Math.Nat.{mul-le-mul_left}
+use Rattle.std.proofs.Math.Nat.{mul-le-mul_left, mul-add, mul_comm, le-div_iff_mul-le}
 use Rattle.aps_model.specs.declared.audit.Worst.{Worst}
 use Rattle.aps_model.specs.declared.command.Change.{Change}
 use Rattle.aps_model.specs.declared.entry.Entry.{Entry}
@@ -22,7 +22,7 @@ use Rattle.aps_model.specs.Partition.{row_or_none}
 use Rattle.aps_model.specs.Recorded.{recorded}
 use Rattle.aps_model.specs.Scenario.{Scenario}
 use Rattle.aps_model.specs.SchedulerState.{SchedulerState}
-use Rattle.aps_model.specs.Shape.{whole}
+use Rattle.aps_model.specs.Shape.{IsShape, whole}
 use Rattle.aps_model.specs.Usage.{critical_used, used}
 use Rattle.aps_model.specs.Valid.{IsScenario}
 use Rattle.aps_laws.specs.Moments.{moment}
@@ -34,8 +34,8 @@ use Rattle.aps_laws.proofs.RowLaws.{in_order}
 use Rattle.aps_laws.proofs.Sound.{sound, tick_pos}
 use Rattle.aps_bound_laws.specs.Loaded.{IsLoaded, IsSettled, IsUncritical, KeepsLast}
 use Rattle.aps_bound_laws.proofs.Below.{finished_end}
-use Rattle.aps_bound_laws.proofs.Bound.{critical_bound, steady_parts, window_bound}
-use Rattle.aps_bound_laws.proofs.Loaded.{loaded_steady, steady_part}
+use Rattle.aps_bound_laws.proofs.BoundLaws.{critical_bound, steady_parts, window_bound}
+use Rattle.aps_bound_laws.proofs.SteadyTicks.{loaded_steady, steady_part}
 
 -- ---- rows and shape from a tick on
 
@@ -115,6 +115,67 @@ within_budget x y p q h a k shape rows m = subst (λ z. IsWithinBudget z q h a k
 within_critical : (x y : Shape) (p q : List PartitionRow) (h : List Entry) (a k : ℕ) → y ≡ x → q ≡ p → IsWithinCritical x p h a k → IsWithinCritical y q h a k
 within_critical x y p q h a k shape rows m = subst (λ z. IsWithinCritical z q h a k) (sym shape) (subst (λ rs. IsWithinCritical x rs h a k) (sym rows) m)
 
+-- ---- the greatest amount
+
+-- the greatest of amounts that are at most so much is at most that
+abbrev IsSmall : ℕ → Option Worst → Type 0
+IsSmall k found = IfSome found (λ (w : Worst). w.amount ≤ k)
+
+worse_small : (k : ℕ) (best : Option Worst) (one : Worst) → IsSmall k best → one.amount ≤ k → IsSmall k (worse best one)
+worse_small k None one small own = own
+worse_small k (Some best) one small own = by_test (nat_lt best.amount one.amount)
+  where
+    by_test : (t : Bool) → (cond t one best).amount ≤ k
+    by_test true = own
+    by_test false = small
+
+rows_small : (amount : ℕ → ℕ → ℕ) (a k i n : ℕ) (found : Option Worst) → IsSmall k found → ((p : ℕ) → p < i + n → amount a p ≤ k)
+    → IsSmall k (fold (λ best p. worse best (record { amount = amount a p; partition = p; window = a })) found (range_with_len i n))
+rows_small amount a k i zero found small each = small
+rows_small amount a k i (suc n) found small each =
+    rows_small amount a k (i + 1) n (worse found (record { amount = amount a i; partition = i; window = a }))
+    (worse_small k found (record { amount = amount a i; partition = i; window = a }) small (each i (omega arith))) (λ p inside. each p (omega arith))
+
+windows_small : (amount : ℕ → ℕ → ℕ) (s n rows k : ℕ) (found : Option Worst) → IsSmall k found → ((a p : ℕ) → s ≤ a → a < s + n → p < rows → amount a p ≤ k)
+    → IsSmall k (fold (λ found a. fold (λ best p. worse best (record { amount = amount a p; partition = p; window = a })) found (range_with_len 0 rows)) found (range_with_len s n))
+windows_small amount s zero rows k found small each = small
+windows_small amount s (suc n) rows k found small each =
+    windows_small amount (s + 1) n rows k (fold (λ best p. worse best (record { amount = amount s p; partition = p; window = s })) found (range_with_len 0 rows))
+    (rows_small amount s k 0 rows found small (λ p inside. each s p (omega arith) (omega arith) (omega (arith, inside))))
+    (λ a p from below inside. each a p (omega (arith, from)) (omega (arith, below)) inside)
+
+worst_small : (amount : ℕ → ℕ → ℕ) (s n rows k : ℕ) → ((a p : ℕ) → s ≤ a → a < s + n → p < rows → amount a p ≤ k) → IsSmall k (worst_of amount (range_with_len s n) rows)
+worst_small amount s n rows k each = windows_small amount s n rows k None tt each
+
+-- ---- by how much a budget is exceeded
+
+parts_pos : (x : Shape) → IsShape x → 0 < x.parts
+parts_pos x m = elim m.parts [
+  | inl is ↦ omega (arith, is)
+  | inr is ↦ omega (arith, is)
+]
+
+slack_small : (x : Shape) (rows : List PartitionRow) (h : List Entry) (a p : ℕ) → critical_used x.tick h p a (a + x.window) ≡ 0 → slack x rows h a p ≤ x.cpus * x.tick
+slack_small x rows h a p none = by_test (nat_eq (row_or_none rows p).budget 0)
+  where
+    by_test : (t : Bool) → critical_used x.tick h p a (a + x.window) + cond t 0 (x.cpus * x.tick) ≤ x.cpus * x.tick
+    by_test true = omega (arith, none)
+    by_test false = omega (arith, none)
+
+over_allowance : (parts limit spent slack k : ℕ) → 0 < parts → parts * spent ≤ limit + parts * slack → slack ≤ k → spent - limit / parts ≤ k
+over_allowance parts limit spent slack k pos above small = elim (cases_lt spent k) [
+  | inl less ↦ omega (arith, less)
+  | inr more ↦
+      let rest : ℕ = spent - k in
+      let whole' : parts * rest + parts * k ≡ parts * spent = sym (mul-add parts rest k) ∙ ap (λ n. parts * n) (omega (arith, more)) in
+      let part : parts * rest ≤ limit = omega (arith, whole', above, mul-le-mul_left parts small) in
+      let part' : rest * parts ≤ limit = subst (λ n. n ≤ limit) (mul_comm parts rest) part in
+      let share : rest ≤ limit / parts = (le-div_iff_mul-le pos).1 part' in
+      omega (arith, share)
+]
+
+-- ---- of a legal history
+
 module _ (scenario : Scenario) (order : Order) (h : List Entry) (limit : ℕ) (rooms : Rooms) (r : IsScenario scenario) (legal : IsLegal scenario order h) (settled : IsSettled (recorded scenario limit rooms h)) where
   pub loaded_keeps : (a : ℕ) → IsLoaded (recorded scenario limit rooms h) a → KeepsLast (recorded scenario limit rooms h) a
   loaded_keeps a m =
@@ -141,3 +202,30 @@ module _ (scenario : Scenario) (order : Order) (h : List Entry) (limit : ℕ) (r
         critical = λ p inside. within_critical s.shape last.shape s.rows last.rows h a p held.1 held.0
             (critical_bound scenario order h r legal a p finished (steady_parts scenario.shape.tick h last.changes a (a + s.shape.window) steady).0 (subst (λ (rs : List PartitionRow). p < length rs) held.0 inside));
       }
+
+  -- ---- the numbers
+
+  loaded_from : (a : ℕ) → a < loaded_tick (state_after scenario h).shape h (state_after scenario h).changes + (finished_ticks (state_after scenario h).shape h + 1 - (loaded_tick (state_after scenario h).shape h (state_after scenario h).changes + (state_after scenario h).shape.window))
+      → loaded_tick (state_after scenario h).shape h (state_after scenario h).changes ≤ a → IsLoaded (recorded scenario limit rooms h) a
+  loaded_from a below from = record { from = from; finished = omega (arith, below, from) }
+
+  pub critical_small : IfSome (audit_of (recorded scenario limit rooms h)).critical_worst (λ (w : Worst). w.amount ≤ (recorded scenario limit rooms h).shape.cpus * (recorded scenario limit rooms h).shape.tick)
+  critical_small =
+      let last = state_after scenario h in
+      worst_small (critical_over_from (recorded scenario limit rooms h)) (loaded_tick last.shape h last.changes) _ (length last.rows) (last.shape.cpus * last.shape.tick)
+      (λ a p from below inside.
+      let m = (loaded_keeps a (loaded_from a below from)).critical p inside in
+      let above = m.above in
+      omega (arith, above))
+
+  pub over_small : IsUncritical (recorded scenario limit rooms h)
+      → IfSome (audit_of (recorded scenario limit rooms h)).worst_over (λ (w : Worst). w.amount ≤ (recorded scenario limit rooms h).shape.cpus * (recorded scenario limit rooms h).shape.tick)
+  over_small uncritical =
+      let last = state_after scenario h in
+      let x = last.shape in
+      worst_small (over_from (recorded scenario limit rooms h)) (loaded_tick x h last.changes) _ (length last.rows) (x.cpus * x.tick)
+      (λ a p from below inside.
+      let loaded = loaded_from a below from in
+      let m = (loaded_keeps a loaded).budget p inside in
+      over_allowance x.parts ((row_or_none last.rows p).budget * whole x) (used x.tick h p a (a + x.window)) (slack x last.rows h a p) (x.cpus * x.tick)
+      (parts_pos x (in_order scenario order h r legal).shape) m.above (slack_small x last.rows h a p (uncritical a p loaded inside)))

@@ -100,3 +100,11 @@ walk_none counts tick a b lanes (e ∷ es) pos none (lane, found, from, bills, n
     let zero' = debt_none counts tick a b e.to e.keeps (counts e.keeps) (in_window tick a b e.to) refl refl never in
     let rest = walk_none counts tick a b lanes' es pos (omega (arith, sums, none, zero')) later nevers in
     omega (arith, rest, sum_by-cons (paid counts tick a b) e es, less, sums, none, zero')
+
+-- from lanes that owe nothing
+pub from_picks : (counts : Kept → Bool) (tick a b scale limit : ℕ) (lanes : List Lane) (entries : List Wide) → 0 < tick → sum_by (debt counts tick a b) lanes ≡ 0
+    → Walks tick lanes entries → Resets counts tick a b scale limit 0 entries
+    → scale * (sum_by (paid counts tick a b) entries + sum_by (debt counts tick a b) (lanes_at lanes entries)) ≤ limit + scale * (length lanes * tick)
+from_picks counts tick a b scale limit lanes entries pos none walks resets =
+    let start : scale * (0 + sum_by (debt counts tick a b) lanes) ≤ limit + scale * (length lanes * tick) = rw none (omega arith) in
+    omega (arith, walk counts tick a b scale limit 0 lanes entries pos start walks resets)

@@ -30,18 +30,15 @@ use Rattle.aps_laws.specs.Window.{Kept, kept_if, lanes_at_start, pair_kept, stil
 use Rattle.aps_laws.proofs.Sound.{sound, tick_pos}
 use Rattle.aps_laws.proofs.Windows.{walks}
 use Rattle.aps_bound_laws.specs.Lanes.{paid_of}
+use Rattle.aps_bound_laws.specs.Picks.{IsFundedPick, IsPickless, tick_of, wide_at}
 use Rattle.aps_bound_laws.specs.Sums.{sum_below}
 use Rattle.aps_bound_laws.proofs.Budget as budget
 use Rattle.aps_bound_laws.proofs.Late.{lanes_late}
-use Rattle.aps_bound_laws.proofs.Picks.{IsChosen, IsPickless, chosen_law, keeps_of, parts_of}
+use Rattle.aps_bound_laws.proofs.Chosen.{IsChosen, chosen_law, keeps_of, parts_of}
 use Rattle.aps_bound_laws.proofs.Prefixes.{latest}
 use Rattle.aps_bound_laws.proofs.Steady.{critical_stands, ordinary_funded, steady_best}
 use Rattle.aps_bound_laws.proofs.Sums.{sum_below_same, sum_places}
-use Rattle.aps_bound_laws.proofs.Wides.{used_is, wide_at}
-
--- the tick of the pick
-abbrev pub tick_of : SchedulerState → Entry → ℕ
-tick_of t e = e.to / t.shape.tick
+use Rattle.aps_bound_laws.proofs.Wides.{used_is}
 
 abbrev pub AreFunded : SchedulerState → Type 0
 AreFunded t = sum (map (λ (row : PartitionRow). row.budget) t.rows) ≡ t.shape.parts
@@ -117,14 +114,6 @@ some_in_budget scenario order h e r legal funded some =
     ]
 
 -- ---- a steady pick
-
--- the pick keeps a partition that there is, and an ordinary pick has budget
-pub record IsFundedPick (scenario : Scenario) (h : List Entry) (e : Entry) (t : SchedulerState) : Type 0 where
-  pub partition : ℕ
-  pub mark : Bool
-  pub keeps : (wide_at scenario h e).keeps ≡ Some (partition, mark)
-  pub inside : partition < length t.rows
-  pub ordinary : mark ≡ false → t.shape.parts * window_used t.shape (h ++ e ∷ []) (tick_of t e) partition < (row_or_none t.rows partition).budget * whole t.shape
 
 funded_less : (shape : Shape) (rows : List PartitionRow) (h : List Entry) (j p : ℕ) → p < length rows → (part_at (all_parts shape rows h j) p).funded ≡ true
     → shape.parts * window_used shape h j p < (row_or_none rows p).budget * whole shape

@@ -22,11 +22,11 @@ use Rattle.aps_laws.proofs.Sound.{IsLast, legal_last, next_law, running_on, soun
 use Rattle.aps_laws.proofs.StepOf.{horizon_same}
 use Rattle.aps_bound_laws.specs.Lanes.{in_window}
 use Rattle.aps_bound_laws.specs.Pasts.{Filled}
+use Rattle.aps_bound_laws.specs.Picks.{wide_at}
 use Rattle.aps_bound_laws.proofs.Above.{IsCalm, IsWindowOf, walks_here}
 use Rattle.aps_bound_laws.proofs.Debts.{began}
 use Rattle.aps_bound_laws.proofs.Funded.{AreFunded, steady_pick}
 use Rattle.aps_bound_laws.proofs.Prefixes.{legal_through, state-append}
-use Rattle.aps_bound_laws.proofs.Wides.{wide_at}
 
 -- a lane that runs one of the first n partitions
 record IsBusy (n : ℕ) (runs : Kept) : Type 0 where

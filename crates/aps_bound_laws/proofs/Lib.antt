@@ -4,7 +4,7 @@ pub mod Upper
 pub mod Budget
 pub mod Prefixes
 pub mod Wides
-pub mod Picks
+pub mod Chosen
 pub mod Steady
 pub mod Late
 pub mod Funded
@@ -12,6 +12,6 @@ pub mod Inside
 pub mod Above
 pub mod Idle
 pub mod Below
-pub mod Bound
-pub mod Loaded
+pub mod BoundLaws
+pub mod SteadyTicks
 pub mod Audited

@@ -14,7 +14,7 @@ use Rattle.aps_model.specs.Budget.{part_at}
 use Rattle.aps_model.specs.Merit.{class_of, is_critical_pick, is_greater}
 use Rattle.aps_model.specs.Pick.{better, candidates, greatest, merit_among, missing}
 use Rattle.aps_model.proofs.GreatestLaws.{IsUnbeaten, beats, greatest-some, greatest-unbeaten}
-use Rattle.aps_bound_laws.proofs.Picks.{keeps_of}
+use Rattle.aps_bound_laws.proofs.Chosen.{keeps_of}
 
 -- a number that the test finds nowhere below n fails it
 find_none : (p : ℕ → Bool) (a n q : ℕ) → find p (range_with_len a n) ≡ None → a ≤ q → q < a + n → p q ≡ false

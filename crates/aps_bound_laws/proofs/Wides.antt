@@ -11,11 +11,8 @@ use Rattle.aps_model.specs.Usage.{overlap, billed_by, critical_by, used, critica
 use Rattle.aps_laws.specs.Window.{Kept, Wide, wide_of, wides, wides_from}
 use Rattle.aps_bound_laws.specs.Lanes.{in_window, is_of, is_ordinary, is_critical, paid, paid_of}
 use Rattle.aps_bound_laws.specs.Debts.{Resets, Never}
+use Rattle.aps_bound_laws.specs.Picks.{wide_at}
 use Rattle.aps_bound_laws.proofs.Prefixes.{state-append}
-
--- the entry after these, with what its pick fixed
-abbrev pub wide_at : Scenario → List Entry → Entry → Wide
-wide_at scenario before e = wide_of e (state_after scenario (before ++ e ∷ []))
 
 -- what the entry bills of the partition's ordinary runs
 abbrev pub ordinary_by : ℕ → ℕ → ℕ → ℕ → Entry → ℕ

@@ -34,6 +34,7 @@ use Rattle.aps_laws.proofs.Channels.{names_channels}
 use Rattle.aps_laws.proofs.Mid.{test_mid, back_mid}
 use Rattle.aps_laws.proofs.Picked.{flag_running, flag_shape, flag_rows, cpu_same}
 use Rattle.aps_laws.proofs.Sound.{after-append, legal_last, sound}
+use Rattle.aps_bound_laws.specs.Picks.{IsPickless}
 use Rattle.aps_laws.proofs.StepOf.{bill_at, bill_says, horizon_same, mid_count, step_by, tested_at}
 
 -- the partitions as they stand at the pick of the entry that ends this history
@@ -49,11 +50,6 @@ pub record IsChosen (h : List Entry) (e : Entry) (t : SchedulerState) : Type 0 w
   pub ready : List Contender
   pub starved : e.starved ≡ missing (parts_of t h e) ready
   pub keeps : kept_if e.picked (pair_kept (cpu_at t e.cpu).running) ≡ keeps_of (parts_of t h e) (greatest t.shape.free (parts_of t h e) ready)
-
--- the entry made no pick, since it stood at the horizon or ended the run
-pub record IsPickless (s : SchedulerState) (e : Entry) (reboot : Option ℕ) : Type 0 where
-  pub nobody : e.picked ≡ None
-  pub complete : IsComplete s e.to reboot
 
 -- ---- the parts don't depend on what the entry says of its pick
 

@@ -6,7 +6,7 @@ use Rattle.std.proofs.lemmas.Bool.Decides.{nat_tests}
 use Rattle.aps_model.specs.declared.command.Change.{Change}
 use Rattle.aps_model.specs.declared.entry.Entry.{Entry}
 use Rattle.aps_model.specs.declared.entry.Order.{Order}
-use Rattle.aps_model.specs.After.{state_after}
+use Rattle.aps_model.specs.After.{after, state_after}
 use Rattle.aps_model.specs.Bound.{IsWithinBudget, IsWithinCritical, KeepsCriticalBound, KeepsWindowBound}
 use Rattle.aps_model.specs.Legal.{IsLegal}
 use Rattle.aps_model.specs.Loaded.{finished_ticks, has_change, has_starved, is_among, is_steady, IsSteady, state_of_tick, through_moment}
@@ -18,8 +18,10 @@ use Rattle.aps_laws.proofs.RowLaws.{in_order}
 use Rattle.aps_laws.proofs.Sound.{tick_pos}
 use Rattle.aps_laws.proofs.Words.{prefix_legal}
 use Rattle.aps_bound_laws.specs.Lanes.{in_window}
+use Rattle.aps_bound_laws.specs.Picks.{IsFundedPick, IsPickless}
 use Rattle.aps_bound_laws.proofs.Above.{IsCalm, IsWindowOf, above, critical_above, critical_none}
 use Rattle.aps_bound_laws.proofs.Below.{below}
+use Rattle.aps_bound_laws.proofs.Funded as funded
 use Rattle.aps_bound_laws.proofs.Inside.{in_ticks}
 
 -- ---- the window of a tick
@@ -123,3 +125,12 @@ critical_bound scenario order h r legal a p finished none inside =
       above = critical_above scenario order h r legal a s w p;
       none = critical_none scenario order h r legal a s w p;
     }
+
+-- ---- a steady pick, of the rows that stand at it
+
+pub steady_pick : (scenario : Scenario) (order : Order) (h : List Entry) (e : Entry) → IsScenario scenario → IsLegal scenario order (h ++ e ∷ []) → e.starved ≡ None
+    → IsPickless (state_after scenario h) e (after scenario (h ++ e ∷ [])).reboot ⊎ IsFundedPick scenario h e (state_after scenario (h ++ e ∷ []))
+steady_pick scenario order h e r legal calm =
+    let o = in_order scenario order (h ++ e ∷ []) r legal in
+    let long = o.shape.window_long in
+    funded.steady_pick scenario order h e r legal (o.funded.budgets ∙ sym o.sizes.parts) (omega (arith, long)) calm

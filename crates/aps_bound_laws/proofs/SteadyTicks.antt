@@ -28,7 +28,7 @@ use Rattle.aps_laws.proofs.MomentLaws.{moment-append}
 use Rattle.aps_laws.proofs.Sound.{sound, tick_pos}
 use Rattle.aps_bound_laws.specs.Loaded.{IsLoaded, IsSettled, IsUncritical, KeepsLast}
 use Rattle.aps_bound_laws.proofs.Below.{finished_end}
-use Rattle.aps_bound_laws.proofs.Bound.{steady_parts}
+use Rattle.aps_bound_laws.proofs.BoundLaws.{steady_parts}
 
 -- where nothing passes a test, nothing passes a stricter one
 none_stricter : {X : Type 0} (p q : X → Bool) → ((x : X) → q x ≡ true → p x ≡ true) → (xs : List X) → list_any p xs ≡ false → list_any q xs ≡ false
