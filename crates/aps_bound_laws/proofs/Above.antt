@@ -1,15 +1,15 @@
 -- The upper line of the bound, and the critical bound, of windows in which the rows hold.
-use Rattle.std.proofs.Common.{◌≡◌, ℕ, zero, suc, ◌+◌, ◌-◌, ◌*◌, ◌/◌, ◌<◌, ◌≤◌, List, [], ◌∷◌, ◌++◌, length, map, refl, sym, ◌∙◌, ap, subst, Bool, true, false, not, cond, ◌&&◌, nat_eq, Option, Some, None, arith, ◌⊎◌, inl, inr}
+use Rattle.std.proofs.Common.{◌≡◌, ℕ, zero, suc, ◌+◌, ◌*◌, ◌/◌, ◌<◌, ◌≤◌, List, [], ◌∷◌, ◌++◌, length, refl, sym, ◌∙◌, ap, subst, Bool, true, false, not, cond, ◌&&◌, nat_eq, Option, Some, None, arith, inl, inr}
 use Rattle.std.specs.List.{sum_by}
 use Rattle.std.proofs.lemmas.Bool.{eqb-true}
 use Rattle.std.proofs.lemmas.Bool.Decides.{nat_tests}
 use Rattle.std.proofs.lemmas.List.{length-replicate}
-use Rattle.std.proofs.Math.Nat.{mul-le-mul_left, mul-add}
+use Rattle.std.proofs.Math.Nat.{mul-le-mul_left}
 use Rattle.aps_model.specs.declared.entry.Entry.{Entry}
 use Rattle.aps_model.specs.declared.entry.Order.{Order}
 use Rattle.aps_model.specs.declared.partition.PartitionRow.{PartitionRow}
 use Rattle.aps_model.specs.declared.shape.Shape.{Shape}
-use Rattle.aps_model.specs.After.{after, state_after}
+use Rattle.aps_model.specs.After.{state_after}
 use Rattle.aps_model.specs.Bound.{slack}
 use Rattle.aps_model.specs.Legal.{IsLegal}
 use Rattle.aps_model.specs.Partition.{row_or_none}
@@ -19,8 +19,8 @@ use Rattle.aps_model.specs.Shape.{whole}
 use Rattle.aps_model.specs.Usage.{critical_by, critical_used, used, window_critical, window_used}
 use Rattle.aps_model.specs.Valid.{IsScenario}
 use Rattle.aps_laws.specs.Sizes.{IsSameSizes}
-use Rattle.aps_laws.specs.Window.{Kept, Lane, Walks, kept_if, lanes_at_start, pair_kept, still, wides}
-use Rattle.aps_laws.proofs.Sound.{sound, tick_pos}
+use Rattle.aps_laws.specs.Window.{Kept, Walks, kept_if, lanes_at_start, pair_kept, still, wides}
+use Rattle.aps_laws.proofs.Sound.{tick_pos}
 use Rattle.aps_laws.proofs.Windows.{walks}
 use Rattle.aps_bound_laws.specs.Lanes.{in_window, is_critical, is_ordinary, paid, paid_of}
 use Rattle.aps_bound_laws.specs.Debts.{debt}
@@ -128,7 +128,7 @@ module _ (scenario : Scenario) (order : Order) (h : List Entry) (r : IsScenario 
       let front = legal_through scenario order h before later e same legal in
       let held = w.holds before later e same inside in
       let less = tested_of t.shape s.shape t.rows s.rows (before ++ e ∷ []) e.to held.1 held.0
-          (critical_pick scenario order before e p r front (kept_critical p (wide_at scenario before e).keeps counted)) in
+      (critical_pick scenario order before e p r front (kept_critical p (wide_at scenario before e).keeps counted)) in
       let part = critical_tested s.shape.tick p a s.shape.window e.to (before ++ e ∷ []) pos inside (latest scenario order r before e front) in
       omega (arith, less, part)
     where
@@ -190,10 +190,10 @@ module _ (scenario : Scenario) (order : Order) (h : List Entry) (r : IsScenario 
       by_budget (suc n) is =
           let limit : ℕ = (row_or_none s.rows p).budget * whole s.shape in
           let resets = resets_of scenario (is_ordinary p) (ordinary_by tick p a b) tick a b s.shape.parts limit h (ordinary_is tick a b p)
-              (λ before later e same counted inside.
-              let less = ordinary_within calm p before later e same counted inside in
-              let part = ordinary_below tick p a b (before ++ e ∷ []) in
-              omega (arith, less, mul-le-mul_left s.shape.parts part)) in
+          (λ before later e same counted inside.
+          let less = ordinary_within calm p before later e same counted inside in
+          let part = ordinary_below tick p a b (before ++ e ∷ []) in
+          omega (arith, less, mul-le-mul_left s.shape.parts part)) in
           let all = upper tick a b p s.shape.parts limit (lanes_at_start scenario) (wides scenario h) pos still_debts walks_here resets in
           let slack_is : slack s.shape s.rows h a p ≡ critical_used tick h p a b + s.shape.cpus * tick = ap (λ t. critical_used tick h p a b + cond t 0 (s.shape.cpus * tick)) (not_none (row_or_none s.rows p).budget n is) in
           let lanes : length (lanes_at_start scenario) * tick ≡ s.shape.cpus * tick = ap (λ k. k * tick) count in
@@ -210,7 +210,7 @@ module _ (scenario : Scenario) (order : Order) (h : List Entry) (r : IsScenario 
       let limit : ℕ = (row_or_none s.rows p).critical in
       let none : sum_by (debt (is_critical p) tick a b) (lanes_at_start scenario) ≡ 0 = sum_at_start scenario (debt (is_critical p) tick a b) refl in
       let resets = resets_of scenario (is_critical p) (critical_by tick p a b) tick a b 1 limit h (critical_is tick a b p)
-          (λ before later e same counted inside. let less = critical_within p before later e same counted inside in omega (arith, less)) in
+      (λ before later e same counted inside. let less = critical_within p before later e same counted inside in omega (arith, less)) in
       let start : 1 * (0 + sum_by (debt (is_critical p) tick a b) (lanes_at_start scenario)) ≤ limit + 1 * (length (lanes_at_start scenario) * tick) = omega (arith, none) in
       let all = walk (is_critical p) tick a b 1 limit 0 (lanes_at_start scenario) (wides scenario h) pos start walks_here resets in
       let lanes : length (lanes_at_start scenario) * tick ≡ s.shape.cpus * tick = ap (λ k. k * tick) count in

@@ -1,5 +1,5 @@
 -- What the numbers of an audit inherit from the bound.
-use Rattle.std.proofs.Common.{◌≡◌, ℕ, zero, suc, ◌+◌, ◌-◌, ◌*◌, ◌/◌, ◌<◌, ◌≤◌, List, [], ◌∷◌, ◌++◌, length, refl, sym, ◌∙◌, ap, subst, Bool, true, false, cond, if◌then◌else◌, ◌&&◌, ◌||◌, nat_eq, nat_le, nat_lt, Option, Some, None, min, arith, ◌⊎◌, inl, inr}
+use Rattle.std.proofs.Common.{◌≡◌, ℕ, zero, suc, ◌+◌, ◌-◌, ◌*◌, ◌/◌, ◌<◌, ◌≤◌, List, [], ◌∷◌, length, refl, sym, ◌∙◌, ap, subst, Bool, true, false, cond, ◌&&◌, ◌||◌, nat_eq, nat_le, nat_lt, Option, Some, None, min, arith, ◌⊎◌, inl, inr}
 use Rattle.std.specs.Prelude.{IfSome, unwrap_or}
 use Rattle.std.specs.List.{fold, list_any, range_with_len}
 use Rattle.std.proofs.lemmas.Bool.{cases_lt}
@@ -12,16 +12,15 @@ use Rattle.aps_model.specs.declared.entry.Order.{Order}
 use Rattle.aps_model.specs.declared.partition.PartitionRow.{PartitionRow}
 use Rattle.aps_model.specs.declared.shape.Shape.{Shape}
 use Rattle.aps_model.specs.After.{state_after}
-use Rattle.aps_model.specs.Audit.{allowance, audit_of, critical_over_from, over_from, used_from, worse, worst_of}
+use Rattle.aps_model.specs.Audit.{audit_of, critical_over_from, over_from, worse, worst_of}
 use Rattle.aps_model.specs.Bound.{IsWithinBudget, IsWithinCritical, slack}
 use Rattle.aps_model.specs.Due.{last_end, last_to}
-use Rattle.aps_model.specs.History.{History, Rooms}
+use Rattle.aps_model.specs.History.{Rooms}
 use Rattle.aps_model.specs.Legal.{IsLegal}
-use Rattle.aps_model.specs.Loaded.{finished_ticks, has_change, is_among, is_steady, loaded_tick, loaded_windows, state_of_tick}
+use Rattle.aps_model.specs.Loaded.{finished_ticks, has_change, is_among, is_steady, loaded_tick, state_of_tick}
 use Rattle.aps_model.specs.Partition.{row_or_none}
 use Rattle.aps_model.specs.Recorded.{recorded}
 use Rattle.aps_model.specs.Scenario.{Scenario}
-use Rattle.aps_model.specs.SchedulerState.{SchedulerState}
 use Rattle.aps_model.specs.Shape.{IsShape, whole}
 use Rattle.aps_model.specs.Usage.{critical_used, used}
 use Rattle.aps_model.specs.Valid.{IsScenario}
@@ -31,7 +30,7 @@ use Rattle.aps_laws.proofs.BoundaryLaws.{last_split}
 use Rattle.aps_laws.proofs.HeldRows.{rows_held}
 use Rattle.aps_laws.proofs.MomentLaws.{moment-append}
 use Rattle.aps_laws.proofs.RowLaws.{in_order}
-use Rattle.aps_laws.proofs.Sound.{sound, tick_pos}
+use Rattle.aps_laws.proofs.Sound.{sound}
 use Rattle.aps_bound_laws.specs.Loaded.{IsLoaded, IsSettled, IsUncritical, KeepsLast}
 use Rattle.aps_bound_laws.proofs.Below.{finished_end}
 use Rattle.aps_bound_laws.proofs.BoundLaws.{critical_bound, steady_parts, window_bound}
@@ -187,7 +186,7 @@ module _ (scenario : Scenario) (order : Order) (h : List Entry) (limit : ℕ) (r
       let ends : a + last.shape.window ≤ finished_ticks scenario.shape h = subst (λ n. a + last.shape.window ≤ n) counts m.finished in
       let loaded = loaded_steady last.shape h last.changes in
       let none : (b : ℕ) → has_change last.changes a b ≡ false = λ b.
-          none_from last.changes (loaded_tick last.shape h last.changes) count a b m.from (steady_parts last.shape.tick h last.changes (loaded_tick last.shape h last.changes) count loaded).0 settled in
+      none_from last.changes (loaded_tick last.shape h last.changes) count a b m.from (steady_parts last.shape.tick h last.changes (loaded_tick last.shape h last.changes) count loaded).0 settled in
       let some : a ≤ finished_ticks scenario.shape h = omega (arith, ends) in
       let reached = finished_end scenario.shape h a 0 some r.shape.some_cpu in
       let held = last_rows scenario order h a r legal none (omega (arith, reached, last_end_before scenario order h r legal)) in

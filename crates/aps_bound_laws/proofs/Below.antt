@@ -1,7 +1,7 @@
 -- The lower line of the bound, of finished windows.
-use Rattle.std.proofs.Common.{◌≡◌, ℕ, zero, suc, ◌+◌, ◌-◌, ◌*◌, ◌/◌, ◌<◌, ◌≤◌, List, [], ◌∷◌, length, refl, sym, ◌∙◌, ap, subst, nat_eq, if◌then◌else◌, slice_index_or, min, arith, inl, inr}
+use Rattle.std.proofs.Common.{◌≡◌, ℕ, zero, suc, ◌+◌, ◌-◌, ◌*◌, ◌/◌, ◌<◌, ◌≤◌, List, length, sym, ◌∙◌, ap, subst, nat_eq, if◌then◌else◌, slice_index_or, min, arith, inl, inr}
 use Rattle.std.specs.List.{All, fold, range_with_len}
-use Rattle.std.proofs.lemmas.Bool.{cases_eq, cases_lt}
+use Rattle.std.proofs.lemmas.Bool.{cases_eq}
 use Rattle.std.proofs.lemmas.List.{get_or_default}
 use Rattle.std.proofs.Math.Nat.{mul-le-mul_right, div-mul-le_self, mul_comm}
 use Rattle.aps_model.specs.declared.entry.Entry.{Entry}
@@ -17,7 +17,7 @@ use Rattle.aps_model.specs.SchedulerState.{SchedulerState}
 use Rattle.aps_model.specs.Shape.{whole}
 use Rattle.aps_model.specs.Usage.{used}
 use Rattle.aps_model.specs.Valid.{IsScenario}
-use Rattle.aps_laws.specs.Window.{Lane, Tiles, lanes_at_start, still, wides}
+use Rattle.aps_laws.specs.Window.{Lane, lanes_at_start, still, wides}
 use Rattle.aps_laws.proofs.Windows.{walks}
 use Rattle.aps_bound_laws.specs.Lanes.{paid_of}
 use Rattle.aps_bound_laws.specs.Pasts.{past}
@@ -74,7 +74,7 @@ module _ (scenario : Scenario) (order : Order) (h : List Entry) (r : IsScenario 
   all_used =
       let new = sum_at_start scenario (past s.shape.tick a (a + s.shape.window)) nothing in
       let all = budget.usages s.shape.tick a s.shape.window (length s.rows) (lanes_at_start scenario) (wides scenario h) new (walks scenario order h r legal).1
-          (filled scenario order h r legal a s w calm) all_late in
+      (filled scenario order h r legal a s w calm) all_late in
       sym (sum_below_same (length s.rows) (paid_of s.shape.tick a (a + s.shape.window) (wides scenario h)) uses (λ p. used_is scenario s.shape.tick a (a + s.shape.window) p h))
       ∙ all ∙ ap (λ m. m * (s.shape.window * s.shape.tick)) (count scenario order h r legal a s w)
       ∙ whole_is s.shape.cpus s.shape.window s.shape.tick
@@ -88,7 +88,7 @@ module _ (scenario : Scenario) (order : Order) (h : List Entry) (r : IsScenario 
       let n : ℕ = length s.rows in
       let slacks : ℕ → ℕ = slack s.shape s.rows h a in
       let line = budget.others n s.shape.parts (whole s.shape) p uses budgets slacks inside (budgets_sum s.rows s.shape.parts w.funded) all_used
-          (λ q in'. subst (λ k. s.shape.parts * uses q ≤ k + s.shape.parts * slacks q) (mul_comm (budgets q) (whole s.shape)) (above scenario order h r legal a s w calm q)) in
+      (λ q in'. subst (λ k. s.shape.parts * uses q ≤ k + s.shape.parts * slacks q) (mul_comm (budgets q) (whole s.shape)) (above scenario order h r legal a s w calm q)) in
       let rest : sum_below n slacks - slacks p ≡ others_slack s.shape s.rows h a p =
       others_are (sum_below n slacks) (slacks p) (others_slack s.shape s.rows h a p)
       (ap (λ k. k + slacks p) (sum_range n (λ q. if nat_eq q p then 0 else slacks q)) ∙ sum_but n p slacks inside) in

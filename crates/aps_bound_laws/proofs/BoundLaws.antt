@@ -1,15 +1,15 @@
 -- Each finished window of steady ticks keeps the bound.
-use Rattle.std.proofs.Common.{◌≡◌, ℕ, ◌+◌, ◌*◌, ◌/◌, ◌<◌, ◌≤◌, List, [], ◌∷◌, ◌++◌, length, refl, sym, ◌∙◌, ap, subst, Bool, true, false, not, cond, ◌&&◌, ◌||◌, nat_le, nat_lt, Option, Some, None, arith, ◌⊎◌, inl, inr}
-use Rattle.std.specs.Prelude.{IsTrue, IsFalse, is_some}
+use Rattle.std.proofs.Common.{◌≡◌, ℕ, ◌+◌, ◌*◌, ◌/◌, ◌<◌, ◌≤◌, List, [], ◌∷◌, ◌++◌, refl, sym, ◌∙◌, ap, subst, Bool, true, false, not, cond, ◌&&◌, ◌||◌, nat_le, nat_lt, Option, Some, None, arith, ◌⊎◌}
+use Rattle.std.specs.Prelude.{IsTrue, is_some}
 use Rattle.std.specs.List.{list_any}
 use Rattle.std.proofs.lemmas.Bool.Decides.{nat_tests}
 use Rattle.aps_model.specs.declared.command.Change.{Change}
 use Rattle.aps_model.specs.declared.entry.Entry.{Entry}
 use Rattle.aps_model.specs.declared.entry.Order.{Order}
 use Rattle.aps_model.specs.After.{after, state_after}
-use Rattle.aps_model.specs.Bound.{IsWithinBudget, IsWithinCritical, KeepsCriticalBound, KeepsWindowBound}
+use Rattle.aps_model.specs.Bound.{KeepsCriticalBound, KeepsWindowBound}
 use Rattle.aps_model.specs.Legal.{IsLegal}
-use Rattle.aps_model.specs.Loaded.{finished_ticks, has_change, has_starved, is_among, is_steady, IsSteady, state_of_tick, through_moment}
+use Rattle.aps_model.specs.Loaded.{has_change, has_starved, is_among, IsSteady, state_of_tick, through_moment}
 use Rattle.aps_model.specs.Scenario.{Scenario}
 use Rattle.aps_model.specs.SchedulerState.{SchedulerState}
 use Rattle.aps_model.specs.Valid.{IsScenario}

@@ -1,5 +1,5 @@
 -- What is billed of a window, against the whole of it.
-use Rattle.std.proofs.Common.{◌≡◌, ℕ, zero, suc, ◌+◌, ◌-◌, ◌*◌, ◌≤◌, ◌<◌, Bool, true, false, if◌then◌else◌, nat_eq, nat_lt, nat_le, List, [], ◌∷◌, length, slice_set, Some, None, refl, arith, sym, subst, ap, ◌∙◌}
+use Rattle.std.proofs.Common.{◌≡◌, ℕ, zero, suc, ◌+◌, ◌-◌, ◌*◌, ◌≤◌, ◌<◌, Bool, true, false, if◌then◌else◌, nat_eq, nat_le, List, [], ◌∷◌, length, slice_set, Some, None, refl, arith, sym, subst, ap, ◌∙◌}
 use Rattle.std.specs.List.{sum_by, All}
 use Rattle.std.proofs.lemmas.List.Sums.{sum_by-set, sum_by-cons, sum_by-le}
 use Rattle.std.proofs.lemmas.Option.{slice_get_within, get_or_from_slice_get}
@@ -8,9 +8,8 @@ use Rattle.std.proofs.Math.Nat.{mul-le-mul_right, mul-pos, add-mul, mul-add, mul
 use Rattle.std.proofs.Math.ListN.{get_or}
 use Rattle.std.proofs.lemmas.List.{length-set}
 use Rattle.aps_model.specs.Usage.{overlap}
-use Rattle.aps_laws.specs.Window.{Kept, Lane, Wide, lane_after, Walks, Tiles}
-use Rattle.aps_bound_laws.specs.Lanes.{lanes_at, in_window, is_of, is_ordinary, is_critical, paid, paid_of}
-use Rattle.aps_bound_laws.specs.Debts.{debt, Resets, Never}
+use Rattle.aps_laws.specs.Window.{Kept, Lane, Wide, lane_after, Tiles}
+use Rattle.aps_bound_laws.specs.Lanes.{lanes_at, is_of, paid, paid_of}
 use Rattle.aps_bound_laws.specs.Sums.{sum_below}
 use Rattle.aps_bound_laws.specs.Pasts.{past, Filled}
 use Rattle.aps_bound_laws.proofs.Sums.{sum_below_zero, sum_below_add, single_one, single_full, some_less, sum_below_scale, one_of_sum, each_below}

@@ -9,8 +9,8 @@ use Rattle.std.proofs.Math.ListN.{get_or}
 use Rattle.std.proofs.lemmas.Bool.Decides.{nat_tests}
 use Rattle.aps_model.specs.Usage.{overlap}
 use Rattle.aps_model.specs.Due.{next_boundary}
-use Rattle.aps_laws.specs.Window.{Kept, Lane, Wide, lane_after, Walks, Tiles}
-use Rattle.aps_bound_laws.specs.Lanes.{lanes_at, in_window, is_of, is_ordinary, is_critical, paid, paid_of}
+use Rattle.aps_laws.specs.Window.{Kept, Lane, Wide, lane_after, Walks}
+use Rattle.aps_bound_laws.specs.Lanes.{lanes_at, in_window, paid}
 use Rattle.aps_bound_laws.specs.Debts.{debt, Resets, Never}
 
 -- a run that counts in the window began inside it

@@ -1,6 +1,6 @@
 -- What a pick in a legal history tells of its partition's budgets.
-use Rattle.std.proofs.Common.{◌≡◌, ℕ, zero, suc, ◌+◌, ◌-◌, ◌*◌, ◌/◌, ◌<◌, ◌≤◌, List, [], ◌∷◌, ◌++◌, length, map, refl, sym, ◌∙◌, ap, subst, Bool, true, false, not, nat_lt, Option, Some, None, slice_index_or, arith, ◌⊎◌, inl, inr}
-use Rattle.std.specs.List.{sum, sum_by, range_with_len}
+use Rattle.std.proofs.Common.{◌≡◌, ℕ, zero, suc, ◌+◌, ◌-◌, ◌*◌, ◌/◌, ◌<◌, ◌≤◌, List, [], ◌∷◌, ◌++◌, length, map, refl, sym, ◌∙◌, ap, subst, Bool, true, false, nat_lt, Option, Some, None, arith, ◌⊎◌, inl, inr}
+use Rattle.std.specs.List.{sum}
 use Rattle.std.proofs.Math.Nat.{mul_assoc, mul_comm}
 use Rattle.std.proofs.lemmas.Bool.{cases_lt}
 use Rattle.std.proofs.lemmas.Bool.Decides.{nat_tests}
@@ -15,15 +15,15 @@ use Rattle.aps_model.specs.declared.partition.PartitionRow.{PartitionRow}
 use Rattle.aps_model.specs.declared.shape.Shape.{Shape}
 use Rattle.aps_model.specs.declared.state.Facts.{Facts}
 use Rattle.aps_model.specs.After.{after, state_after}
-use Rattle.aps_model.specs.Budget.{all_parts, in_budget, no_part, part_at, part_facts}
+use Rattle.aps_model.specs.Budget.{all_parts, no_part, part_at, part_facts}
 use Rattle.aps_model.specs.Legal.{IsLegal}
 use Rattle.aps_model.specs.Merit.{class_of, is_critical_pick}
 use Rattle.aps_model.specs.Partition.{no_row, row_or_none}
-use Rattle.aps_model.specs.Pick.{greatest, missing}
+use Rattle.aps_model.specs.Pick.{greatest}
 use Rattle.aps_model.specs.Scenario.{Scenario}
 use Rattle.aps_model.specs.SchedulerState.{SchedulerState, cpu_at}
 use Rattle.aps_model.specs.Shape.{whole}
-use Rattle.aps_model.specs.Usage.{used, window_critical, window_used}
+use Rattle.aps_model.specs.Usage.{window_critical, window_used}
 use Rattle.aps_model.specs.Valid.{IsScenario}
 use Rattle.aps_laws.specs.Sizes.{IsSameSizes}
 use Rattle.aps_laws.specs.Window.{Kept, kept_if, lanes_at_start, pair_kept, still, wides}
@@ -99,7 +99,7 @@ some_in_budget scenario order h e r legal funded some =
     let count : length (lanes_at_start scenario) ≡ t.shape.cpus = length-replicate scenario.shape.cpus still ∙ sym sizes.cpus in
     let seats : 0 < length (lanes_at_start scenario) = let m = r.shape.some_cpu in omega (arith, m, count, sizes.cpus) in
     let less = budget.below tick (j + 1 - w) w j e.to n (lanes_at_start scenario) (wides scenario (h ++ e ∷ [])) pos some seats (boundary_above tick e.to pos) refl
-        (walks scenario order (h ++ e ∷ []) r legal).1 (lanes_late scenario e.to (h ++ e ∷ []) (latest scenario order r h e legal)) in
+    (walks scenario order (h ++ e ∷ []) r legal).1 (lanes_late scenario e.to (h ++ e ∷ []) (latest scenario order r h e legal)) in
     let uses : ℕ → ℕ = window_used t.shape (h ++ e ∷ []) j in
     let same : sum_below n (paid_of tick (j + 1 - w) (j + 1) (wides scenario (h ++ e ∷ []))) ≡ sum_below n uses =
     sum_below_same n (paid_of tick (j + 1 - w) (j + 1) (wides scenario (h ++ e ∷ []))) uses (λ p. used_is scenario tick (j + 1 - w) (j + 1) p (h ++ e ∷ [])) in

@@ -1,5 +1,5 @@
 -- Nobody is idle in a steady window.
-use Rattle.std.proofs.Common.{◌≡◌, ◌≢◌, ℕ, ◌+◌, ◌-◌, ◌*◌, ◌<◌, ◌≤◌, List, [], ◌∷◌, ◌++◌, length, refl, sym, ◌∙◌, ap, subst, append_assoc, Bool, true, false, ◌&&◌, nat_le, nat_lt, Option, Some, None, slice_set, slice_index_or, arith, inl, inr, ◌⊎◌}
+use Rattle.std.proofs.Common.{◌≡◌, ◌≢◌, ℕ, ◌+◌, ◌*◌, ◌<◌, ◌≤◌, List, [], ◌∷◌, ◌++◌, length, refl, sym, ◌∙◌, ap, subst, append_assoc, Bool, true, Option, Some, None, slice_set, slice_index_or, arith, inl, inr}
 use Rattle.std.specs.Prelude.{unwrap_or}
 use Rattle.std.proofs.lemmas.Bool.{cases_eq}
 use Rattle.std.proofs.lemmas.Bool.Decides.{nat_tests}
@@ -8,7 +8,7 @@ use Rattle.std.proofs.lemmas.Option.{slice_get_within, get_or_from_slice_get}
 use Rattle.aps_model.specs.declared.entry.Entry.{Entry}
 use Rattle.aps_model.specs.declared.entry.Order.{Order}
 use Rattle.aps_model.specs.After.{after, state_after}
-use Rattle.aps_model.specs.Due.{last_end, last_to, next_boundary}
+use Rattle.aps_model.specs.Due.{last_to, next_boundary}
 use Rattle.aps_model.specs.Legal.{IsLegal}
 use Rattle.aps_model.specs.Scenario.{Scenario}
 use Rattle.aps_model.specs.SchedulerState.{SchedulerState}
@@ -17,7 +17,7 @@ use Rattle.aps_model.specs.Usage.{overlap}
 use Rattle.aps_model.specs.Valid.{IsScenario}
 use Rattle.aps_laws.specs.Sound.{IsNext}
 use Rattle.aps_laws.specs.Window.{Kept, Lane, Walks, bills_of, lane_after, lanes_at_start, still, wide_of, wides, wides_from}
-use Rattle.aps_laws.proofs.MomentLaws.{last_own, last_other}
+use Rattle.aps_laws.proofs.MomentLaws.{last_other}
 use Rattle.aps_laws.proofs.Sound.{IsLast, legal_last, next_law, running_on, sound, tick_pos}
 use Rattle.aps_laws.proofs.StepOf.{horizon_same}
 use Rattle.aps_bound_laws.specs.Lanes.{in_window}
@@ -122,7 +122,7 @@ module _ (scenario : Scenario) (order : Order) (h : List Entry) (r : IsScenario 
       let lane = walk'.0 in
       let at : slice_index_or lanes e.cpu still ≡ lane = get_or_from_slice_get lanes e.cpu lane still walk'.1 in
       let rest = filled_from (g ++ e ∷ []) es (slice_set lanes e.cpu (lane_after (wide_of e t))) (same ∙ sym (append_assoc g (e ∷ []) es))
-          (busy_more g es e lanes same front (slice_get_within lanes e.cpu lane walk'.1) busy) walk'.5 in
+      (busy_more g es e lanes same front (slice_get_within lanes e.cpu lane walk'.1) busy) walk'.5 in
       subst (λ (u : SchedulerState). Filled s.shape.tick a (a + s.shape.window) (length s.rows) (wide_of e u ∷ wides_from scenario u (g ++ e ∷ []) es)) (state-append scenario g e)
       (bills_some g e lanes lane front at walk'.2 walk'.3 walk'.4 busy, rest)
 

@@ -1,6 +1,5 @@
 -- A fixed window and the one that was tested at a pick inside it.
 use Rattle.std.proofs.Common.{◌≡◌, ℕ, ◌+◌, ◌-◌, ◌*◌, ◌/◌, ◌<◌, ◌≤◌, Bool, true, false, ◌&&◌, if◌then◌else◌, nat_le, nat_lt, List, [], ◌∷◌, refl, arith}
-use Rattle.std.specs.List.{sum_by}
 use Rattle.std.proofs.lemmas.Bool.Decides.{nat_tests}
 use Rattle.std.proofs.lemmas.List.Sums.{sum_by-cons}
 use Rattle.std.proofs.Math.Nat.{mul-le-mul_right, div-mul-le_self, lt_of_mul-lt-mul_right}
@@ -20,14 +19,24 @@ counted_inside false k n le = omega arith
 pub used_inside : (tick p a b c d : ℕ) (h : List Entry) → c ≤ a → AllBefore (d * tick) h → used tick h p a b ≤ used tick h p c d
 used_inside tick p a b c d [] le before = omega arith
 used_inside tick p a b c d (e ∷ es) le before =
-    omega (arith, sum_by-cons (billed_by tick p a b) e es, sum_by-cons (billed_by tick p c d) e es, used_inside tick p a b c d es le before.1,
-    counted_inside (names e.billed p) (overlap tick a b e.from e.to) (overlap tick c d e.from e.to) (overlap_inside tick a b c d e.from e.to le before.0))
+    omega (
+      arith,
+      sum_by-cons (billed_by tick p a b) e es,
+      sum_by-cons (billed_by tick p c d) e es,
+      used_inside tick p a b c d es le before.1,
+      counted_inside (names e.billed p) (overlap tick a b e.from e.to) (overlap tick c d e.from e.to) (overlap_inside tick a b c d e.from e.to le before.0),
+    )
 
 pub critical_inside : (tick p a b c d : ℕ) (h : List Entry) → c ≤ a → AllBefore (d * tick) h → critical_used tick h p a b ≤ critical_used tick h p c d
 critical_inside tick p a b c d [] le before = omega arith
 critical_inside tick p a b c d (e ∷ es) le before =
-    omega (arith, sum_by-cons (critical_by tick p a b) e es, sum_by-cons (critical_by tick p c d) e es, critical_inside tick p a b c d es le before.1,
-    counted_inside (names e.billed p && e.critical) (overlap tick a b e.from e.to) (overlap tick c d e.from e.to) (overlap_inside tick a b c d e.from e.to le before.0))
+    omega (
+      arith,
+      sum_by-cons (critical_by tick p a b) e es,
+      sum_by-cons (critical_by tick p c d) e es,
+      critical_inside tick p a b c d es le before.1,
+      counted_inside (names e.billed p && e.critical) (overlap tick a b e.from e.to) (overlap tick c d e.from e.to) (overlap_inside tick a b c d e.from e.to le before.0),
+    )
 
 pub before_later : (m n : ℕ) (h : List Entry) → m ≤ n → AllBefore m h → AllBefore n h
 before_later m n [] le before = tt

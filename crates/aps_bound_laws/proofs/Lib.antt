@@ -15,3 +15,4 @@ pub mod Below
 pub mod BoundLaws
 pub mod SteadyTicks
 pub mod Audited
+pub mod Rows

@@ -1,7 +1,6 @@
 -- Where no partition with a budget lacks a candidate, the pick has class 1.
-use Rattle.std.proofs.Common.{◌≡◌, ℕ, zero, suc, ◌+◌, ◌*◌, ◌≤◌, ◌<◌, List, [], ◌∷◌, length, refl, sym, ◌∙◌, ap, subst, Bool, true, false, not, ◌&&◌, ◌||◌, cond, nat_eq, nat_lt, Option, Some, None, arith, ◌⊎◌, inl, inr}
-use Rattle.std.specs.List.{find, list_any, fold, range_with_len, AllByRecursion}
-use Rattle.std.specs.Option.{option_map}
+use Rattle.std.proofs.Common.{◌≡◌, ℕ, zero, suc, ◌+◌, ◌≤◌, ◌<◌, List, [], ◌∷◌, length, refl, sym, ◌∙◌, ap, Bool, true, false, not, ◌&&◌, ◌||◌, cond, nat_eq, nat_lt, Some, None, arith, ◌⊎◌, inl, inr}
+use Rattle.std.specs.List.{find, list_any, range_with_len}
 use Rattle.std.proofs.lemmas.Bool.Decides.{nat_tests}
 use Rattle.std.proofs.lemmas.Bool.{eqb-true}
 use Rattle.aps_model.specs.declared.merit.Contender.{Contender}
@@ -12,9 +11,8 @@ use Rattle.aps_model.specs.declared.shape.Free.TheVariants.{Priority, Ratio}
 use Rattle.aps_model.specs.declared.state.Facts.{Facts}
 use Rattle.aps_model.specs.Budget.{part_at}
 use Rattle.aps_model.specs.Merit.{class_of, is_critical_pick, is_greater}
-use Rattle.aps_model.specs.Pick.{better, candidates, greatest, merit_among, missing}
-use Rattle.aps_model.proofs.GreatestLaws.{IsUnbeaten, beats, greatest-some, greatest-unbeaten}
-use Rattle.aps_bound_laws.proofs.Chosen.{keeps_of}
+use Rattle.aps_model.specs.Pick.{candidates, greatest, merit_among, missing}
+use Rattle.aps_model.proofs.GreatestLaws.{IsUnbeaten, greatest-some, greatest-unbeaten}
 
 -- a number that the test finds nowhere below n fails it
 find_none : (p : ℕ → Bool) (a n q : ℕ) → find p (range_with_len a n) ≡ None → a ≤ q → q < a + n → p q ≡ false

@@ -1,33 +1,12 @@
 -- Steady ticks among steady ticks, and the loaded tick.
-use Rattle.std.proofs.Common.{◌≡◌, ℕ, zero, suc, ◌+◌, ◌-◌, ◌*◌, ◌/◌, ◌<◌, ◌≤◌, List, [], ◌∷◌, ◌++◌, length, refl, sym, ◌∙◌, ap, subst, Bool, true, false, not, cond, if◌then◌else◌, ◌&&◌, ◌||◌, nat_eq, nat_le, nat_lt, Option, Some, None, arith, ◌⊎◌, inl, inr}
-use Rattle.std.specs.Prelude.{IsTrue, IsFalse, IfSome, unwrap_or, min, is_some}
-use Rattle.std.specs.List.{All, find, fold, list_any, range_with_len}
+use Rattle.std.proofs.Common.{◌≡◌, ℕ, ◌+◌, ◌/◌, ◌≤◌, List, [], ◌∷◌, refl, sym, ◌∙◌, ap, Bool, true, false, not, cond, ◌&&◌, ◌||◌, nat_le, nat_lt, Option, Some, None, arith}
+use Rattle.std.specs.Prelude.{unwrap_or, is_some}
+use Rattle.std.specs.List.{find, list_any, range_with_len}
 use Rattle.std.proofs.lemmas.Bool.Decides.{nat_tests}
-use Rattle.aps_model.specs.declared.audit.Worst.{Worst}
 use Rattle.aps_model.specs.declared.command.Change.{Change}
 use Rattle.aps_model.specs.declared.entry.Entry.{Entry}
-use Rattle.aps_model.specs.declared.entry.Order.{Order}
 use Rattle.aps_model.specs.declared.shape.Shape.{Shape}
-use Rattle.aps_model.specs.After.{state_after}
-use Rattle.aps_model.specs.Audit.{allowance, audit_of, critical_over_from, over_from, used_from, worse, worst_of}
-use Rattle.aps_model.specs.Bound.{IsWithinBudget, IsWithinCritical, KeepsCriticalBound, KeepsWindowBound, slack}
-use Rattle.aps_model.specs.Due.{last_end, last_to}
-use Rattle.aps_model.specs.History.{History, Rooms}
-use Rattle.aps_model.specs.Legal.{IsLegal}
-use Rattle.aps_model.specs.Loaded.{finished_ticks, has_change, has_starved, is_among, is_steady, IsSteady, loaded_tick, loaded_windows, state_of_tick}
-use Rattle.aps_model.specs.Partition.{row_or_none}
-use Rattle.aps_model.specs.Recorded.{recorded}
-use Rattle.aps_model.specs.Scenario.{Scenario}
-use Rattle.aps_model.specs.SchedulerState.{SchedulerState}
-use Rattle.aps_model.specs.Shape.{whole}
-use Rattle.aps_model.specs.Usage.{critical_used, used}
-use Rattle.aps_model.specs.Valid.{IsScenario}
-use Rattle.aps_laws.specs.Sizes.{IsSameSizes}
-use Rattle.aps_laws.specs.Moments.{moment}
-use Rattle.aps_laws.proofs.MomentLaws.{moment-append}
-use Rattle.aps_laws.proofs.Sound.{sound, tick_pos}
-use Rattle.aps_bound_laws.specs.Loaded.{IsLoaded, IsSettled, IsUncritical, KeepsLast}
-use Rattle.aps_bound_laws.proofs.Below.{finished_end}
+use Rattle.aps_model.specs.Loaded.{finished_ticks, has_change, has_starved, is_among, is_steady, loaded_tick}
 use Rattle.aps_bound_laws.proofs.BoundLaws.{steady_parts}
 
 -- where nothing passes a test, nothing passes a stricter one

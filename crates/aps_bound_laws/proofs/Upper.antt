@@ -4,11 +4,9 @@ use Rattle.std.specs.List.{sum_by}
 use Rattle.std.proofs.lemmas.List.Sums.{sum_by-cons}
 use Rattle.std.proofs.Math.Nat.{mul-add}
 use Rattle.aps_model.specs.Usage.{overlap}
-use Rattle.aps_laws.specs.Window.{Kept, Lane, Wide, lane_after, Walks, Tiles}
-use Rattle.aps_bound_laws.specs.Lanes.{lanes_at, in_window, is_of, is_ordinary, is_critical, paid, paid_of}
+use Rattle.aps_laws.specs.Window.{Kept, Lane, Wide, Walks}
+use Rattle.aps_bound_laws.specs.Lanes.{is_of, is_ordinary, is_critical, paid, paid_of}
 use Rattle.aps_bound_laws.specs.Debts.{debt, Resets, Never}
-use Rattle.aps_bound_laws.specs.Sums.{sum_below}
-use Rattle.aps_bound_laws.specs.Pasts.{past, Filled}
 use Rattle.aps_bound_laws.proofs.Debts.{walk, walk_none}
 
 two_tests : (k : ℕ) (one mark : Bool) → (if one then k else 0) ≡ (if one && not mark then k else 0) + (if one && mark then k else 0)

@@ -1,5 +1,5 @@
 -- What the wide entries of a history add up to, and what their picks say.
-use Rattle.std.proofs.Common.{◌≡◌, ℕ, ◌+◌, ◌*◌, ◌≤◌, Bool, true, false, if◌then◌else◌, ◌&&◌, not, List, [], ◌∷◌, ◌++◌, refl, sym, ◌∙◌, ap, subst, append_assoc, Option, Some, None, arith}
+use Rattle.std.proofs.Common.{◌≡◌, ℕ, ◌+◌, ◌*◌, ◌≤◌, Bool, true, false, if◌then◌else◌, ◌&&◌, not, List, [], ◌∷◌, ◌++◌, refl, sym, ◌∙◌, subst, append_assoc, Option, Some, None, arith}
 use Rattle.std.specs.List.{sum_by}
 use Rattle.std.proofs.lemmas.List.Sums.{sum_by-cons, sum_by_push}
 use Rattle.aps_model.specs.declared.entry.Entry.{Entry}
@@ -82,8 +82,7 @@ resets_from scenario counts f tick a b scale limit all h (e ∷ es) is same with
     let t = state_after scenario (h ++ e ∷ []) in
     let n : sum_by f h + paid counts tick a b (wide_of e t) ≡ sum_by f (h ++ e ∷ []) = omega (arith, sum_by_push f h e, same e t) in
     let rest = resets_from scenario counts f tick a b scale limit all (h ++ e ∷ []) es (is ∙ sym (append_assoc h (e ∷ []) es)) same within in
-    subst (λ (u : SchedulerState). Resets counts tick a b scale limit (sum_by f h) (wide_of e u ∷ wides_from scenario u (h ++ e ∷ []) es)) (state-append scenario h e)
-    (
+    subst (λ (u : SchedulerState). Resets counts tick a b scale limit (sum_by f h) (wide_of e u ∷ wides_from scenario u (h ++ e ∷ []) es)) (state-append scenario h e) (
       λ counted inside. subst (λ k. scale * k ≤ limit) (sym n) (within h es e is counted inside),
       subst (λ k. Resets counts tick a b scale limit k (wides_from scenario t (h ++ e ∷ []) es)) (sym n) rest,
     )
