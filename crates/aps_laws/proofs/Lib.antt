@@ -29,3 +29,11 @@ pub mod Chains
 pub mod Words
 pub mod Grown
 pub mod StepGrown
+pub mod EachThread
+pub mod ThreadSteps
+pub mod EachStep
+pub mod Programs
+pub mod RowsGrow
+pub mod ThreadFit
+pub mod Counts
+pub mod StampCounts
