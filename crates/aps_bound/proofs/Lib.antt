@@ -1,0 +1,5 @@
+pub mod Folds
+pub mod Ends
+pub mod Steadiness
+pub mod Sums
+pub mod Growth
