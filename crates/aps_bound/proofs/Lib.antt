@@ -3,3 +3,4 @@ pub mod Ends
 pub mod Steadiness
 pub mod Sums
 pub mod Growth
+pub mod LoneSystem

@@ -10,4 +10,7 @@ mod recount;
 mod usage;
 mod worst;
 
+#[cfg(test)]
+mod tests;
+
 pub use recount::audit;
