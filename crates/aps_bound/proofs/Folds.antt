@@ -1,5 +1,5 @@
 -- Folds over ranges.
-use Rattle.std.proofs.Common.{◌≡◌, ℕ, zero, suc, ◌+◌, ◌≤◌, List, [], ◌∷◌, refl, ap, ◌∙◌, add-one, min, arith}
+use Rattle.std.proofs.Common.{◌≡◌, ℕ, zero, suc, ◌+◌, ◌≤◌, ap, ◌∙◌, add-one, min, arith}
 use Rattle.std.specs.List.{fold, range_with_len}
 
 fold_suc : {A : Type 0} (f : A → ℕ → A) (z : A) (a n : ℕ) → fold f z (range_with_len a (suc n)) ≡ f (fold f z (range_with_len a n)) (a + n)

@@ -1,12 +1,12 @@
 -- The audit as it grows by windows is that over all windows.
-use Rattle.std.proofs.Common.{◌≡◌, ℕ, ◌+◌, ◌-◌, ◌≤◌, List, [], ◌∷◌, length, max, refl, sym, ◌∙◌, ap, Option, None, arith}
+use Rattle.std.proofs.Common.{◌≡◌, ℕ, ◌+◌, ◌-◌, ◌≤◌, List, [], ◌∷◌, length, max, refl, ◌∙◌, ap, Option, None, arith}
 use Rattle.std.specs.List.{fold, range_with_len}
 use Rattle.aps_model.specs.declared.audit.Audit.{Audit}
 use Rattle.aps_model.specs.declared.audit.Worst.{Worst}
 use Rattle.aps_model.specs.declared.command.Change.{Change}
 use Rattle.aps_model.specs.declared.entry.Entry.{Entry}
 use Rattle.aps_model.specs.declared.shape.Shape.{Shape}
-use Rattle.aps_model.specs.Audit.{audit_of, critical_over_from, over_from, short_from, worse}
+use Rattle.aps_model.specs.Audit.{audit_of, critical_over_from, over_from, short_from}
 use Rattle.aps_model.specs.History.{History}
 use Rattle.aps_model.specs.Loaded.{finished_ticks, loaded_tick, loaded_windows}
 use Rattle.aps_bound.specs.Worst.{with_partition, with_partitions, with_window, worst_with}

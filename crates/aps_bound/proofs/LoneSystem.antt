@@ -1,6 +1,6 @@
 -- A scenario of `System` alone is valid.
 use lib.Chars.{codes}
-use Rattle.std.proofs.Common.{◌≡◌, ◌<◌, ℕ, zero, suc, List, [], ◌∷◌, refl, sym, subst, inl, arith, false}
+use Rattle.std.proofs.Common.{◌≡◌, ◌<◌, ℕ, zero, suc, List, [], ◌∷◌, refl, inl, arith, false}
 use Rattle.std.specs.List.{IsDistinct}
 use Rattle.std.proofs.lemmas.List.Elements.{All-from_recursion, All-nil}
 use Rattle.aps_model.specs.declared.command.CommandRow.{CommandRow}

@@ -1,5 +1,5 @@
 -- The sums of a window, of all partitions at once.
-use Rattle.std.specs.Prelude.{◌≡◌, ℕ, ◌+◌, ◌*◌, ◌<◌, ◌≤◌, ◌^◌, List, length, if◌then◌else◌, ◌&&◌, slice_index}
+use Rattle.std.specs.Prelude.{◌≡◌, ℕ, ◌+◌, ◌<◌, ◌^◌, List, if◌then◌else◌, ◌&&◌, slice_index}
 use Rattle.aps_model.specs.declared.entry.Entry.{Entry}
 use Rattle.aps_model.specs.Usage.{critical_used, names, used}
 use Rattle.aps_bound.specs.declared.usage.Usage.{Usage}

@@ -1,5 +1,5 @@
 -- The audit so far, as it grows by windows and by partitions.
-use Rattle.std.specs.Prelude.{ℕ, ◌+◌, List, length, Option, None}
+use Rattle.std.specs.Prelude.{ℕ, length, Option}
 use Rattle.std.specs.List.{fold, range_with_len}
 use Rattle.aps_model.specs.declared.audit.Audit.{Audit}
 use Rattle.aps_model.specs.declared.audit.Worst.{Worst}

@@ -3,14 +3,12 @@
 //! starved partition.
 #![tactic(auto)]
 
-
 mod finished;
 mod loaded;
 mod recount;
-mod usage;
-mod worst;
-
 #[cfg(test)]
 mod tests;
+mod usage;
+mod worst;
 
 pub use recount::audit;

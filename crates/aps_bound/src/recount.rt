@@ -70,8 +70,18 @@ fn with_partition(history: &History, usage: &Usage, audit: &Audit, a: u64, p: us
     let window = a as u32;
     Audit {
         loaded_from: audit.loaded_from,
-        worst_over: worse(&audit.worst_over, spent.saturating_sub(allowed), partition, window),
-        worst_short: worse(&audit.worst_short, allowed.saturating_sub(spent), partition, window),
+        worst_over: worse(
+            &audit.worst_over,
+            spent.saturating_sub(allowed),
+            partition,
+            window,
+        ),
+        worst_short: worse(
+            &audit.worst_short,
+            allowed.saturating_sub(spent),
+            partition,
+            window,
+        ),
         critical_worst: worse(&audit.critical_worst, critical, partition, window),
     }
 }

@@ -3,8 +3,8 @@ ghost use Rattle.std.specs.Prelude.{◌≡◌, ◌≤◌, [], length, IfOk};
 
 use crate::audit;
 use aps_model::{
-    Audit, Bankruptcy, Change, ChangeKind, CpuId, Done, Entry, Free, History, Nanos, NoMemory,
-    Name, PartitionId, PartitionRow, Scenario, Shape, Worst,
+    Audit, Bankruptcy, Change, ChangeKind, CpuId, Done, Entry, Free, History, Name, Nanos,
+    NoMemory, PartitionId, PartitionRow, Scenario, Shape, Worst,
 };
 use std::alloc::Global;
 use std::test::Fail;

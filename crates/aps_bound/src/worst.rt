@@ -15,7 +15,12 @@ pub fn allowance(shape: &Shape, budget: u16) -> Nanos
 }
 
 /// The worst so far, unless this amount is greater.
-pub fn worse(best: &Option<Worst>, amount: Nanos, partition: PartitionId, window: u32) -> Option<Worst>
+pub fn worse(
+    best: &Option<Worst>,
+    amount: Nanos,
+    partition: PartitionId,
+    window: u32,
+) -> Option<Worst>
     ensures { result ≡ worse best.now (record { amount = amount; partition = partition; window = window }) }
 {
     match best {

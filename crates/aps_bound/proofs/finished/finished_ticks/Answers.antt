@@ -1,4 +1,4 @@
-use Rattle.std.proofs.Common.{◌≡◌, ℕ, ◌≤◌, ◌/◌, ◌∙◌, sym, ap, subst, refl, min, arith, slice_index}
+use Rattle.std.proofs.Common.{◌≡◌, ℕ, ◌≤◌, ◌/◌, ◌∙◌, sym, ap, subst, min, arith, slice_index}
 use Rattle.std.specs.List.{fold, range_with_len}
 use Rattle.aps_model.specs.Due.{last_end}
 use Rattle.aps_model.specs.Loaded.{finished_ticks}

@@ -1,4 +1,4 @@
-use Rattle.std.proofs.Common.{◌≡◌, ℕ, ◌<◌, arith, length-set, ◌∙◌}
+use Rattle.std.proofs.Common.{arith, length-set, ◌∙◌}
 use Rattle.aps_bound.proofs.Ends.{ends-more}
 use Rattle.aps_bound.proofs.finished.last_ends.Goals as goal
 

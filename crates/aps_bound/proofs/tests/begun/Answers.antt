@@ -1,4 +1,3 @@
-use Rattle.std.proofs.Common.{◌≡◌, sym, subst, ap}
 use Rattle.aps_bound.proofs.LoneSystem.{alone_valid}
 use Rattle.aps_bound.proofs.tests.begun.Goals as goal
 

@@ -1,4 +1,4 @@
-use Rattle.std.proofs.Common.{◌≡◌, ℕ, ◌*◌, ◌<◌, ◌≤◌, slice_index, take}
+use Rattle.std.proofs.Common.{ℕ, ◌*◌, ◌<◌, ◌≤◌, slice_index, take}
 use Rattle.aps_bound.specs.Usage.{IsUsage}
 use Rattle.aps_bound.proofs.usage.usage_in.Given as goal
 
