@@ -214,13 +214,3 @@ in_range scenario order h r legal =
       where
         none : (y : ℕ) → None ≡ Some y → ⊥
         none y e = cc
-
--- rows never go away
-pub rows_stay : (scenario : Scenario) (order : Order) (h : List Entry) (e : Entry) → IsScenario scenario → IsLegal scenario order (h ++ e ∷ []) → length (state_after scenario h).rows ≤ length (state_after scenario (h ++ e ∷ [])).rows
-rows_stay scenario order h e r legal =
-    let last = legal_last scenario order h e legal in
-    let g = (sound scenario order r h last.0).grounded in
-    let s = state_after scenario h in
-    let stand : IsStanding scenario s e.cpu = record { names = names_channels scenario r; plain = g.plain; kept = g.kept; call = g.sizes.call_ns } in
-    let more : length s.rows ≤ length (step scenario s h e.cpu).state.rows = let x = step_rows scenario s h e.cpu stand in let y = rows_begun scenario s h e.cpu (due s h e.cpu) in omega (arith, x, y) in
-    subst (λ (a : After). length s.rows ≤ length a.state.rows) (sym (after-append scenario h e)) more

@@ -36,3 +36,4 @@ pub mod ListsFit
 pub mod IdsLaw
 pub mod Servers
 pub mod SmallNumbers
+pub mod EnoughThreads
