@@ -37,3 +37,4 @@ pub mod IdsLaw
 pub mod Servers
 pub mod SmallNumbers
 pub mod EnoughThreads
+pub mod BetweenLaw
