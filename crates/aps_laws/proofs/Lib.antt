@@ -48,3 +48,5 @@ pub mod ListsFit
 pub mod IdsLaw
 pub mod Servers
 pub mod SmallNumbers
+pub mod EnoughThreads
+pub mod BetweenLaw

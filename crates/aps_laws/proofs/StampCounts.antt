@@ -91,10 +91,10 @@ commanded : (h : List Entry) (j : ℕ) (s t : SchedulerState) (c : ℕ × Comman
 commanded h j s t c m = command_by h j t c (IsSameStamps s) (IsSameStamps s) (λ mid rows shape replies changes q sizes. record { stamps = q.stamps; count = q.count }) m (λ x own. record { stamps = m.stamps; count = length-set t.threads x _ ∙ m.count })
 
 -- no more stamps than one for each thread
-abbrev IsOneEach : SchedulerState → SchedulerState → Type 0
+abbrev pub IsOneEach : SchedulerState → SchedulerState → Type 0
 IsOneEach s t = t.stamps ≤ s.stamps + length s.threads
 
-ticked_stamps : (scenario : Scenario) (s : SchedulerState) (h : List Entry) (now : ℕ) → IsOneEach s (tick_work scenario s h now)
+pub ticked_stamps : (scenario : Scenario) (s : SchedulerState) (h : List Entry) (now : ℕ) → IsOneEach s (tick_work scenario s h now)
 ticked_stamps scenario s h now = by_test (has_tick_work s h now)
   where
     by_test : (t : Bool) → IsOneEach s (elim t [
@@ -177,7 +177,7 @@ given_stamps scenario s x (Receiving d) = omega arith
 given_stamps scenario s x (Replying y) = omega arith
 given_stamps scenario s x Gone = omega arith
 
-settled_stamps : (scenario : Scenario) (s : SchedulerState) (now : ℕ) (running : Option Pick) → (settled scenario s now running).state.stamps ≤ s.stamps + 2
+pub settled_stamps : (scenario : Scenario) (s : SchedulerState) (now : ℕ) (running : Option Pick) → (settled scenario s now running).state.stamps ≤ s.stamps + 2
 settled_stamps scenario s now None = omega arith
 settled_stamps scenario s now (Some p) =
     let did = (finish_op scenario s p.thread now (thread_at s p.thread).left).state in
@@ -191,7 +191,7 @@ chosen_stamps : (s : SchedulerState) (ps : List PartFacts) (c : ℕ) (best : Opt
 chosen_stamps s ps c None = refl
 chosen_stamps s ps c (Some b) = refl
 
-tested_stamps : (scenario : Scenario) (s : SchedulerState) (h : List Entry) (c : ℕ) → (tested_at scenario s h c).state.stamps ≤ s.stamps + length s.threads
+pub tested_stamps : (scenario : Scenario) (s : SchedulerState) (h : List Entry) (c : ℕ) → (tested_at scenario s h c).state.stamps ≤ s.stamps + length s.threads
 tested_stamps scenario s h c =
     let e = bill_at s h c in
     let s1 = begun scenario s h c (due s h c) in
