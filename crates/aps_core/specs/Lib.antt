@@ -1,0 +1,4 @@
+pub mod Plain
+pub mod Small
+pub mod Scan
+pub mod MachineView
