@@ -10,8 +10,8 @@ loop-x-preserved c =
       | in-Some w ↦ record {
         same = grind (arith, common_steps, greatest_ready c.args.self.now.shape.free c.args.parts.now c.args.self.now c.loop-x.x);
         partition = search rules;
-        uncritical = search rules;
-        thread = search rules;
+        uncritical = rw w.best-is (w.better-best.ensures.uncritical w.in-Some.ensures.within.2 c.loop-x.invariant.uncritical);
+        thread = rw w.best-is (w.better-best.ensures.below _ w.in-Some.ensures.within.0 c.loop-x.invariant.thread);
       }
       | in_default w ↦ record {
         same = grind (arith, common_steps, greatest_other c.args.self.now.shape.free c.args.parts.now c.args.self.now c.loop-x.x);
