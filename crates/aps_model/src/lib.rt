@@ -6,6 +6,7 @@ pub mod command;
 pub mod entry;
 pub mod history;
 pub mod ids;
+pub mod laws;
 pub mod merit;
 pub mod name;
 pub mod partition;
