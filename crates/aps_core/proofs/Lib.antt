@@ -1,2 +1,4 @@
 pub mod Ranges
 pub mod Scan
+pub mod PlainStep
+pub mod PickStep

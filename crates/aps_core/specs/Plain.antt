@@ -54,3 +54,12 @@ pub record IsPlain (s : SchedulerState) : Type 0 where
 pub record IsBounded (s : SchedulerState) (steps : ℕ) : Type 0 where
   pub stamps : s.stamps ≤ length s.threads + steps
   pub since : All (λ (t : ThreadNow). t.since ≤ 10000000 * steps) s.threads
+
+-- what no step of a plain scenario changes
+pub record IsKept (s t : SchedulerState) : Type 0 where
+  pub rows : t.rows ≡ s.rows
+  pub shape : t.shape ≡ s.shape
+  pub threads : length t.threads ≡ length s.threads
+  pub cpus : length t.cpus ≡ length s.cpus
+  pub replies : t.replies ≡ s.replies
+  pub changes : t.changes ≡ s.changes
