@@ -9,7 +9,7 @@ use Rattle.aps_model.specs.Budget.{all_parts}
 use Rattle.aps_model.specs.Flag.{flag_for, with_flag}
 use Rattle.aps_model.specs.Pick.{contenders, greatest, missing}
 use Rattle.aps_model.specs.SchedulerState.{SchedulerState}
-use Rattle.aps_model.specs.Step.{Step, chosen, pick}
+use Rattle.aps_model.specs.Step.{chosen, pick}
 
 chosen_shape : (s : SchedulerState) (parts : List PartFacts) (c : ℕ) (best : Option Contender) → (chosen s parts c best).shape ≡ s.shape
 chosen_shape s parts c None = refl

@@ -1,5 +1,5 @@
 -- The parts of a step of a plain scenario: ticks have no work, and nobody becomes bankrupt.
-use Rattle.std.proofs.Common.{◌≡◌, ◌≢◌, ℕ, ◌/◌, ◌++◌, ◌&&◌, List, [], ◌∷◌, length, refl, sym, ◌∙◌, ap, cond, false, true, Bool, Option, Some, None, inl, inr, arith, nat_eq, nat_lt}
+use Rattle.std.proofs.Common.{◌≡◌, ◌≢◌, ℕ, ◌/◌, ◌++◌, ◌&&◌, List, [], ◌∷◌, length, refl, sym, ◌∙◌, ap, cond, false, true, Bool, Option, Some, None, inl, inr, nat_eq, nat_lt}
 use Rattle.std.specs.List.{enumerate_from, filter, filter_map, fold, range_with_len}
 use Rattle.std.proofs.lemmas.Bool.{cases_lt}
 use Rattle.std.proofs.lemmas.List.{get_or_past}
@@ -20,7 +20,7 @@ use Rattle.aps_model.specs.Due.{due, last_end}
 use Rattle.aps_model.specs.Messages.{Effect}
 use Rattle.aps_model.specs.Shape.{horizon}
 use Rattle.aps_model.specs.Step.{Step, begun, billed, complete, pick, settled, step, tested, unless_rebooted}
-use Rattle.aps_model.specs.TickWork.{do_command, do_commands, has_tick_work, insert_sleeper, tick_work, wake_all, waking, wakes_at}
+use Rattle.aps_model.specs.TickWork.{do_command, do_commands, has_tick_work, insert_sleeper, tick_work, wake_all, wakes_at}
 use Rattle.aps_core.specs.Plain.{IsAwake, IsEndless, IsPlain, IsPlainPick}
 use Rattle.aps_laws.proofs.WaitFacts.{test_eq, test_ne}
 

@@ -1,5 +1,5 @@
 -- The greatest candidate and the candidates of a partition, found in one pass over the threads.
-use Rattle.std.proofs.Common.{nat_eq, ◌||◌, ◌&&◌, ◌≡◌, ℕ, ◌+◌, List, [], ◌∷◌, ◌++◌, refl, ◌∙◌, ap, cond, Bool, true, false, Some, None, arith}
+use Rattle.std.proofs.Common.{nat_eq, ◌||◌, ◌&&◌, ◌≡◌, ℕ, ◌+◌, List, [], ◌∷◌, ◌++◌, refl, ◌∙◌, ap, cond, Bool, true, false, None, arith}
 use Rattle.std.specs.List.{fold, list_any}
 use Rattle.std.proofs.lemmas.List.Folds.{list_any-append}
 use Rattle.std.proofs.lemmas.List.Elements.{filter-append}

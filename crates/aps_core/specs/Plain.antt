@@ -1,4 +1,4 @@
-use Rattle.std.specs.Prelude.{◌≡◌, ℕ, ◌+◌, ◌*◌, ◌<◌, ◌≤◌, List, [], ◌∷◌, length, All, false, Option, Some, None, ⊤}
+use Rattle.std.specs.Prelude.{◌≡◌, ℕ, ◌+◌, ◌*◌, ◌<◌, ◌≤◌, [], ◌∷◌, length, All, false, Option, Some, None, ⊤}
 use Rattle.aps_model.specs.declared.program.Op.TheVariants.{Forever}
 use Rattle.aps_model.specs.declared.scenario.ThreadRow.{ThreadRow}
 use Rattle.aps_model.specs.declared.state.CpuNow.{CpuNow}
@@ -52,7 +52,7 @@ pub record IsPlain (s : SchedulerState) : Type 0 where
 
 -- stamps and times after so many steps, each of which gives one stamp at most and lasts one tick at most
 pub record IsBounded (s : SchedulerState) (steps : ℕ) : Type 0 where
-  pub stamps : s.stamps ≤ length s.threads + steps
+  pub stamps : s.stamps ≤ 1024 + steps
   pub since : All (λ (t : ThreadNow). t.since ≤ 10000000 * steps) s.threads
 
 -- what no step of a plain scenario changes

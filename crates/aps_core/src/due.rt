@@ -1,4 +1,5 @@
 ghost use Rattle.std.specs.Prelude.{◌≡◌, ◌+◌, ◌<◌, ◌≤◌, All, IfSome};
+ghost use Rattle.aps_model.specs.After.{stands_at};
 ghost use Rattle.aps_model.specs.Due.{last_to, last_end, next_boundary, due_at};
 ghost use Rattle.aps_model.specs.History.{IsEntry};
 ghost use Rattle.aps_model.specs.Shape.{IsShape, horizon};
@@ -30,6 +31,16 @@ pub fn last_end(entries: &[Entry], cpu: CpuId) -> Nanos
     last_to(entries, cpu).unwrap_or(0)
 }
 
+/// Whether a processor's last entry ended at this moment.
+pub fn stands_at(moment: Nanos, last: Option<Nanos>) -> bool
+    ensures { result ≡ stands_at moment last }
+{
+    match last {
+        None => false,
+        Some(to) => to == moment,
+    }
+}
+
 /// The first boundary after a moment.
 pub fn next_boundary(tick: u64, moment: Nanos) -> Nanos
     requires some { 0 < tick }
@@ -42,12 +53,7 @@ pub fn next_boundary(tick: u64, moment: Nanos) -> Nanos
 }
 
 /// When a processor steps next, by its flag, the end of its last entry, and what is left of its operation.
-pub fn due_at(
-    shape: &Shape,
-    flag: Option<Nanos>,
-    last: Option<Nanos>,
-    left: Option<Nanos>,
-) -> Nanos
+pub fn due_at(shape: &Shape, flag: Option<Nanos>, last: Option<Nanos>, left: Option<Nanos>) -> Nanos
     requires shape { IsShape shape.now }
     requires last { IfSome last (λ to. to ≤ 10000000000000) }
     ensures { result ≡ due_at shape.now.tick (horizon shape.now) flag last left }

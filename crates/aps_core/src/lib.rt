@@ -5,7 +5,9 @@
 mod due;
 mod machine;
 mod merit;
+mod simulator;
 mod turn;
 mod usage;
 
+pub use simulator::Core;
 pub use turn::Turn;

@@ -1,19 +1,20 @@
-ghost use Rattle.std.specs.Prelude.{◌≡◌, ℕ, ◌+◌, ◌-◌, ◌*◌, ◌<◌, ◌≤◌, ◌/◌, ◌^◌, [], length, replicate, All, IfSome, IfOk, Option, List, Some, None};
+ghost use Rattle.std.specs.Prelude.{◌≡◌, ℕ, ◌+◌, ◌-◌, ◌*◌, ◌<◌, ◌≤◌, ◌/◌, ◌^◌, ◌++◌, [], ◌∷◌, length, replicate, All, IfSome, IfOk, Option, List, Some, None};
 ghost use Rattle.std.specs.Option.{option_map};
 ghost use Rattle.aps_model.specs.declared.entry.Entry.{Entry};
 ghost use Rattle.aps_model.specs.declared.scenario.ThreadRow.{ThreadRow};
 ghost use Rattle.aps_model.specs.declared.program.Op.TheVariants.{Forever};
+ghost use Rattle.aps_model.specs.declared.shape.Shape.{Shape};
 ghost use Rattle.aps_model.specs.Bill.{bill_of};
 ghost use Rattle.aps_model.specs.History.{IsEntry};
 ghost use Rattle.aps_model.specs.Scenario.{Scenario as ScenarioOf};
+ghost use Rattle.aps_model.specs.Opening.{start_threads};
 ghost use Rattle.aps_model.specs.SchedulerState.{idle};
 ghost use Rattle.aps_model.specs.Shape.{IsShape, horizon};
 
 mod flag;
 mod pick;
 
-use crate::due;
-use crate::usage;
+use crate::{due, merit, usage};
 use aps_model::{
     Contender, CpuId, CpuNow, Done, Entry, Facts, Nanos, NoMemory, PartFacts, PartitionRow, Pick,
     Policy, Scenario, Shape, State, ThreadId, ThreadNow, ThreadRow,
@@ -46,6 +47,31 @@ impl Model for Machine {
 }
 
 impl Machine {
+    ghost use Rattle.aps_model.specs.Opening.{opening};
+    ghost use Rattle.aps_core.specs.Plain.{IsBounded, IsPlainScenario};
+
+    /// The state at the start of a plain scenario. It takes all the memory that the steps need.
+    pub fn boot(alloc: Global, scenario: &Scenario) -> Result<Machine, NoMemory>
+        requires { IsPlainScenario scenario.now }
+        ensures same { IfOk result (λ m. m ≡ opening scenario.now) }
+        ensures bounded { IfOk result (λ m. IsBounded m 0) }
+    {
+        let mut rows = Vec::with_capacity(alloc, 32)?;
+        rows.extend_from_slice(scenario.partitions())?;
+        let shape = *scenario.shape();
+        let threads = start_threads(alloc, scenario.threads())?;
+        let stamps = threads.len() as u64;
+        let cpus = start_cpus(alloc, shape.cpus)?;
+        Ok(Machine {
+            rows,
+            shape,
+            threads,
+            stamps,
+            channels: scenario.channels().len() as u16,
+            cpus,
+        })
+    }
+
     ghost use Rattle.aps_model.specs.Due.{due};
 
     /// When the processor steps next.
@@ -60,6 +86,39 @@ impl Machine {
             Some(pick) => self.threads[pick.thread.index()].left,
         };
         due::due_at(&self.shape, now.flag, due::last_to(entries, cpu), left)
+    }
+
+    ghost use Rattle.aps_model.specs.Due.{first_due};
+    ghost use Rattle.aps_model.specs.After.{is_at_horizon};
+
+    /// The lowest of the processors that are due least.
+    pub fn first_due(&self, entries: &[Entry]) -> CpuId
+        requires { All IsEntry entries.now }
+        ensures same { result ≡ first_due self.now entries.now self.now.shape.cpus }
+        ensures within { result < length self.now.cpus }
+    {
+        let mut first = CpuId::at(0);
+        for c in 0..self.cpus.len() {
+            let cpu = CpuId::at(c);
+            if self.due(entries, cpu) < self.due(entries, first) {
+                first = cpu;
+            }
+        }
+        first
+    }
+
+    /// Whether each processor has stepped at the horizon.
+    pub fn is_at_horizon(&self, entries: &[Entry]) -> bool
+        requires { All IsEntry entries.now }
+        ensures { result ≡ is_at_horizon self.now entries.now }
+    {
+        let horizon = self.horizon();
+        let mut all = true;
+        for c in 0..self.cpus.len() {
+            let stands = due::stands_at(horizon, due::last_to(entries, CpuId::at(c)));
+            all = merit::both(all, stands);
+        }
+        all
     }
 
     ghost use Rattle.aps_model.specs.Step.{begun, billed, settled, pick, step, Step};
@@ -87,10 +146,11 @@ impl Machine {
         requires pick { IsPlainPick (length self.old.threads) (length self.old.rows) running.now }
         requires short { e.now.to - e.now.from < 2 ^ 62 }
         requires forward { e.now.from ≤ e.now.to }
-        requires since { All (λ t. t.since < 2 ^ 62) self.old.threads }
+        requires since { All (λ t. t.since ≤ 2 ^ 62) self.old.threads }
         ensures same { self.new ≡ billed self.old e.now running.now }
         ensures kept { IsKept self.old self.new }
         ensures stamps { self.new.stamps ≡ self.old.stamps }
+        ensures since { (n : ℕ) → All (λ t. t.since ≤ n) self.old.threads → All (λ t. t.since ≤ n + (e.now.to - e.now.from)) self.new.threads }
     {
         if let Some(pick) = running {
             let x = pick.thread.index();
@@ -111,6 +171,8 @@ impl Machine {
         requires stamps { self.old.stamps < 2 ^ 62 }
         ensures same { (now : ℕ) → settled scenario.now self.old now running.now ≡ record { state = self.new; done = result } }
         ensures kept { IsKept self.old self.new }
+        ensures stamps { self.new.stamps ≤ self.old.stamps + 1 }
+        ensures since { (n : ℕ) → All (λ t. t.since ≤ n) self.old.threads → All (λ t. t.since ≤ n) self.new.threads }
     {
         if let Some(pick) = running {
             self.give_back(scenario, pick.thread);
@@ -129,6 +191,8 @@ impl Machine {
         ensures same { self.new ≡ give_back scenario.now self.old x (thread_at self.old x).state }
         ensures endless { (thread_at self.old x).left ≡ None }
         ensures kept { IsKept self.old self.new }
+        ensures stamps { self.new.stamps ≤ self.old.stamps + 1 }
+        ensures since { (n : ℕ) → All (λ t. t.since ≤ n) self.old.threads → All (λ t. t.since ≤ n) self.new.threads }
     {
         let index = x.index();
         let thread = self.threads[index];
@@ -155,19 +219,11 @@ impl Machine {
         }
     }
 
-    ghost use Rattle.std.specs.Prelude.{◌++◌, ◌∷◌};
     ghost use Rattle.aps_model.specs.Due.{last_end};
-    ghost use Rattle.aps_core.specs.Plain.{IsPlainScenario};
 
     /// The pick of the processor after this entry, which has its operation, and then the flag. The answer is the
     /// entry with both.
-    fn pick(
-        &mut self,
-        entries: &[Entry],
-        parts: &mut [PartFacts],
-        cpu: CpuId,
-        e: Entry,
-    ) -> Entry
+    fn pick(&mut self, entries: &[Entry], parts: &mut [PartFacts], cpu: CpuId, e: Entry) -> Entry
         requires one_each { length parts.old ≡ length self.old.rows }
         requires cpu { cpu < length self.old.cpus }
         requires entries { All IsEntry entries.now }
@@ -177,6 +233,8 @@ impl Machine {
         ensures same { pick self.old entries.now cpu e.to e ≡ record { entry = result; state = self.new; reboot = None } }
         ensures parts { length parts.new ≡ length parts.old }
         ensures kept { IsKept self.old self.new }
+        ensures stamps { self.new.stamps ≡ self.old.stamps }
+        ensures since { (n : ℕ) → All (λ t. t.since ≤ n) self.old.threads → All (λ t. t.since ≤ n) self.new.threads }
     {
         let now = e.to;
         let tick = self.tick_of(now);
@@ -227,14 +285,14 @@ impl Machine {
         requires threads { length scenario.now.threads ≡ length self.old.threads }
         requires entries { All IsEntry entries.now }
         requires few { length entries.now ≤ 4000000 }
-        requires stamps { self.old.stamps < 2 ^ 62 }
-        requires since { All (λ t. t.since < 2 ^ 62) self.old.threads }
+        requires bounded { IsBounded self.old (length entries.now) }
         requires forward { last_end entries.now cpu ≤ due self.old entries.now cpu }
         requires short { due self.old entries.now cpu - last_end entries.now cpu ≤ 10000000 }
         requires within { due self.old entries.now cpu ≤ horizon self.old.shape }
         ensures same { step scenario.now self.old entries.now cpu ≡ record { entry = result; state = self.new; reboot = None } }
         ensures parts { length parts.new ≡ length parts.old }
         ensures kept { IsKept self.old self.new }
+        ensures bounded { IsBounded self.new (length entries.now + 1) }
     {
         let now = self.due(entries, cpu);
         let from = due::last_end(entries, cpu);
@@ -291,4 +349,43 @@ fn left_after(left: Option<Nanos>, ns: Nanos) -> Option<Nanos>
         None => None,
         Some(left) => Some(left.saturating_sub(ns)),
     }
+}
+
+/// The threads of a plain scenario at its start, ready in this order.
+fn start_threads(alloc: Global, rows: &[ThreadRow]) -> Result<Vec<ThreadNow>, NoMemory>
+    requires { All (λ (row : ThreadRow). row.program ≡ Forever ∷ []) rows.now }
+    ensures same { IfOk result (λ v. (shape : Shape) → v.items ≡ start_threads shape 0 0 rows.now) }
+    ensures length { IfOk result (λ v. length v.items ≡ length rows.now) }
+{
+    let mut threads = Vec::with_capacity(alloc, rows.len())?;
+    for row in rows {
+        let stamp = threads.len() as u64;
+        threads.push(ThreadNow {
+            own: Facts {
+                partition: row.partition,
+                priority: row.priority,
+                critical: row.critical,
+            },
+            state: State::Ready,
+            place: 0,
+            left: None,
+            stamp,
+            since: 0,
+        })?;
+    }
+    Ok(threads)
+}
+
+/// Idle processors.
+fn start_cpus(alloc: Global, count: u8) -> Result<Vec<CpuNow>, NoMemory>
+    ensures { IfOk result (λ v. v.items ≡ replicate count idle) }
+{
+    let mut cpus = Vec::with_capacity(alloc, usize::from(count))?;
+    for _ in 0..count {
+        cpus.push(CpuNow {
+            running: None,
+            flag: None,
+        })?;
+    }
+    Ok(cpus)
 }

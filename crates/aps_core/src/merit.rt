@@ -110,6 +110,13 @@ pub fn either(a: bool, b: bool) -> bool
     a || b
 }
 
+/// Both hold.
+pub fn both(a: bool, b: bool) -> bool
+    ensures { result ≡ (a && b) }
+{
+    a && b
+}
+
 /// The lowest partition so far, or else this one if it is another.
 pub fn or_first(lowest: Option<PartitionId>, id: PartitionId, is_next: bool) -> Option<PartitionId>
     ensures { result ≡ option_or lowest (if is_next then Some id else None) }

@@ -1,4 +1,4 @@
-use Rattle.std.proofs.Common.{◌≡◌, ◌≤◌, ℕ, take, length}
+use Rattle.std.proofs.Common.{◌≡◌, ◌≤◌, take, length}
 use Rattle.aps_model.specs.Due.{last_to}
 use Rattle.aps_core.proofs.due.last_to.Given as goal
 
