@@ -1,0 +1,4 @@
+pub mod Sums
+pub mod Ascii
+pub mod Rows
+pub mod Tables
