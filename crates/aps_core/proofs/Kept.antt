@@ -1,0 +1,262 @@
+-- What a core keeps from step to step.
+use Rattle.std.proofs.Common.{◌≡◌, ◌≢◌, ◌⊎◌, ℕ, zero, suc, ◌+◌, ◌<◌, ◌≤◌, List, [], ◌∷◌, ◌++◌, length, refl, sym, ◌∙◌, ap, subst, cond, true, false, nat_eq, Option, Some, None, arith, inl, inr}
+use Rattle.std.specs.List.{list_all, range_with_len}
+use Rattle.std.proofs.lemmas.List.{length-append}
+use Rattle.std.proofs.lemmas.Bool.Decides.{nat_tests}
+use Rattle.aps_model.specs.declared.entry.End.{End}
+use Rattle.aps_model.specs.declared.entry.End.TheVariants.{Limit}
+use Rattle.aps_model.specs.declared.entry.Entry.{Entry}
+use Rattle.aps_model.specs.declared.entry.Order.{Order}
+use Rattle.aps_model.specs.declared.merit.PartFacts.{PartFacts}
+use Rattle.aps_model.specs.After.{After, after, at_start, end_of, is_at_horizon, left_by, or_limit, over, over_by, stands_at}
+use Rattle.aps_model.specs.declared.entry.Order.TheVariants.{Fixed, Free}
+use Rattle.aps_model.specs.Due.{HasTurn, due, first_due, last_end, last_to}
+use Rattle.aps_model.specs.History.{History, IsEntry}
+use Rattle.aps_model.specs.Opening.{opening}
+use Rattle.aps_model.specs.Recorded.{recorded_from}
+use Rattle.aps_model.specs.Scenario.{Scenario}
+use Rattle.aps_model.specs.SchedulerState.{SchedulerState}
+use Rattle.aps_model.specs.Shape.{horizon}
+use Rattle.aps_model.specs.Step.{Step, step}
+use Rattle.aps_model.proofs.AfterLaws.{IsLegal-append, after-append, after_none, legal_none}
+use Rattle.aps_laws.proofs.WaitFacts.{test_eq, test_ne}
+use Rattle.aps_core.specs.Core.{IsCore, IsRun, IsSetup}
+use Rattle.aps_core.specs.Plain.{IsBounded, IsKept}
+use Rattle.aps_core.specs.Run.{IsFirstEnd, Run, Setup, end_of_run, history_of, rooms_of, state_of}
+use Rattle.aps_core.specs.Turn.{HasTurnIn, with_entry}
+use Rattle.aps_core.proofs.Boot.{threads_length}
+use Rattle.aps_core.proofs.Turns.{IsDueNow, cpu_count, cpus_same, due_now, first_has_turn}
+
+-- ---- the end
+
+goes_on_over : (o : Option End) (limit count : ℕ) → or_limit o limit count ≡ None → (o ≡ None) × (count ≢ limit)
+goes_on_over (Some end) limit count e = absurd cc
+goes_on_over None limit count e = (refl, λ same. absurd (at_limit (sym (ap (λ b. cond b (Some Limit) None) (test_eq count limit same)) ∙ e)))
+  where
+    at_limit : Some Limit ≡ None → ⊥
+    at_limit f = cc
+
+-- a run that goes on isn't over, and is below its limit
+pub not_over : (run : Run) → end_of_run run ≡ None → over (after run.setup.scenario run.entries) run.entries ≡ None
+not_over run e = (goes_on_over (over (after run.setup.scenario run.entries) run.entries) run.setup.limit (length run.entries) e).0
+
+pub below_limit : (run : Run) → IsRun run → end_of_run run ≡ None → length run.entries < run.setup.limit
+below_limit run r e =
+    let ne = (goes_on_over (over (after run.setup.scenario run.entries) run.entries) run.setup.limit (length run.entries) e).1 in
+    omega (arith, r.fits, ne)
+
+-- ---- the start
+
+not_there : (moment n : ℕ) → 1 ≤ n → list_all (λ c. stands_at moment (last_to [] c)) (range_with_len 0 n) ≡ false
+not_there moment zero some = absurd (omega (arith, some))
+not_there moment (suc n) some = refl
+
+starts : (setup : Setup) → IsSetup setup → or_limit (over (at_start setup.scenario) []) setup.limit 0 ≡ None
+starts setup s =
+    ap (λ b. or_limit (over_by None b) setup.limit 0) (not_there (horizon setup.scenario.shape) setup.scenario.shape.cpus s.valid.shape.some_cpu)
+    ∙ ap (λ b. cond b (Some Limit) None) (test_ne 0 setup.limit (λ e. omega (arith, e, s.some)))
+
+nothing_before : (before later : List Entry) (e : Entry) → [] ≡ before ++ e ∷ later → ⊥
+nothing_before [] later e same = cc
+nothing_before (x ∷ before) later e same = cc
+
+pub begun_core : (setup : Setup) (kept : History) (state : SchedulerState) (parts : List PartFacts) → IsSetup setup
+    → kept ≡ record { scenario = setup.scenario; entries = []; replies = []; changes = []; rows = setup.scenario.partitions; shape = setup.scenario.shape; end = None; room = rooms_of setup }
+    → state ≡ opening setup.scenario → IsBounded state 0 → length parts ≡ length setup.scenario.partitions
+    → IsCore (record { setup = setup; entries = [] }) kept state parts
+begun_core setup kept state parts s kept_is state_is bounded one_each =
+    let run : Run = record { setup = setup; entries = [] } in
+    let start = after_none setup.scenario in
+    let ended : or_limit (over (at_start setup.scenario) []) setup.limit 0 ≡ None = starts setup s in
+    record {
+      keeps = record {
+        setup = s;
+        legal = legal_none setup.scenario setup.order;
+        first_end = λ before later e same. absurd (nothing_before before later e same);
+        fits = omega arith;
+        calm = ap (λ (a : After). a.reboot) start;
+      };
+      recorded =
+          kept_is
+          ∙ ap (λ (o : Option End). record { scenario = setup.scenario; entries = []; replies = []; changes = []; rows = setup.scenario.partitions; shape = setup.scenario.shape; end = o; room = rooms_of setup }) (sym ended)
+          ∙ ap (recorded_from setup.scenario setup.limit (rooms_of setup) []) (sym start);
+      machine = state_is ∙ sym (ap (λ (a : After). a.state) start);
+      bounded = bounded;
+      threads = ap (λ (t : SchedulerState). length t.threads) state_is ∙ threads_length setup.scenario.shape 0 0 setup.scenario.threads;
+      one_each = one_each ∙ sym (ap (λ (t : SchedulerState). length t.rows) state_is);
+    }
+
+-- ---- what the core's parts have at a step
+
+pub cpu_exists : (run : Run) (kept : History) (state : SchedulerState) (parts : List PartFacts) (c : ℕ) → IsCore run kept state parts → c < run.setup.scenario.shape.cpus → c < length state.cpus
+cpu_exists run kept state parts c core lt =
+    omega (arith, lt, ap (λ (t : SchedulerState). length t.cpus) core.machine, cpu_count run.setup.scenario run.setup.order run.entries core.keeps.setup.valid core.keeps.legal)
+
+pub due_in : (run : Run) (kept : History) (state : SchedulerState) (parts : List PartFacts) (c : ℕ) → IsCore run kept state parts → end_of_run run ≡ None → HasTurnIn run c
+    → IsDueNow run.setup.scenario state run.entries c
+due_in run kept state parts c core goes_on turn =
+    subst (λ s. IsDueNow run.setup.scenario s run.entries c) (sym core.machine)
+    (due_now run.setup.scenario run.setup.order run.entries c core.keeps.setup.valid core.keeps.legal (not_over run goes_on) turn)
+
+-- ---- one entry more
+
+-- what stands before some entry of a list with one more stands before that one, or before an entry of the list
+last_or_before : (h before later : List Entry) (e x : Entry) → h ++ e ∷ [] ≡ before ++ x ∷ later → (before ≡ h) ⊎ ((rest : List Entry) × (h ≡ before ++ x ∷ rest))
+last_or_before [] [] later e x same = inl refl
+last_or_before [] (b ∷ before) later e x same = absurd (nothing_before before later x (tail_of same))
+  where
+    tail_of : e ∷ [] ≡ b ∷ (before ++ x ∷ later) → [] ≡ before ++ x ∷ later
+    tail_of f = cc
+last_or_before (y ∷ ys) [] later e x same = inr (ys, ap (λ (z : Entry). z ∷ ys) (head_of same))
+  where
+    head_of : y ∷ (ys ++ e ∷ []) ≡ x ∷ later → y ≡ x
+    head_of f = cc
+last_or_before (y ∷ ys) (b ∷ before) later e x same = more (last_or_before ys before later e x (tail_of same))
+  where
+    head_of : y ∷ (ys ++ e ∷ []) ≡ b ∷ (before ++ x ∷ later) → y ≡ b
+    head_of f = cc
+
+    tail_of : y ∷ (ys ++ e ∷ []) ≡ b ∷ (before ++ x ∷ later) → ys ++ e ∷ [] ≡ before ++ x ∷ later
+    tail_of f = cc
+
+    more : (before ≡ ys) ⊎ ((rest : List Entry) × (ys ≡ before ++ x ∷ rest)) → (b ∷ before ≡ y ∷ ys) ⊎ ((rest : List Entry) × (y ∷ ys ≡ b ∷ (before ++ x ∷ rest)))
+    more (inl here) = inl (ap (λ z. z ∷ before) (sym (head_of same)) ∙ ap (λ zs. y ∷ zs) here)
+    more (inr there) = inr (there.0, ap (λ z. z ∷ ys) (head_of same) ∙ ap (λ zs. b ∷ zs) there.1)
+
+first_end_more : (run : Run) (e : Entry) → IsFirstEnd run.setup.scenario run.setup.limit run.entries → end_of_run run ≡ None → IsFirstEnd run.setup.scenario run.setup.limit (run.entries ++ e ∷ [])
+first_end_more run e first goes_on before later x same =
+    elim (last_or_before run.entries before later e x same) [
+      | inl here ↦ subst (λ g. end_of run.setup.scenario run.setup.limit g ≡ None) (sym here) goes_on
+      | inr there ↦ first before there.0 x there.1
+    ]
+
+pub length_more : (h : List Entry) (e : Entry) → length (h ++ e ∷ []) ≡ length h + 1
+length_more h e = length-append h (e ∷ [])
+
+-- the history with one entry more, and with the end that it has where the entry leaves this state
+abbrev pub with_last : History → ℕ → SchedulerState → Entry → History
+with_last kept limit state e = record kept {
+  entries = kept.entries ++ e ∷ [];
+  end = or_limit (over_by None (is_at_horizon state (kept.entries ++ e ∷ []))) limit (length (kept.entries ++ e ∷ []));
+}
+
+-- by the calls that make it
+pub added_last : (kept added last : History) (limit : ℕ) (state : SchedulerState) (e : Entry) (es : List Entry) (end : Option End)
+    → added ≡ record kept { entries = kept.entries ++ e ∷ [] } → es ≡ added.entries
+    → end ≡ or_limit (over_by None (is_at_horizon state es)) limit (length es) → last ≡ record added { end = end } → last ≡ with_last kept limit state e
+added_last kept added last limit state e es end e1 e2 e3 e4 = rw (e4, e3, e2, e1) refl
+
+-- the entry of the step, the state that it leaves, and the history with both
+pub record IsMore (run : Run) (kept : History) (state : SchedulerState) (c : ℕ) (e : Entry) (kept' : History) (state' : SchedulerState) : Type 0 where
+  pub steps : step run.setup.scenario state run.entries c ≡ record { entry = e; state = state'; reboot = None }
+  pub same : IsKept state state'
+  pub bounded : IsBounded state' (length run.entries + 1)
+  pub added : kept' ≡ with_last kept run.setup.limit state' e
+
+left_more : (run : Run) (kept : History) (state : SchedulerState) (parts : List PartFacts) (c : ℕ) (e : Entry) (kept' : History) (state' : SchedulerState) → IsCore run kept state parts → e.cpu ≡ c
+    → IsMore run kept state c e kept' state' → after run.setup.scenario (run.entries ++ e ∷ []) ≡ record { state = state'; reboot = None }
+left_more run kept state parts c e kept' state' core own m =
+    after-append run.setup.scenario run.entries e
+    ∙ ap (λ s. left_by (step run.setup.scenario s run.entries e.cpu)) (sym core.machine)
+    ∙ ap (λ d. left_by (step run.setup.scenario state run.entries d)) own
+    ∙ ap left_by m.steps
+
+pub own_entry : (run : Run) (kept : History) (state : SchedulerState) (parts : List PartFacts) (c : ℕ) (e : Entry) (state' : SchedulerState) → IsCore run kept state parts → end_of_run run ≡ None → HasTurnIn run c
+    → step run.setup.scenario state run.entries c ≡ record { entry = e; state = state'; reboot = None } → e.cpu ≡ c
+own_entry run kept state parts c e state' core goes_on turn steps =
+    sym (ap (λ (out : Step). out.entry.cpu) steps) ∙ (due_in run kept state parts c core goes_on turn).own
+
+-- rows, shape, replies and changes stay
+last_recorded : (run : Run) (kept : History) (state : SchedulerState) (parts : List PartFacts) (state' : SchedulerState) (e : Entry) → IsCore run kept state parts → IsKept state state'
+    → with_last (history_of run) run.setup.limit state' e ≡ recorded_from run.setup.scenario run.setup.limit (rooms_of run.setup) (run.entries ++ e ∷ []) (record { state = state'; reboot = None })
+last_recorded run kept state parts state' e core same = rw (same.replies, same.changes, same.rows, same.shape, core.machine) refl
+
+core_more : (run : Run) (kept : History) (state : SchedulerState) (parts : List PartFacts) (c : ℕ) (e : Entry) (kept' : History) (state' : SchedulerState) (parts' : List PartFacts)
+    → IsCore run kept state parts → end_of_run run ≡ None → HasTurnIn run c → IsMore run kept state c e kept' state' → length parts' ≡ length parts
+    → IsCore (with_entry run e) kept' state' parts'
+core_more run kept state parts c e kept' state' parts' core goes_on turn m count =
+    let own = own_entry run kept state parts c e state' core goes_on turn m.steps in
+    let left = left_more run kept state parts c e kept' state' core own m in
+    let scenario = run.setup.scenario in
+    let s = state_of run in
+    let at : (step scenario s run.entries e.cpu).entry ≡ e =
+    ap (λ d. (step scenario s run.entries d).entry) own ∙ ap (λ t. (step scenario t run.entries c).entry) (sym core.machine) ∙ ap (λ (out : Step). out.entry) m.steps in
+    record {
+      keeps = record {
+        setup = core.keeps.setup;
+        legal = IsLegal-append scenario run.setup.order run.entries e core.keeps.legal (not_over run goes_on) (subst (HasTurnIn run) (sym own) turn) (sym at);
+        first_end = first_end_more run e core.keeps.first_end goes_on;
+        fits = omega (arith, length_more run.entries e, below_limit run core.keeps goes_on);
+        calm = ap (λ (a : After). a.reboot) left;
+      };
+      recorded = m.added
+          ∙ ap (λ (k : History). with_last k run.setup.limit state' e) core.recorded
+          ∙ last_recorded run kept state parts state' e core m.same
+          ∙ ap (recorded_from scenario run.setup.limit (rooms_of run.setup) (run.entries ++ e ∷ [])) (sym left);
+      machine = sym (ap (λ (a : After). a.state) left);
+      bounded = subst (IsBounded state') (sym (length_more run.entries e)) m.bounded;
+      threads = m.same.threads ∙ core.threads;
+      one_each = count ∙ core.one_each ∙ ap length (sym m.same.rows);
+    }
+
+-- ---- turns
+
+pub cpus_of : (run : Run) → IsRun run → (state_of run).shape.cpus ≡ run.setup.scenario.shape.cpus
+cpus_of run r = cpus_same run.setup.scenario run.setup.order run.entries r.setup.valid r.legal
+
+pub cpu_within : (run : Run) (kept : History) (state : SchedulerState) (parts : List PartFacts) (c : ℕ) → IsCore run kept state parts → c < length state.cpus → c < run.setup.scenario.shape.cpus
+cpu_within run kept state parts c core lt =
+    omega (arith, lt, ap (λ (t : SchedulerState). length t.cpus) core.machine, cpu_count run.setup.scenario run.setup.order run.entries core.keeps.setup.valid core.keeps.legal)
+
+pub first_lowest : (run : Run) (kept : History) (state : SchedulerState) (parts : List PartFacts) (order : Order) (c : ℕ) → IsCore run kept state parts → c ≡ first_due state run.entries state.shape.cpus
+    → HasTurn order (state_of run) run.entries c
+first_lowest run kept state parts order c core is =
+    let s = state_of run in
+    let there : c ≡ first_due s run.entries s.shape.cpus = is ∙ ap (λ (t : SchedulerState). first_due t run.entries t.shape.cpus) core.machine in
+    subst (HasTurn order s run.entries) (sym there)
+    (first_has_turn order s run.entries s.shape.cpus refl (omega (arith, cpus_of run core.keeps, core.keeps.setup.valid.shape.some_cpu)))
+
+-- in free order, who is due with the lowest that has the turn
+pub free_turn : (run : Run) (c first : ℕ) → IsRun run → run.setup.order ≡ Free → c < run.setup.scenario.shape.cpus → HasTurn Fixed (state_of run) run.entries first
+    → due (state_of run) run.entries c ≡ due (state_of run) run.entries first → HasTurnIn run c
+free_turn run c first r free lt lowest same = record {
+  exists = omega (arith, lt, cpus_of run r);
+  least = λ d below. omega (arith, same, lowest.least d below);
+  lowest = λ fixed. absurd (other (sym free ∙ fixed));
+}
+  where
+    other : Free ≡ Fixed → ⊥
+    other e = cc
+
+-- the moments of the entry
+pub entry_fits : (run : Run) (kept : History) (state : SchedulerState) (parts : List PartFacts) (c : ℕ) (e : Entry) (state' : SchedulerState) → IsCore run kept state parts → end_of_run run ≡ None → HasTurnIn run c
+    → step run.setup.scenario state run.entries c ≡ record { entry = e; state = state'; reboot = None } → IsEntry e
+entry_fits run kept state parts c e state' core goes_on turn steps =
+    let d = due_in run kept state parts c core goes_on turn in
+    let from : e.from ≡ last_end run.entries c = sym (ap (λ (out : Step). out.entry.from) steps) ∙ d.from in
+    let to : e.to ≡ due state run.entries c = sym (ap (λ (out : Step). out.entry.to) steps) ∙ d.to in
+    record {
+      forward = omega (arith, from, to, d.forward);
+      to = omega (arith, to, d.soon);
+      short = omega (arith, from, to, d.short);
+    }
+
+pub same_number : (a b : ℕ) → nat_eq a b ≡ true → a ≡ b
+same_number a b e = grind (arith, nat_tests)
+
+-- the step over equal scenarios and entries
+pub step_read : (scenario scenario' : Scenario) (state : SchedulerState) (h h' : List Entry) (c : ℕ) (out : Step) → scenario' ≡ scenario → h' ≡ h → step scenario' state h' c ≡ out → step scenario state h c ≡ out
+step_read scenario scenario' state h h' c out e f steps =
+    ap (λ z. step z state h c) (sym e) ∙ ap (λ z. step scenario' state z c) (sym f) ∙ steps
+
+-- the same core, whose run is read from its history
+pub core_kept : (run : Run) (kept : History) (state : SchedulerState) (parts : List PartFacts) (c : ℕ) (e : Entry) (kept' : History) (state' : SchedulerState) (parts' : List PartFacts)
+    → IsCore run kept state parts → end_of_run run ≡ None → HasTurnIn run c → IsMore run kept state c e kept' state' → length parts' ≡ length parts
+    → IsCore (record { setup = record run.setup { scenario = kept'.scenario }; entries = kept'.entries }) kept' state' parts'
+core_kept run kept state parts c e kept' state' parts' core goes_on turn m count =
+    let scenario : kept'.scenario ≡ run.setup.scenario = ap (λ (k : History). k.scenario) (m.added ∙ ap (λ (k : History). with_last k run.setup.limit state' e) core.recorded) in
+    let entries : kept'.entries ≡ run.entries ++ e ∷ [] = ap (λ (k : History). k.entries) (m.added ∙ ap (λ (k : History). with_last k run.setup.limit state' e) core.recorded) in
+    let same : with_entry run e ≡ record { setup = record run.setup { scenario = kept'.scenario }; entries = kept'.entries } =
+    ap (λ z. record { setup = record run.setup { scenario = z }; entries = run.entries ++ e ∷ [] }) (sym scenario)
+    ∙ ap (λ z. record { setup = record run.setup { scenario = kept'.scenario }; entries = z }) (sym entries) in
+    subst (λ r. IsCore r kept' state' parts') same (core_more run kept state parts c e kept' state' parts' core goes_on turn m count)

@@ -1,0 +1,86 @@
+-- The greatest candidate and the candidates of a partition, found in one pass over the threads.
+use Rattle.std.proofs.Common.{nat_eq, ◌||◌, ◌&&◌, ◌≡◌, ℕ, ◌+◌, List, [], ◌∷◌, ◌++◌, refl, ◌∙◌, ap, cond, Bool, true, false, None, arith}
+use Rattle.std.specs.List.{fold, list_any}
+use Rattle.std.proofs.lemmas.List.Folds.{list_any-append}
+use Rattle.std.proofs.lemmas.List.Elements.{filter-append}
+use Rattle.std.proofs.lemmas.List.Sums.{fold-append}
+use Rattle.std.proofs.lemmas.List.FromFn.{filter_of_map_range_with_len_more}
+use Rattle.aps_model.specs.declared.shape.Free.{Free}
+use Rattle.aps_model.specs.declared.merit.PartFacts.{PartFacts}
+use Rattle.aps_model.specs.declared.merit.Contender.{Contender}
+use Rattle.aps_model.specs.Budget.{part_at}
+use Rattle.aps_model.specs.Merit.{is_candidate}
+use Rattle.aps_model.specs.Pick.{better, candidates, contender_of, greatest, is_ready}
+use Rattle.aps_model.specs.SchedulerState.{SchedulerState, thread_at}
+use Rattle.aps_core.specs.Scan.{better_candidate, ready_below}
+
+-- this one, if it is ready
+abbrev if_ready : SchedulerState → ℕ → List Contender
+if_ready s x = cond (is_ready (thread_at s x).state) (contender_of s x ∷ []) []
+
+below-more : (s : SchedulerState) (x : ℕ) → ready_below s (x + 1) ≡ ready_below s x ++ if_ready s x
+below-more s x = filter_of_map_range_with_len_more (λ (c : Contender). is_ready (thread_at s c.thread).state) (contender_of s) 0 x x (omega arith)
+
+candidates-append : (parts : List PartFacts) (xs ys : List Contender) → candidates parts (xs ++ ys) ≡ candidates parts xs ++ candidates parts ys
+candidates-append parts xs ys = filter-append (λ (c : Contender). is_candidate c.facts (part_at parts c.facts.partition)) xs ys
+
+-- ---- the greatest
+
+greatest-append : (free : Free) (parts : List PartFacts) (xs ys : List Contender)
+    → greatest free parts (xs ++ ys) ≡ fold (better free parts) (greatest free parts xs) (candidates parts ys)
+greatest-append free parts xs ys =
+    ap (fold (better free parts) None) (candidates-append parts xs ys)
+    ∙ fold-append (better free parts) None (candidates parts xs) (candidates parts ys)
+
+greatest-more : (free : Free) (parts : List PartFacts) (s : SchedulerState) (x : ℕ) (t : Bool) → is_ready (thread_at s x).state ≡ t
+    → greatest free parts (ready_below s (x + 1)) ≡ fold (better free parts) (greatest free parts (ready_below s x)) (candidates parts (cond t (contender_of s x ∷ []) []))
+greatest-more free parts s x t is =
+    ap (greatest free parts) (below-more s x)
+    ∙ greatest-append free parts (ready_below s x) (if_ready s x)
+    ∙ ap (λ b. fold (better free parts) (greatest free parts (ready_below s x)) (candidates parts (cond b (contender_of s x ∷ []) []))) is
+
+-- the next thread is ready
+pub greatest_ready : (free : Free) (parts : List PartFacts) (s : SchedulerState) (x : ℕ) → is_ready (thread_at s x).state ≡ true
+    → greatest free parts (ready_below s (x + 1)) ≡ better_candidate free parts (greatest free parts (ready_below s x)) (contender_of s x)
+greatest_ready free parts s x is =
+    greatest-more free parts s x true is ∙ by_test (is_candidate (contender_of s x).facts (part_at parts (contender_of s x).facts.partition))
+  where
+    by_test : (t : Bool) → fold (better free parts) (greatest free parts (ready_below s x)) (cond t (contender_of s x ∷ []) [])
+        ≡ cond t (better free parts (greatest free parts (ready_below s x)) (contender_of s x)) (greatest free parts (ready_below s x))
+    by_test true = refl
+    by_test false = refl
+
+-- the next thread isn't
+pub greatest_other : (free : Free) (parts : List PartFacts) (s : SchedulerState) (x : ℕ) → is_ready (thread_at s x).state ≡ false
+    → greatest free parts (ready_below s (x + 1)) ≡ greatest free parts (ready_below s x)
+greatest_other free parts s x is = greatest-more free parts s x false is
+
+-- ---- the candidates of a partition
+
+abbrev pub any_of : List PartFacts → ℕ → List Contender → Bool
+any_of parts p cs = list_any (λ (c : Contender). nat_eq c.facts.partition p) (candidates parts cs)
+
+any-more : (parts : List PartFacts) (s : SchedulerState) (p x : ℕ) (t : Bool) → is_ready (thread_at s x).state ≡ t
+    → any_of parts p (ready_below s (x + 1)) ≡ (any_of parts p (ready_below s x) || any_of parts p (cond t (contender_of s x ∷ []) []))
+any-more parts s p x t is =
+    ap (any_of parts p) (below-more s x)
+    ∙ ap (list_any (λ (c : Contender). nat_eq c.facts.partition p)) (candidates-append parts (ready_below s x) (if_ready s x))
+    ∙ list_any-append (λ (c : Contender). nat_eq c.facts.partition p) (candidates parts (ready_below s x)) (candidates parts (if_ready s x))
+    ∙ ap (λ b. any_of parts p (ready_below s x) || any_of parts p (cond b (contender_of s x ∷ []) [])) is
+
+or_false : (b : Bool) → (b || false) ≡ b
+or_false true = refl
+or_false false = refl
+
+pub any_ready : (parts : List PartFacts) (s : SchedulerState) (p x : ℕ) → is_ready (thread_at s x).state ≡ true
+    → any_of parts p (ready_below s (x + 1)) ≡ (any_of parts p (ready_below s x) || (is_candidate (contender_of s x).facts (part_at parts (contender_of s x).facts.partition) && nat_eq (contender_of s x).facts.partition p))
+any_ready parts s p x is =
+    any-more parts s p x true is ∙ ap (λ b. any_of parts p (ready_below s x) || b) (by_test (is_candidate (contender_of s x).facts (part_at parts (contender_of s x).facts.partition)))
+  where
+    by_test : (t : Bool) → list_any (λ (c : Contender). nat_eq c.facts.partition p) (cond t (contender_of s x ∷ []) []) ≡ (t && nat_eq (contender_of s x).facts.partition p)
+    by_test true = or_false (nat_eq (contender_of s x).facts.partition p)
+    by_test false = refl
+
+pub any_other : (parts : List PartFacts) (s : SchedulerState) (p x : ℕ) → is_ready (thread_at s x).state ≡ false
+    → any_of parts p (ready_below s (x + 1)) ≡ any_of parts p (ready_below s x)
+any_other parts s p x is = any-more parts s p x false is ∙ or_false (any_of parts p (ready_below s x))

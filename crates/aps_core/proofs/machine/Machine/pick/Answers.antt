@@ -1,0 +1,17 @@
+use Rattle.std.proofs.Common.{◌≡◌, ap, ◌∙◌, ◌++◌, [], ◌∷◌, ◌/◌}
+use Rattle.aps_model.specs.Budget.{all_parts}
+use Rattle.aps_model.specs.SchedulerState.{SchedulerState}
+use Rattle.aps_core.proofs.PickStep.{pick_by_parts}
+use Rattle.aps_core.proofs.machine.Machine.pick.Goals as goal
+
+parts : (c : goal.After-flag) → c.fill_parts.new.parts ≡ all_parts c.args.self.now.shape c.args.self.now.rows (c.args.entries.now ++ c.args.e ∷ []) (c.args.e.to / c.args.self.now.shape.tick)
+parts c =
+    c.fill_parts.ensures.same
+    ∙ rw (c.as_slice.ensures.value, c.tick_of-tick.ensures.same)
+    (ap (λ (m : SchedulerState). all_parts m.shape m.rows (c.args.entries.now ++ c.args.e ∷ []) (c.args.e.to / c.args.self.now.shape.tick)) c.self.view_is)
+
+pub returns-clause-same : goal.returns-clause-same
+returns-clause-same c =
+    pick_by_parts c.args.self.now c.args.entries.now c.args.cpu c.args.e.to c.args.e
+    c.fill_parts.new.parts c.missing-starved.result c.greatest-best.result c.thread_of-picked.result c.choose.new.self c.greatest-left.result c.flag_for-flagged.result c.flag.new.self
+    (parts c) c.missing-starved.ensures c.greatest-best.ensures.same c.thread_of-picked.ensures c.choose.ensures.same c.greatest-left.ensures.same c.flag_for-flagged.ensures.same c.flag.ensures

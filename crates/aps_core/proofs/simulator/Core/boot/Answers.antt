@@ -1,0 +1,14 @@
+use Rattle.std.proofs.Common.{◌∙◌, ap, length, refl}
+use Rattle.aps_core.specs.Run.{Setup}
+use Rattle.aps_core.proofs.Kept.{begun_core}
+use Rattle.aps_core.proofs.simulator.Core.boot.Goals as goal
+
+pub invariant_of-result : goal.invariant_of-result
+invariant_of-result c =
+    let setup : Setup = record { scenario = c.args.scenario; order = c.args.order; limit = c.args.limit } in
+    rw c.in_ok-history.ensures
+    (begun_core setup _ c.in_ok-machine.machine c.in_ok-parts.parts.items
+    (record { valid = c.partitions.ensures.valid; plain = c.requires.plain; some = c.requires.some; few = c.requires.few })
+    (rw (c.commands.ensures.same, c.most_changes-changes.ensures) refl)
+    c.in_ok-machine.ensures.same c.in_ok-machine.ensures.bounded
+    (c.in_ok-parts.ensures ∙ ap length c.partitions.ensures.same))

@@ -1,0 +1,13 @@
+use Rattle.aps_core.specs.declared.simulator.Core.TheInside.{Inside}
+use Rattle.aps_core.specs.Core.{IsCore}
+use Rattle.aps_core.specs.Run.{Run}
+
+-- the run that the fields stand for
+abbrev pub run_of : Inside → Run
+run_of core = record {
+  setup = record { scenario = core.history.scenario; order = core.order; limit = core.limit };
+  entries = core.history.entries;
+}
+
+abbrev pub keeps : Inside → Type 0
+keeps core = IsCore (run_of core) core.history core.machine core.parts.items

@@ -1,0 +1,63 @@
+use Rattle.std.specs.Prelude.{◌≡◌, ℕ, ◌+◌, ◌-◌, ◌*◌, ◌++◌, List, ◌∷◌, length, nat_lt, Option, None}
+use Rattle.std.specs.List.{count_by}
+use Rattle.aps_model.specs.declared.entry.End.{End}
+use Rattle.aps_model.specs.declared.entry.Entry.{Entry}
+use Rattle.aps_model.specs.declared.entry.Order.{Order}
+use Rattle.aps_model.specs.declared.partition.PartitionRow.{PartitionRow}
+use Rattle.aps_model.specs.After.{after, end_of, state_after}
+use Rattle.aps_model.specs.History.{History, Rooms}
+use Rattle.aps_model.specs.Legal.{fixed_steps}
+use Rattle.aps_model.specs.Recorded.{recorded}
+use Rattle.aps_model.specs.Scenario.{Scenario}
+use Rattle.aps_model.specs.SchedulerState.{SchedulerState}
+
+-- what a run was set up with
+pub record Setup : Type 0 where
+  pub scenario : Scenario
+  pub order : Order
+  pub limit : ℕ
+
+-- a run under way: its setup, which nothing changes, and its entries so far
+pub record Run : Type 0 where
+  pub setup : Setup
+  pub entries : List Entry
+
+-- the changes that a run can make: one by each command, and one cancel of each critical budget that the scenario
+-- or a command gives
+abbrev pub most_changes : Scenario → ℕ
+most_changes scenario =
+    2 * length scenario.commands + count_by (λ (row : PartitionRow). nat_lt 0 row.critical) scenario.partitions
+
+-- for what a run is given room
+abbrev pub rooms_of : Setup → Rooms
+rooms_of setup = record {
+  entries = setup.limit;
+  replies = length setup.scenario.commands;
+  changes = most_changes setup.scenario;
+}
+
+-- the state that the entries leave
+abbrev pub state_of : Run → SchedulerState
+state_of run = state_after run.setup.scenario run.entries
+
+-- the end of the run, if it has come
+abbrev pub end_of_run : Run → Option End
+end_of_run run = end_of run.setup.scenario run.setup.limit run.entries
+
+-- all that the run has recorded, with its end
+abbrev pub history_of : Run → History
+history_of run = recorded run.setup.scenario run.setup.limit (rooms_of run.setup) run.entries
+
+-- no shorter beginning of these entries has ended with the limit
+abbrev pub IsFirstEnd : Scenario → ℕ → List Entry → Type 0
+IsFirstEnd scenario limit h = (before later : List Entry) (e : Entry) → h ≡ before ++ e ∷ later → end_of scenario limit before ≡ None
+
+-- the run after the steps of the lowest processor that has the turn, until it has ended
+abbrev pub finished : Run → Run
+finished run = record run {
+  entries = fixed_steps run.setup.scenario (run.setup.limit - length run.entries) (after run.setup.scenario run.entries) run.entries;
+}
+
+-- the same run, further on
+abbrev pub IsLater : Run → Run → Type 0
+IsLater run later = (rest : List Entry) × (later ≡ record run { entries = run.entries ++ rest })

@@ -1,0 +1,13 @@
+//! The simulated scheduler: it boots a scenario and makes the steps of its processors, and keeps the history of the run.
+//! Threads of several processors share it under a lock above, and the checker of journals replays by it.
+#![tactic(auto)]
+
+mod due;
+mod machine;
+mod merit;
+mod simulator;
+mod turn;
+mod usage;
+
+pub use simulator::Core;
+pub use turn::Turn;

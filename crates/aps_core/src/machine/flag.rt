@@ -1,0 +1,108 @@
+ghost use Rattle.std.specs.Prelude.{◌≡◌, ◌<◌, ◌≤◌, length, All, IfSome};
+ghost use Rattle.aps_model.specs.Flag.{rank_of, looked_at, flag_for, with_flag};
+ghost use Rattle.aps_model.specs.History.{IsEntry};
+ghost use Rattle.aps_core.specs.Plain.{IsPlainPick};
+ghost use Rattle.aps_core.specs.Small.{IsSmall};
+
+use super::Machine;
+use crate::merit;
+use aps_model::{Contender, CpuId, CpuNow, Entry, Nanos, PartFacts, Pick, is_below, merit_of};
+
+impl Machine {
+    /// The rank of a processor that keeps this, if it is idle or its thread is below the greatest candidate left.
+    fn rank_of(
+        &self,
+        parts: &[PartFacts],
+        left: &Contender,
+        running: &Option<Pick>,
+    ) -> Option<(u8, u8)>
+        requires one_each { length parts.now ≡ length self.now.rows }
+        requires small { All IsSmall parts.now }
+        requires left { left.now.facts.partition < length parts.now }
+        requires running { IsPlainPick (length self.now.threads) (length self.now.rows) running.now }
+        ensures { result ≡ rank_of self.now parts.now (merit_among parts.now left.now) running.now }
+    {
+        let Some(pick) = running else {
+            return Some((0, 0));
+        };
+        let thread = &self.threads[pick.thread.index()];
+        let facts = thread.own;
+        let merit = merit_of(facts, thread.stamp, &parts[facts.partition.index()]);
+        if is_below(&merit, &merit::merit_among(parts, left), self.shape.free) {
+            Some((merit.class + 1, merit.priority))
+        } else {
+            None
+        }
+    }
+
+    ghost use Rattle.aps_model.specs.Pick.{merit_among};
+
+    /// The rank of another processor that isn't due yet.
+    fn looked_at(
+        &self,
+        entries: &[Entry],
+        parts: &[PartFacts],
+        left: &Contender,
+        c: CpuId,
+        now: Nanos,
+        d: CpuId,
+    ) -> Option<(u8, u8)>
+        requires one_each { length parts.now ≡ length self.now.rows }
+        requires small { All IsSmall parts.now }
+        requires left { left.now.facts.partition < length parts.now }
+        requires entries { All IsEntry entries.now }
+        requires d { d < length self.now.cpus }
+        ensures { result ≡ looked_at self.now entries.now parts.now (merit_among parts.now left.now) c now d }
+    {
+        if d != c && now < self.due(entries, d) {
+            self.rank_of(parts, left, &self.cpus[d.index()].running)
+        } else {
+            None
+        }
+    }
+
+    /// The processor that is flagged for the greatest candidate left.
+    pub fn flag_for(
+        &self,
+        entries: &[Entry],
+        parts: &[PartFacts],
+        c: CpuId,
+        now: Nanos,
+        left: &Option<Contender>,
+    ) -> Option<CpuId>
+        requires one_each { length parts.now ≡ length self.now.rows }
+        requires small { All IsSmall parts.now }
+        requires left { IfSome left.now (λ b. b.facts.partition < length parts.now) }
+        requires entries { All IsEntry entries.now }
+        ensures same { result ≡ flag_for self.now entries.now parts.now c now left.now }
+        ensures within { IfSome result (λ d. d < length self.now.cpus) }
+    {
+        let Some(left) = left else {
+            return None;
+        };
+        let mut best = None;
+        for d in 0..self.cpus.len() {
+            let other = CpuId::at(d);
+            let rank = self.looked_at(entries, parts, left, c, now, other);
+            best = merit::lower_ranked(other, rank, best);
+        }
+        match best {
+            Some((d, _)) => Some(d),
+            None => None,
+        }
+    }
+
+    /// The processor, if there is one, is flagged at this moment.
+    pub fn flag(&mut self, now: Nanos, other: &Option<CpuId>)
+        requires { IfSome other.now (λ d. d < length self.old.cpus) }
+        ensures { self.new ≡ with_flag self.old now other.now }
+    {
+        if let Some(d) = other {
+            let cpu = self.cpus[d.index()];
+            self.cpus[d.index()] = CpuNow {
+                flag: Some(now),
+                ..cpu
+            };
+        }
+    }
+}

@@ -1,0 +1,241 @@
+ghost use Rattle.std.specs.Prelude.{◌≡◌, ◌<◌, ◌≤◌, [], length, All, IfOk, Some, None, true, false};
+ghost use Rattle.aps_model.specs.declared.entry.End.{End};
+ghost use Rattle.aps_model.specs.declared.entry.Order.TheVariants.{Fixed};
+ghost use Rattle.aps_model.specs.Due.{HasTurn, due, first_due};
+ghost use Rattle.aps_model.specs.Legal.{IsLegal, fixed_run};
+ghost use Rattle.aps_model.specs.After.{is_at_horizon, or_limit, over_by};
+ghost use Rattle.aps_model.specs.History.{IsEntry};
+ghost use Rattle.aps_model.specs.Tiled.{IsTiled, IsBilledAsInherited};
+ghost use Rattle.aps_core.specs.Plain.{IsPlainScenario};
+ghost use Rattle.aps_core.specs.Run.{IsFirstEnd, IsLater, end_of_run, finished, history_of, most_changes, state_of};
+ghost use Rattle.aps_core.specs.Turn.{HasTurnIn, IsOwn, IsTaken, IsTurn, after_turn, with_entry};
+
+use crate::machine::Machine;
+use crate::turn::Turn;
+use aps_model::{CpuId, End, Entry, History, Nanos, NoMemory, Order, PartFacts, Scenario};
+use std::alloc::Global;
+use std::marker::Model;
+
+/// A run under way. Contracts see its setup, which is the scenario, the order of turns and the limit, and its
+/// entries so far.
+#[derive(Drop)]
+pub struct Core {
+    history: History,
+    order: Order,
+    limit: u32,
+    machine: Machine,
+    parts: Vec<PartFacts>,
+}
+
+impl Model for Core {
+    ghost use Rattle.aps_core.specs.Run.{Run};
+
+    ghost Value = { Run };
+
+    ghost use Rattle.aps_core.specs.CoreView.{run_of, keeps};
+
+    ghost view = { run_of };
+
+    ghost invariant = { keeps };
+}
+
+impl Core {
+    /// A run that begins, of a scenario in which every thread runs without end, nobody is critical and nothing is
+    /// commanded. `limit` is the greatest number of entries. All memory of the run is taken here; where it isn't
+    /// there the scenario is dropped.
+    pub fn boot(
+        alloc: Global,
+        scenario: Scenario,
+        order: Order,
+        limit: u32,
+    ) -> Result<Core, NoMemory>
+        requires plain { IsPlainScenario scenario }
+        requires some { 1 ≤ limit }
+        requires few { limit ≤ 4000000 }
+        ensures { IfOk result (λ core. core ≡ record { setup = record { scenario = scenario; order = order; limit = limit }; entries = [] }) }
+    {
+        let machine = Machine::boot(alloc, &scenario)?;
+        let parts = start_parts(alloc, scenario.partitions().len())?;
+        let replies = scenario.commands().len() as u16;
+        let changes = most_changes(&scenario);
+        let history = History::begin(alloc, scenario, limit, replies, changes)?;
+        Ok(Core {
+            history,
+            order,
+            limit,
+            machine,
+            parts,
+        })
+    }
+
+    /// When the processor steps next, in ns.
+    pub fn due(&self, cpu: CpuId) -> Nanos
+        requires { cpu < self.now.setup.scenario.shape.cpus }
+        ensures { result ≡ due (state_of self.now) self.now.entries cpu }
+    {
+        self.machine.due(self.history.entries(), cpu)
+    }
+
+    /// The end of the run, if it has come.
+    pub fn ended(&self) -> Option<End>
+        ensures { result ≡ end_of_run self.now }
+    {
+        self.history.end()
+    }
+
+    /// The history so far, with its end where it has ended.
+    pub fn history(&self) -> &History
+        ensures same { result.now ≡ history_of self.now }
+        ensures legal { IsLegal self.now.setup.scenario self.now.setup.order self.now.entries }
+        ensures first_end { IsFirstEnd self.now.setup.scenario self.now.setup.limit self.now.entries }
+        ensures tiled { IsTiled self.now.setup.scenario.shape.tick self.now.entries }
+        ensures billed { IsBilledAsInherited self.now.setup.scenario self.now.entries }
+        ensures cpus { All (λ e. e.cpu < self.now.setup.scenario.shape.cpus) self.now.entries }
+    {
+        &self.history
+    }
+
+    /// The same, taken out of the core.
+    pub fn into_history(self) -> History
+        ensures same { result ≡ history_of self }
+        ensures legal { IsLegal self.setup.scenario self.setup.order self.entries }
+        ensures first_end { IsFirstEnd self.setup.scenario self.setup.limit self.entries }
+        ensures tiled { IsTiled self.setup.scenario.shape.tick self.entries }
+        ensures billed { IsBilledAsInherited self.setup.scenario self.entries }
+        ensures cpus { All (λ e. e.cpu < self.setup.scenario.shape.cpus) self.entries }
+    {
+        self.history
+    }
+
+    /// One step of the processor, if the run goes on and the processor has the turn.
+    pub fn step(&mut self, cpu: CpuId) -> Turn
+        requires { cpu < self.old.setup.scenario.shape.cpus }
+        ensures turn { IsTurn self.old cpu result }
+        ensures run { self.new ≡ after_turn self.old result }
+        ensures own { IsOwn cpu result }
+    {
+        if let Some(end) = self.ended() {
+            return Turn::Ended(end);
+        }
+        let first = self.first_due();
+        if !self.has_turn(cpu, first) {
+            let due = self.due(first);
+            return Turn::NotYet { cpu: first, due };
+        }
+        Turn::Took(self.take_turn(cpu))
+    }
+
+    /// Steps the lowest processor that has the turn until the run has ended.
+    pub fn finish(&mut self) -> End
+        ensures ended { end_of_run self.new ≡ Some result }
+        ensures run { self.new ≡ finished self.old }
+        ensures later { IsLater self.old self.new }
+        ensures fixed { self.old.entries ≡ [] → self.new.entries ≡ fixed_run self.old.setup.scenario self.old.setup.limit }
+    {
+        loop {
+            if let Some(end) = self.ended() {
+                return end;
+            }
+            let first = self.first_due();
+            self.take_turn(first);
+        }
+    }
+
+    /// The lowest of the processors that are due least.
+    fn first_due(&self) -> CpuId
+        ensures same { result ≡ first_due (state_of self.now) self.now.entries (state_of self.now).shape.cpus }
+        ensures lowest { HasTurn Fixed (state_of self.now) self.now.entries result }
+        ensures exists { result < self.now.setup.scenario.shape.cpus }
+    {
+        self.machine.first_due(self.history.entries())
+    }
+
+    /// Whether the processor has the turn, where this is the lowest that has it.
+    fn has_turn(&self, cpu: CpuId, first: CpuId) -> bool
+        requires cpu { cpu < self.now.setup.scenario.shape.cpus }
+        requires first { first < self.now.setup.scenario.shape.cpus }
+        requires lowest { HasTurn Fixed (state_of self.now) self.now.entries first }
+        ensures yes { result ≡ true → HasTurnIn self.now cpu }
+        ensures no { result ≡ false → HasTurnIn self.now cpu → ⊥ }
+    {
+        match self.order {
+            Order::Free => self.due(cpu) == self.due(first),
+            Order::Fixed => cpu == first,
+        }
+    }
+
+    /// The step of a processor that has the turn, in a run that goes on.
+    fn take_turn(&mut self, cpu: CpuId) -> Entry
+        requires goes_on { end_of_run self.old ≡ None }
+        requires turn { HasTurnIn self.old cpu }
+        ensures taken { IsTaken self.old cpu result }
+        ensures run { self.new ≡ with_entry self.old result }
+        ensures own { result.cpu ≡ cpu }
+        ensures room { length self.old.entries < self.old.setup.limit }
+    {
+        let e = self.machine.step(
+            self.history.scenario(),
+            self.history.entries(),
+            self.parts.as_mut_slice(),
+            cpu,
+        );
+        let added = e;
+        self.history.add_entry(added);
+        let end = end_after(&self.machine, self.history.entries(), self.limit);
+        keep_end(&mut self.history, end);
+        e
+    }
+}
+
+/// The end of a run that has these entries and left this machine, which no reboot ended.
+fn end_after(machine: &Machine, entries: &[Entry], limit: u32) -> Option<End>
+    requires { All IsEntry entries.now }
+    ensures { result ≡ or_limit (over_by None (is_at_horizon machine.now entries.now)) limit (length entries.now) }
+{
+    if machine.is_at_horizon(entries) {
+        Some(End::Horizon)
+    } else if entries.len() == limit as usize {
+        Some(End::Limit)
+    } else {
+        None
+    }
+}
+
+/// The end, if there is one, is kept in a history that had none.
+fn keep_end(history: &mut History, end: Option<End>)
+    requires { history.old.end ≡ None }
+    ensures { history.new ≡ record history.old { end = end } }
+{
+    if let Some(end) = end {
+        history.set_end(end);
+    }
+}
+
+/// How many changes a run of the scenario can make.
+fn most_changes(scenario: &Scenario) -> u32
+    ensures { result ≡ most_changes scenario.now }
+{
+    let critical = scenario
+        .partitions()
+        .iter()
+        .filter(|row| row.critical > 0)
+        .count();
+    2 * scenario.commands().len() as u32 + critical as u32
+}
+
+/// Room for how each partition stands at a pick.
+fn start_parts(alloc: Global, count: usize) -> Result<Vec<PartFacts>, NoMemory>
+    ensures { IfOk result (λ v. length v.items ≡ count) }
+{
+    let mut parts = Vec::with_capacity(alloc, count)?;
+    for _ in 0..count {
+        parts.push(PartFacts {
+            funded: false,
+            standing: false,
+            shut: false,
+            used: 0,
+            budget: 0,
+        })?;
+    }
+    Ok(parts)
+}

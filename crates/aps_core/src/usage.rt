@@ -1,0 +1,127 @@
+ghost use Rattle.std.specs.Prelude.{◌≡◌, ◌+◌, ◌-◌, ◌*◌, ◌<◌, ◌≤◌, ◌^◌, ◌++◌, [], ◌∷◌, length, All, min, max};
+ghost use Rattle.aps_model.specs.Usage.{used, critical_used};
+ghost use Rattle.aps_model.specs.Budget.{part_facts, all_parts};
+ghost use Rattle.aps_model.specs.History.{IsEntry};
+ghost use Rattle.aps_model.specs.Partition.{IsRow};
+ghost use Rattle.aps_model.specs.Shape.{IsShape};
+ghost use Rattle.aps_core.specs.Small.{IsSmall};
+
+use aps_model::{Entry, Nanos, PartFacts, PartitionId, PartitionRow, Shape, has_allowance};
+
+/// How much of the time from one moment to another lies in ticks `a` to `b - 1`.
+fn overlap(tick: u64, a: u64, b: u64, from: Nanos, to: Nanos) -> Nanos
+    requires first { a * tick < 2 ^ 63 }
+    requires end { b * tick < 2 ^ 63 }
+    ensures { result ≡ min to (b * tick) - max from (a * tick) }
+{
+    to.min(b * tick).saturating_sub(from.max(a * tick))
+}
+
+/// What the partition used in ticks `a` to `b - 1`, over all entries and the last one.
+fn used(entries: &[Entry], last: &Entry, tick: u64, p: PartitionId, a: u64, b: u64) -> Nanos
+    requires entries { All IsEntry entries.now }
+    requires last { IsEntry last.now }
+    requires few { length entries.now ≤ 4000000 }
+    requires first { a * tick < 2 ^ 63 }
+    requires end { b * tick < 2 ^ 63 }
+    ensures same { result ≡ used tick (entries.now ++ last.now ∷ []) p a b }
+    ensures few { result ≤ 10000000 * (length entries.now + 1) }
+{
+    let mut sum = 0;
+    for e in entries {
+        if e.billed == Some(p) {
+            sum += overlap(tick, a, b, e.from, e.to);
+        }
+    }
+    if last.billed == Some(p) {
+        sum += overlap(tick, a, b, last.from, last.to);
+    }
+    sum
+}
+
+/// The critical time that it used in ticks `a` to `b - 1`.
+fn critical_used(
+    entries: &[Entry],
+    last: &Entry,
+    tick: u64,
+    p: PartitionId,
+    a: u64,
+    b: u64,
+) -> Nanos
+    requires entries { All IsEntry entries.now }
+    requires last { IsEntry last.now }
+    requires few { length entries.now ≤ 4000000 }
+    requires first { a * tick < 2 ^ 63 }
+    requires end { b * tick < 2 ^ 63 }
+    ensures { result ≡ critical_used tick (entries.now ++ last.now ∷ []) p a b }
+{
+    let mut sum = 0;
+    for e in entries {
+        if e.billed == Some(p) && e.critical {
+            sum += overlap(tick, a, b, e.from, e.to);
+        }
+    }
+    if last.billed == Some(p) && last.critical {
+        sum += overlap(tick, a, b, last.from, last.to);
+    }
+    sum
+}
+
+/// The partition in the window at tick `j`.
+fn part_facts(
+    shape: &Shape,
+    rows: &[PartitionRow],
+    entries: &[Entry],
+    last: &Entry,
+    j: u64,
+    p: usize,
+) -> PartFacts
+    requires shape { IsShape shape.now }
+    requires few_rows { length rows.now ≤ 32 }
+    requires rows { All IsRow rows.now }
+    requires p { p < length rows.now }
+    requires entries { All IsEntry entries.now }
+    requires few { length entries.now ≤ 4000000 }
+    requires last { IsEntry last.now }
+    requires j { j ≤ 1000000 }
+    ensures same { result ≡ part_facts shape.now rows.now (entries.now ++ last.now ∷ []) j p }
+    ensures small { IsSmall result }
+{
+    let id = PartitionId::at(p);
+    let row = &rows[p];
+    let first = (j + 1).saturating_sub(u64::from(shape.window));
+    let spent = used(entries, last, shape.tick, id, first, j + 1);
+    let critical = critical_used(entries, last, shape.tick, id, first, j + 1);
+    PartFacts {
+        funded: has_allowance(spent, row.budget, shape),
+        standing: critical < row.critical,
+        shut: shape.limit && !has_allowance(spent, row.max, shape),
+        used: spent,
+        budget: row.budget,
+    }
+}
+
+/// Each partition in the window at tick `j`.
+pub fn fill_parts(
+    shape: &Shape,
+    rows: &[PartitionRow],
+    entries: &[Entry],
+    last: &Entry,
+    j: u64,
+    parts: &mut [PartFacts],
+)
+    requires shape { IsShape shape.now }
+    requires few_rows { length rows.now ≤ 32 }
+    requires rows { All IsRow rows.now }
+    requires one_each { length parts.old ≡ length rows.now }
+    requires entries { All IsEntry entries.now }
+    requires few { length entries.now ≤ 4000000 }
+    requires last { IsEntry last.now }
+    requires j { j ≤ 1000000 }
+    ensures same { parts.new ≡ all_parts shape.now rows.now (entries.now ++ last.now ∷ []) j }
+    ensures small { All IsSmall parts.new }
+{
+    for p in 0..rows.len() {
+        parts[p] = part_facts(shape, rows, entries, last, j, p);
+    }
+}
