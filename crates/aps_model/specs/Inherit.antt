@@ -1,4 +1,4 @@
-use Rattle.std.specs.Prelude.{◌≢◌, ℕ, max, List, [], ◌∷◌, map, nat_eq, if◌then◌else◌, Option, Some, None, unwrap_or, slice_index_or}
+use Rattle.std.specs.Prelude.{◌≡◌, ◌≢◌, ℕ, max, List, [], ◌∷◌, map, nat_eq, if◌then◌else◌, Option, Some, None, unwrap_or, slice_index_or}
 use Rattle.std.specs.Bool.{⊤}
 use Rattle.std.specs.List.{fold}
 use Rattle.aps_model.specs.declared.state.Facts.{Facts}
@@ -44,6 +44,13 @@ inheritance_of s = record {
   triples = s.triples;
   tops = map (λ (c : ChannelNow). top_of c.messages) s.channels;
 }
+
+-- inheritance in words: the server's values are its client's, with the priority raised to the greatest that waits
+-- at the channel
+pub record HasClientsValues (top : ℕ) (server client : Facts) : Type 0 where
+  pub partition : server.partition ≡ client.partition
+  pub critical : server.critical ≡ client.critical
+  pub priority : server.priority ≡ max client.priority top
 
 -- the values that the thread is scheduled and billed by
 abbrev pub facts_of : SchedulerState → ℕ → Facts

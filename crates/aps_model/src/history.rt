@@ -11,7 +11,10 @@ use crate::state::{Facts, State};
 use std::alloc::Global;
 use std::marker::Model;
 
-/// The entries of a run in the order in which the turns were taken, and what stands last.
+/// The entries of a run in the order in which the turns were taken, its replies and changes, and the rows, the shape
+/// and the end as they stand last. It keeps room for its lists, so that adding to them takes no memory. The type keeps
+/// that its rows and its shape have their ranges, and that of each entry `from` is at most `to`, `to` at most
+/// 10,000,000,000,000 ns and `to - from` at most 10,000,000 ns.
 #[derive(Debug, Drop)]
 pub struct History {
     scenario: Scenario,
@@ -44,7 +47,8 @@ impl History {
     ghost use Rattle.aps_model.specs.Shape.{IsShape};
     ghost use Rattle.aps_model.specs.Partition.{IsRow, rows_with};
 
-    /// Empty lists with this room, the scenario's rows and shape, and no end.
+    /// Empty lists with this room, the scenario's rows in room for 32, its shape, and no end. `NoMemory` drops the
+    /// scenario.
     pub fn begin(
         alloc: Global,
         scenario: Scenario,
@@ -80,12 +84,14 @@ impl History {
         })
     }
 
+    /// What was simulated.
     pub fn scenario(&self) -> &Scenario
         ensures { result.now ≡ self.now.scenario }
     {
         &self.scenario
     }
 
+    /// The entries, in the order in which the turns were taken.
     pub fn entries(&self) -> &[Entry]
         ensures same { result.now ≡ self.now.entries }
         ensures keeps { IsHistory self.now }
@@ -93,6 +99,7 @@ impl History {
         self.entries.as_slice()
     }
 
+    /// The replies to the commands that were done, in that order.
     pub fn replies(&self) -> &[Reply]
         ensures same { result.now ≡ self.now.replies }
         ensures keeps { IsHistory self.now }
@@ -100,6 +107,7 @@ impl History {
         self.replies.as_slice()
     }
 
+    /// The changes of rows and parameters, in the order in which they were made.
     pub fn changes(&self) -> &[Change]
         ensures same { result.now ≡ self.now.changes }
         ensures keeps { IsHistory self.now }
@@ -107,6 +115,7 @@ impl History {
         self.changes.as_slice()
     }
 
+    /// The partition rows as they stand last.
     pub fn rows(&self) -> &[PartitionRow]
         ensures same { result.now ≡ self.now.rows }
         ensures keeps { IsHistory self.now }
@@ -114,6 +123,7 @@ impl History {
         self.rows.as_slice()
     }
 
+    /// The shape as it stands last.
     pub fn shape(&self) -> &Shape
         ensures same { result.now ≡ self.now.shape }
         ensures keeps { IsHistory self.now }
@@ -121,13 +131,14 @@ impl History {
         &self.shape
     }
 
+    /// How the run ended, if it has.
     pub fn end(&self) -> Option<End>
         ensures { result ≡ self.now.end }
     {
         self.end
     }
 
-    /// Appends an entry, for which there is room.
+    /// Appends an entry, for which there is room. All else stays.
     pub fn add_entry(&mut self, e: Entry)
         requires room { length self.old.entries < self.old.room.entries }
         requires entry { IsEntry e }
@@ -143,7 +154,7 @@ impl History {
         append(&mut self.entries, e);
     }
 
-    /// Appends a reply, for which there is room.
+    /// Appends a reply, for which there is room. All else stays.
     pub fn add_reply(&mut self, r: Reply)
         requires { length self.old.replies < self.old.room.replies }
         ensures { self.new ≡ record self.old { replies = self.old.replies ++ r ∷ [] } }
@@ -171,7 +182,7 @@ impl History {
         append(&mut self.replies, r);
     }
 
-    /// Appends a change, for which there is room.
+    /// Appends a change, for which there is room. All else stays.
     pub fn add_change(&mut self, c: Change)
         requires { length self.old.changes < self.old.room.changes }
         ensures { self.new ≡ record self.old { changes = self.old.changes ++ c ∷ [] } }
@@ -181,7 +192,7 @@ impl History {
         append(&mut self.changes, c);
     }
 
-    /// Replaces the row of `p`, or appends it where `p` is the number of rows.
+    /// Replaces the row of `p`, or appends it where `p` is the number of rows. All else stays.
     pub fn set_row(&mut self, p: PartitionId, row: PartitionRow)
         requires place { p ≤ length self.old.rows }
         requires row { IsRow row }
@@ -195,7 +206,7 @@ impl History {
         }
     }
 
-    /// The shape is this one from now on.
+    /// The shape is this one from now on. All else stays.
     pub fn set_shape(&mut self, shape: Shape)
         requires { IsShape shape }
         ensures { self.new ≡ record self.old { shape = shape } }
@@ -203,7 +214,7 @@ impl History {
         self.shape = shape;
     }
 
-    /// The history has ended so.
+    /// The history has ended so. All else stays.
     pub fn set_end(&mut self, end: End)
         ensures { self.new ≡ record self.old { end = Some end } }
     {

@@ -10,7 +10,7 @@ pub type NoMemory = AllocError;
 /// Simulated time, in nanoseconds.
 pub type Nanos = u64;
 
-/// A number that stands outside its range.
+/// A number that stands outside its range, which is from `low` to `high`, both included.
 #[derive(Clone, Copy, Debug, PartialEq, Eq, Hash)]
 pub struct OutOfRange {
     pub value: u64,
@@ -18,7 +18,7 @@ pub struct OutOfRange {
     pub high: u64,
 }
 
-/// A processor, by its number.
+/// A processor, by its number, 0 to 15. Contracts see it as that number.
 #[derive(Clone, Copy, Debug, PartialEq, Eq, Hash, PartialOrd, Ord)]
 pub struct CpuId {
     index: u8,
@@ -35,6 +35,8 @@ impl Model for CpuId {
 }
 
 impl CpuId {
+    /// The processor with this number, 0 to 15. `OutOfRange` comes exactly where the number is greater, and has
+    /// it and the range.
     pub fn new(value: u64) -> Result<Self, OutOfRange>
         ensures accepted { IsOk result ↔ (value ≤ 15) }
         ensures kept { IfOk result (λ id. id ≡ value) }
@@ -68,7 +70,7 @@ impl CpuId {
     }
 }
 
-/// A thread, by its number.
+/// A thread, by its number, 0 to 1,023: its place in the scenario. Contracts see it as that number.
 #[derive(Clone, Copy, Debug, PartialEq, Eq, Hash, PartialOrd, Ord)]
 pub struct ThreadId {
     index: u16,
@@ -85,6 +87,8 @@ impl Model for ThreadId {
 }
 
 impl ThreadId {
+    /// The thread with this number, 0 to 1,023. `OutOfRange` comes exactly where the number is greater, and has
+    /// it and the range.
     pub fn new(value: u64) -> Result<Self, OutOfRange>
         ensures accepted { IsOk result ↔ (value ≤ 1023) }
         ensures kept { IfOk result (λ id. id ≡ value) }
@@ -122,7 +126,7 @@ impl ThreadId {
     }
 }
 
-/// A partition, by its number. `System` is 0.
+/// A partition, by its number, 0 to 31. `System` is 0. Contracts see it as that number.
 #[derive(Clone, Copy, Debug, PartialEq, Eq, Hash, PartialOrd, Ord)]
 pub struct PartitionId {
     index: u8,
@@ -139,6 +143,8 @@ impl Model for PartitionId {
 }
 
 impl PartitionId {
+    /// The partition with this number, 0 to 31. `OutOfRange` comes exactly where the number is greater, and has
+    /// it and the range.
     pub fn new(value: u64) -> Result<Self, OutOfRange>
         ensures accepted { IsOk result ↔ (value ≤ 31) }
         ensures kept { IfOk result (λ id. id ≡ value) }
@@ -172,7 +178,7 @@ impl PartitionId {
     }
 }
 
-/// A channel, by its number.
+/// A channel, by its number, 0 to 255: its place in the scenario. Contracts see it as that number.
 #[derive(Clone, Copy, Debug, PartialEq, Eq, Hash, PartialOrd, Ord)]
 pub struct ChannelId {
     index: u8,
@@ -187,6 +193,8 @@ impl Model for ChannelId {
 }
 
 impl ChannelId {
+    /// The channel with this number, 0 to 255. `OutOfRange` comes exactly where the number is greater, and has
+    /// it and the range.
     pub fn new(value: u64) -> Result<Self, OutOfRange>
         ensures accepted { IsOk result ↔ (value ≤ 255) }
         ensures kept { IfOk result (λ id. id ≡ value) }

@@ -1,4 +1,5 @@
-//! The types of the simulated scheduler, and the definitions that every contract cites.
+//! The types of the simulated scheduler, and in `specs/` the definitions that every contract cites
+//! (`docs/DEFINITIONS.md` has them in words). Every other crate but `aps_io` stands on it.
 #![tactic(auto)]
 
 pub mod audit;
@@ -6,6 +7,7 @@ pub mod command;
 pub mod entry;
 pub mod history;
 pub mod ids;
+pub mod laws;
 pub mod merit;
 pub mod name;
 pub mod partition;

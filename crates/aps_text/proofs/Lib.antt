@@ -5,3 +5,8 @@ pub mod Readers
 pub mod Numbers
 pub mod Operations
 pub mod Options
+pub mod Entries
+pub mod Places
+pub mod Journals
+pub mod Wholes
+pub mod Words

@@ -6,7 +6,7 @@ use Rattle.std.proofs.lemmas.Fmt.{decimal_digit, decimal_step, decimal_by_steps}
 use Rattle.std.specs.Fmt.{decimal}
 use Rattle.std.specs.Char.{is_ascii_digit}
 use Rattle.aps_text.specs.Reader.{◌>>=◌, Reading, word_at, whole_word, after, digits_at, number_at}
-use Rattle.aps_text.proofs.Readers.{IsReader, IsStuck, IsFront, IsBegun, ok_parts, IsReader-word, SpellsWord}
+use Rattle.aps_text.proofs.Readers.{IsReader, IsStuck, IsFront, IsBegun, ok_parts, IsReader-word, SpellsWord, BeginsOther}
 
 -- one digit more
 pub decimal_push : (v d : ℕ) → 0 < v → d < 10 → v * 10 + d < 2 ^ 64 → decimal (v * 10 + d) ≡ decimal v ++ (48 + d) ∷ []
@@ -256,3 +256,28 @@ IsReader-number most stop fits plain = record {
   takes = number_takes most stop fits;
   stuck = number_stuck most stop fits plain;
 }
+
+-- ---- the first byte of a number
+
+pub record BeginsWithDigit (ds : List ℕ) : Type 0 where
+  pub digit : ℕ
+  pub others : List ℕ
+  pub low : 48 ≤ digit
+  pub high : digit ≤ 57
+  pub parts : ds ≡ digit ∷ others
+
+pub first_digit : (n : ℕ) → n < 2 ^ 64 → BeginsWithDigit (decimal n)
+first_digit n fits =
+    let Begins : ℕ → List ℕ → Type 0 = λ n ds. BeginsWithDigit ds in
+    decimal_by_steps Begins
+      (λ n small. record { digit = 48 + n; others = []; low = omega arith; high = omega arith; parts = refl })
+      (λ n ds large h. record { digit = h.digit; others = h.others ++ (48 + n % 10) ∷ []; low = h.low; high = h.high; parts = ap (λ (t : List ℕ). t ++ (48 + n % 10) ∷ []) h.parts })
+      n fits
+
+pub number_begins_other : (byte most stop : ℕ) → most < 2 ^ 64 → (byte < 48) ⊎ (57 < byte) → BeginsOther byte (SpellsNumber most stop)
+number_begins_other byte most stop fits (inl low) text n h =
+    let first = first_digit n (omega arith) in
+    (first.digit, first.others ++ stop ∷ [], h.0 ∙ ap (λ (t : List ℕ). t ++ stop ∷ []) first.parts, λ e. omega (arith, first.low))
+number_begins_other byte most stop fits (inr high) text n h =
+    let first = first_digit n (omega arith) in
+    (first.digit, first.others ++ stop ∷ [], h.0 ∙ ap (λ (t : List ℕ). t ++ stop ∷ []) first.parts, λ e. omega (arith, first.high))

@@ -3,42 +3,13 @@ use lib.Chars.{codes}
 use Rattle.std.proofs.Common.{◌≡◌, ℕ, ◌+◌, ◌/◌, ◌%◌, ◌^◌, ◌<◌, ◌≤◌, Bool, true, false, List, [], ◌∷◌, ◌++◌, Option, Some, None, Result, Ok, Err, refl, sym, ap, subst, ◌∙◌, ◌⊎◌, inl, inr, append_assoc, arith}
 use Rattle.std.specs.Prelude.{IfSome}
 use Rattle.std.specs.Fmt.{decimal}
-use Rattle.std.proofs.lemmas.Fmt.{decimal_by_steps}
 use Rattle.aps_model.specs.declared.entry.Done.{Done}
 use Rattle.aps_model.specs.declared.entry.Done.TheVariants.{Nothing, Run, Yield, SendBlocked, SendTo, ReceiveBlocked, ReceiveGot, ReceiveHolding, ReplyFreed, ReplyNoClient, Join, JoinNone, Priority, CriticalOn, CriticalOff, Repeat, Exit}
 use Rattle.aps_model.specs.Journal.{done_text, thread_in}
 use Rattle.aps_text.specs.Reader.{◌>>=◌, Reading, word_at, whole_word, after, nothing_at, number_at}
 use Rattle.aps_text.specs.Operation.{named_at, critical_at, join_at, send_at, receive_at, repeat_at, run_at, done_at}
-use Rattle.aps_text.proofs.Readers.{IsReader, IsInhabited, BeginsOther, SpellsAfter, SpellsBehind, SpellsWord, SpellsMade, IsReader-nothing, IsReader-after, IsReader-behind, IsReader-word, IsReader-made, IsReader-restated}
-use Rattle.aps_text.proofs.Numbers.{SpellsNumber, IsReader-number}
-
--- ---- the first byte of a number
-
-pub record BeginsWithDigit (ds : List ℕ) : Type 0 where
-  pub digit : ℕ
-  pub others : List ℕ
-  pub low : 48 ≤ digit
-  pub high : digit ≤ 57
-  pub parts : ds ≡ digit ∷ others
-
-pub first_digit : (n : ℕ) → n < 2 ^ 64 → BeginsWithDigit (decimal n)
-first_digit n fits =
-    let Begins : ℕ → List ℕ → Type 0 = λ n ds. BeginsWithDigit ds in
-    decimal_by_steps Begins
-      (λ n small. record { digit = 48 + n; others = []; low = omega arith; high = omega arith; parts = refl })
-      (λ n ds large h. record { digit = h.digit; others = h.others ++ (48 + n % 10) ∷ []; low = h.low; high = h.high; parts = ap (λ (t : List ℕ). t ++ (48 + n % 10) ∷ []) h.parts })
-      n fits
-
-pub number_begins_other : (byte most stop : ℕ) → most < 2 ^ 64 → (byte < 48) ⊎ (57 < byte) → BeginsOther byte (SpellsNumber most stop)
-number_begins_other byte most stop fits (inl low) text n h =
-    let first = first_digit n (omega arith) in
-    (first.digit, first.others ++ stop ∷ [], h.0 ∙ ap (λ (t : List ℕ). t ++ stop ∷ []) first.parts, λ e. omega (arith, first.low))
-number_begins_other byte most stop fits (inr high) text n h =
-    let first = first_digit n (omega arith) in
-    (first.digit, first.others ++ stop ∷ [], h.0 ∙ ap (λ (t : List ℕ). t ++ stop ∷ []) first.parts, λ e. omega (arith, first.high))
-
-pub made_begins_other : {A B : Type 0} (byte : ℕ) (make : A → B) (Spells : List ℕ → A → Type 0) → BeginsOther byte Spells → BeginsOther byte (SpellsMade make Spells)
-made_begins_other byte make Spells apart text value h = apart text h.0 h.1
+use Rattle.aps_text.proofs.Readers.{IsReader, IsInhabited, BeginsOther, SpellsAfter, SpellsBehind, SpellsWord, SpellsMade, IsReader-nothing, IsReader-after, IsReader-behind, IsReader-word, IsReader-made, IsReader-restated, after_begins_other, word_begins_other, behind_begins_other, nothing_begins_other, made_begins_other}
+use Rattle.aps_text.proofs.Numbers.{SpellsNumber, IsReader-number, number_begins_other}
 
 -- ---- the texts of a part of the tree
 
@@ -111,19 +82,6 @@ part_behind head word read Spells p = record {
 }
 
 -- ---- other first bytes
-
-after_begins_other : {A : Type 0} (byte first : ℕ) (Spells Other : List ℕ → A → Type 0) → (first ≡ byte → ⊥) → BeginsOther byte Other → BeginsOther byte (SpellsAfter first Spells Other)
-after_begins_other byte first Spells Other ne apart text value (inl h) = (first, h.0, h.1, ne)
-after_begins_other byte first Spells Other ne apart text value (inr h) = apart text value h
-
-word_begins_other : {A : Type 0} (byte c : ℕ) (cs : List ℕ) (v : A) → (c ≡ byte → ⊥) → BeginsOther byte (SpellsWord (c ∷ cs) v)
-word_begins_other byte c cs v ne text value h = (c, cs, h.0, ne)
-
-behind_begins_other : {A : Type 0} (byte c : ℕ) (cs : List ℕ) (Spells : List ℕ → A → Type 0) → (c ≡ byte → ⊥) → BeginsOther byte (SpellsBehind (c ∷ cs) Spells)
-behind_begins_other byte c cs Spells ne text value h = (c, cs ++ h.0, h.1, ne)
-
-nothing_begins_other : {A : Type 0} (byte : ℕ) → BeginsOther {A = A} byte (λ text value. ⊥)
-nothing_begins_other byte text value h = absurd h
 
 named_begins_other : (byte : ℕ) (make : ℕ → Done) → 57 < byte → BeginsOther byte (SpellsMade make (SpellsNumber 1023 32))
 named_begins_other byte make high = made_begins_other byte make (SpellsNumber 1023 32) (number_begins_other byte 1023 32 (omega arith) (inr high))

@@ -322,6 +322,23 @@ IsReader-both first second First Second r q some = record {
   stuck = stuck_both first second First Second r q some;
 }
 
+-- a reader of a kind that has a text
+pub record IsLive {A : Type 0} (read : List ℕ → Reading A) (Spells : List ℕ → A → Type 0) : Type 0 where
+  pub reader : IsReader read Spells
+  pub some : IsInhabited Spells
+
+pub IsLive-value : {A : Type 0} (v : A) → IsLive (λ (rest : List ℕ). Ok (v, rest)) (SpellsNothing v)
+IsLive-value v = record { reader = IsReader-value v; some = ([], v, (refl, refl)) }
+
+pub IsLive-both : {A B : Type 0} (first : List ℕ → Reading A) (second : A × List ℕ → Reading B) (First : List ℕ → A → Type 0) (Second : A → List ℕ → B → Type 0) → IsLive first First → ((a : A) → IsLive (λ (bytes : List ℕ). second (a, bytes)) (Second a))
+    → IsLive (λ (bytes : List ℕ). first bytes >>= second) (SpellsBoth First Second)
+IsLive-both first second First Second r q =
+    let next = q r.some.1 in
+    record {
+      reader = IsReader-both first second First Second r.reader (λ a. (q a).reader) (λ a. (q a).some);
+      some = (r.some.0 ++ next.some.0, next.some.1, (r.some.0, next.some.0, r.some.1, refl, r.some.2, next.some.2));
+    }
+
 -- ---- a reader whose value is changed
 
 abbrev pub SpellsMade : {A B : Type 0} → (A → B) → (List ℕ → A → Type 0) → List ℕ → B → Type 0
@@ -335,3 +352,21 @@ IsReader-made {A = A} {B = B} make read Spells r =
       (λ text value h. (h.2, subst (λ (t : List ℕ). Spells t h.2) (sym (h.3 ∙ ap (λ (u : List ℕ). h.0 ++ u) h.5.0 ∙ append-nil h.0)) h.4, h.5.1))
       (λ text value h. (text, [], h.0, sym (append-nil text), h.1, (refl, h.2)))
       (IsReader-both read second Spells Second r (λ a. IsReader-value (make a)) (λ a. ([], make a, (refl, refl))))
+
+-- ---- other first bytes
+
+pub after_begins_other : {A : Type 0} (byte first : ℕ) (Spells Other : List ℕ → A → Type 0) → (first ≡ byte → ⊥) → BeginsOther byte Other → BeginsOther byte (SpellsAfter first Spells Other)
+after_begins_other byte first Spells Other ne apart text value (inl h) = (first, h.0, h.1, ne)
+after_begins_other byte first Spells Other ne apart text value (inr h) = apart text value h
+
+pub word_begins_other : {A : Type 0} (byte c : ℕ) (cs : List ℕ) (v : A) → (c ≡ byte → ⊥) → BeginsOther byte (SpellsWord (c ∷ cs) v)
+word_begins_other byte c cs v ne text value h = (c, cs, h.0, ne)
+
+pub behind_begins_other : {A : Type 0} (byte c : ℕ) (cs : List ℕ) (Spells : List ℕ → A → Type 0) → (c ≡ byte → ⊥) → BeginsOther byte (SpellsBehind (c ∷ cs) Spells)
+behind_begins_other byte c cs Spells ne text value h = (c, cs ++ h.0, h.1, ne)
+
+pub nothing_begins_other : {A : Type 0} (byte : ℕ) → BeginsOther {A = A} byte (λ text value. ⊥)
+nothing_begins_other byte text value h = absurd h
+
+pub made_begins_other : {A B : Type 0} (byte : ℕ) (make : A → B) (Spells : List ℕ → A → Type 0) → BeginsOther byte Spells → BeginsOther byte (SpellsMade make Spells)
+made_begins_other byte make Spells apart text value h = apart text h.0 h.1

@@ -1,6 +1,7 @@
 -- Readers of the front of a text. Each gives a value and the text behind what it read, or the text
 -- from the first byte on that no text of its kind goes on with.
 use Rattle.std.specs.Prelude.{◌≡◌, ℕ, ◌+◌, ◌-◌, ◌*◌, ◌==◌, nat_le, Bool, true, false, ◌&&◌, List, [], ◌∷◌, Result, Ok, Err, if◌then◌else◌}
+use Rattle.std.specs.Borrow.{Bor}
 use Rattle.std.specs.Char.{is_ascii_digit}
 
 abbrev pub Reading : Type 0 → Type 0
@@ -10,6 +11,11 @@ infixl 10 ◌>>=◌
 abbrev pub ◌>>=◌ : {A B : Type 0} → Result A (List ℕ) → (A → Result B (List ℕ)) → Result B (List ℕ)
 (Ok x) >>= f = f x
 (Err rest) >>= f = Err rest
+
+-- What a function answered, seen by view, is what the reader reads.
+abbrev pub Gives : {X Y : Type 0} → (X → Y) → Result X (Bor (List ℕ)) → Result Y (List ℕ) → Type 0
+Gives view (Ok x) reading = reading ≡ Ok (view x)
+Gives view (Err rest) reading = reading ≡ Err rest.now
 
 -- the text behind this word
 abbrev pub word_at : List ℕ → List ℕ → Result (List ℕ) (List ℕ)

@@ -1,0 +1,13 @@
+#!/bin/sh
+# Writes the theorem of each worked scenario in tools/rows/, and the list of them.
+cd "$(dirname "$0")/.." || exit 1
+out=crates/aps_model/proofs/Rows
+mkdir -p $out
+: > $out.antt
+for file in tools/rows/*.toml; do
+  name=$(basename "$file" .toml | sed -E 's/(^|_)([a-z0-9])/\U\2/g')
+  case $name in TwoEqual|TreeCommands|BudgetChange|CriticalThread) more=--upgraded ;; *) more= ;; esac
+  python3 tools/row.py "$file" $more > "$out/$name.antt" || exit 1
+  echo "pub mod $name" >> $out.antt
+done
+(cd crates/aps_model && rt fmt)
