@@ -5,6 +5,7 @@ pub mod Spans
 pub mod Sums
 pub mod Cells
 pub mod Windowed
+pub mod Moved
 pub mod Ascii
 pub mod Rows
 pub mod Tables

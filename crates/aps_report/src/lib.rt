@@ -2,6 +2,7 @@
 #![tactic(auto)]
 
 mod audit;
+mod by_entry;
 mod by_window;
 mod finished;
 mod lines;
@@ -10,5 +11,6 @@ mod replies;
 mod totals;
 mod zeros;
 
+pub use by_entry::{JournalFault, journal};
 pub use by_window::windows;
 pub use overview::{summary, usage};
