@@ -49,12 +49,12 @@ all_windows h s n loaded count =
     ∙ windows_apart h (start (loaded_tick h.shape h.entries h.changes)) (loaded_windows h.shape h.entries h.changes)
 
 -- over the numbers of the scan
-pub audit_is : (h : History) (shape : Shape) (entries : List Entry) (changes : List Change) (count s window end a : ℕ) (audit : Audit) → shape ≡ h.shape → entries ≡ h.entries → changes ≡ h.changes
-    → count ≡ finished_ticks shape entries → s ≡ loaded_tick shape entries changes → window ≡ shape.window → end ≡ count + 1 - window
+pub audit_is : (h : History) (shape : Shape) (entries : List Entry) (changes : List Change) (count s end a : ℕ) (audit : Audit) → shape ≡ h.shape → entries ≡ h.entries → changes ≡ h.changes
+    → count ≡ finished_ticks shape entries → s ≡ loaded_tick shape entries changes → end ≡ count + 1 - shape.window
     → s ≤ a → end ≤ a → a ≤ max s end
     → audit ≡ fold (with_window h) (record { loaded_from = s; worst_over = None; worst_short = None; critical_worst = None }) (range_with_len s (a - s))
     → audit ≡ audit_of h
-audit_is h shape entries changes count s window end a audit e1 e2 e3 finished loaded width last from to within is =
+audit_is h shape entries changes count s end a audit e1 e2 e3 finished loaded last from to within is =
     is ∙ all_windows h s (a - s) loaded' (omega (arith, finished', width', last, from, to, within))
   where
     loaded' : s ≡ loaded_tick h.shape h.entries h.changes
@@ -63,5 +63,5 @@ audit_is h shape entries changes count s window end a audit e1 e2 e3 finished lo
     finished' : count ≡ finished_ticks h.shape h.entries
     finished' = finished ∙ ap (λ (x : Shape). finished_ticks x entries) e1 ∙ ap (finished_ticks h.shape) e2
 
-    width' : window ≡ h.shape.window
-    width' = width ∙ ap (λ (x : Shape). x.window) e1
+    width' : shape.window ≡ h.shape.window
+    width' = ap (λ (x : Shape). x.window) e1

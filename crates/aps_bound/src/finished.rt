@@ -1,5 +1,5 @@
 //! How much of a run every processor has billed.
-ghost use Rattle.std.specs.Prelude.{◌≡◌, ℕ, ◌<◌, ◌≤◌, All, slice_index};
+ghost use Rattle.std.specs.Prelude.{◌≡◌, ℕ, ◌<◌, ◌≤◌, All, min, slice_index};
 ghost use Rattle.aps_model.specs.Due.{last_end};
 ghost use Rattle.aps_model.specs.History.{IsEntry};
 ghost use Rattle.aps_model.specs.Loaded.{finished_ticks};
@@ -19,9 +19,15 @@ pub fn finished_ticks(shape: &Shape, entries: &[Entry]) -> u64
     let ends = last_ends(entries);
     let mut least = ends[0];
     for cpu in 0..usize::from(shape.cpus) {
-        least = least.min(ends[cpu]);
+        least = earlier(least, ends[cpu]);
     }
     least / shape.tick
+}
+
+fn earlier(a: Nanos, b: Nanos) -> Nanos
+    ensures { result ≡ min a b }
+{
+    a.min(b)
 }
 
 /// Where the last entry of each processor ended, or 0 where it has none.

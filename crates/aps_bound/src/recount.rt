@@ -9,7 +9,7 @@ use crate::finished::finished_ticks;
 use crate::loaded::loaded_tick;
 use crate::usage::{Usage, usage_in};
 use crate::worst::{allowance, worse};
-use aps_model::{Audit, History, PartitionId};
+use aps_model::{Audit, History, PartitionId, Shape};
 
 /// The tick from which all finished ticks are steady, and over all loaded windows and all partitions the greatest
 /// amounts in nanoseconds by which usage exceeds the budget, falls short of it, and by which critical usage exceeds
@@ -31,11 +31,19 @@ pub fn audit(history: &History) -> Audit
         worst_short: None,
         critical_worst: None,
     };
-    let end = (count + 1).saturating_sub(u64::from(shape.window));
+    let end = first_unfinished(shape, count);
     for a in loaded_from..end {
         audit = with_window(history, &audit, a);
     }
     audit
+}
+
+/// The first tick from which a window isn't finished, or 0, where so many ticks are.
+fn first_unfinished(shape: &Shape, count: u64) -> u64
+    requires { count ≤ 100000000 }
+    ensures { result ≡ count + 1 - shape.now.window }
+{
+    (count + 1).saturating_sub(u64::from(shape.window))
 }
 
 /// The audit so far, with the window from tick `a` on.
@@ -65,23 +73,15 @@ fn with_partition(history: &History, usage: &Usage, audit: &Audit, a: u64, p: us
     let row = &history.rows()[p];
     let allowed = allowance(shape, row.budget);
     let spent = usage.used[p];
+    let over = spent.saturating_sub(allowed);
+    let short = allowed.saturating_sub(spent);
     let critical = usage.critical[p].saturating_sub(row.critical);
     let partition = PartitionId::at(p);
     let window = a as u32;
     Audit {
         loaded_from: audit.loaded_from,
-        worst_over: worse(
-            &audit.worst_over,
-            spent.saturating_sub(allowed),
-            partition,
-            window,
-        ),
-        worst_short: worse(
-            &audit.worst_short,
-            allowed.saturating_sub(spent),
-            partition,
-            window,
-        ),
+        worst_over: worse(&audit.worst_over, over, partition, window),
+        worst_short: worse(&audit.worst_short, short, partition, window),
         critical_worst: worse(&audit.critical_worst, critical, partition, window),
     }
 }

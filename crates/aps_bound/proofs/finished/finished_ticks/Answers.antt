@@ -12,7 +12,7 @@ loop-cpu-preserved c =
     let k = c.loop-cpu.cpu in
     let f : ℕ → ℕ → ℕ = λ least c. min least (last_end h c) in
     let here : slice_index c.last_ends-ends.result k ≡ last_end h k = c.last_ends-ends.ensures k (omega arith) in
-    c.min-least.ensures ∙ ap (λ n. min n (slice_index c.last_ends-ends.result k)) c.loop-cpu.invariant
+    c.earlier-least.ensures ∙ ap (λ n. min n (slice_index c.last_ends-ends.result k)) c.loop-cpu.invariant
     ∙ ap (min (fold f (last_end h 0) (range_with_len 0 k))) here
     ∙ sym (fold-more f (last_end h 0) 0 k k (omega arith))
 

@@ -14,6 +14,6 @@ loop-a-preserved c = record {
 
 pub returns : goal.returns
 returns c =
-    audit_is c.args.history.now c.shape-shape.result.now c.entries-entries.result.now c.changes.result.now c.finished_ticks-count.result c.loaded_tick-loaded_from.result c.from.result c.saturating_sub-end.result c.loop-a.a c.loop-a.audit
-    c.shape-shape.ensures.same c.entries-entries.ensures.same c.changes.ensures.same c.finished_ticks-count.ensures.same c.loaded_tick-loaded_from.ensures.same c.from.ensures c.saturating_sub-end.ensures
+    audit_is c.args.history.now c.shape-shape.result.now c.entries-entries.result.now c.changes.result.now c.finished_ticks-count.result c.loaded_tick-loaded_from.result c.first_unfinished-end.result c.loop-a.a c.loop-a.audit
+    c.shape-shape.ensures.same c.entries-entries.ensures.same c.changes.ensures.same c.finished_ticks-count.ensures.same c.loaded_tick-loaded_from.ensures.same c.first_unfinished-end.ensures
     c.loop-a.auto.a c.loop-a-test.false c.loop-a.invariant.reached c.loop-a.invariant.same
