@@ -50,3 +50,4 @@ pub mod Servers
 pub mod SmallNumbers
 pub mod EnoughThreads
 pub mod BetweenLaw
+pub mod ChoiceLaws
