@@ -1,18 +1,16 @@
 -- What holds in the states that a step goes through.
-use Rattle.std.proofs.Common.{◌≡◌, ◌≢◌, ℕ, ◌+◌, ◌-◌, ◌/◌, ◌<◌, ◌≤◌, List, [], ◌∷◌, ◌++◌, length, refl, sym, ◌∙◌, ap, subst, Option, Some, None, slice_index_or, arith, inl, inr, ◌⊎◌, length-set}
-use Rattle.std.specs.Prelude.{All, unwrap_or}
+use Rattle.std.proofs.Common.{◌≡◌, ◌≢◌, ℕ, ◌+◌, ◌-◌, ◌<◌, ◌≤◌, List, length, refl, sym, ◌∙◌, ap, subst, Option, Some, None, arith, inl, inr, length-set}
+use Rattle.std.specs.Prelude.{unwrap_or}
 use Rattle.std.proofs.lemmas.Bool.{cases_eq}
 use Rattle.aps_model.specs.declared.entry.Entry.{Entry}
 use Rattle.aps_model.specs.declared.entry.Order.{Order}
 use Rattle.aps_model.specs.declared.partition.PartitionRow.{PartitionRow}
 use Rattle.aps_model.specs.declared.state.CpuNow.{CpuNow}
 use Rattle.aps_model.specs.declared.state.Pick.{Pick}
-use Rattle.aps_model.specs.declared.state.State.{State}
-use Rattle.aps_model.specs.declared.state.State.TheVariants.{Ready, Running}
+use Rattle.aps_model.specs.declared.state.State.TheVariants.{Running}
 use Rattle.aps_model.specs.declared.state.ThreadNow.{ThreadNow}
 use Rattle.aps_laws.specs.Bears.{NamesChannels}
 use Rattle.aps_laws.specs.Between.{IsBetween, IsWellFormed, after_bill, after_tick, before_pick}
-use Rattle.aps_laws.specs.Ids.{AreFactsFit}
 use Rattle.aps_laws.specs.Moments.{IsGrounded}
 use Rattle.aps_laws.specs.Sizes.{IsSameSizes}
 use Rattle.aps_laws.specs.Sound.{IsSound}
@@ -21,7 +19,7 @@ use Rattle.aps_laws.specs.ThreadFits.{Each, IsThreadFit}
 use Rattle.aps_laws.specs.Waits.{IsPlain, state_at}
 use Rattle.aps_laws.proofs.Commands.{sizes_same}
 use Rattle.aps_laws.proofs.EachStep.{IsTestedEach, back_each, tested_each}
-use Rattle.aps_laws.proofs.IdsLaw.{AllFit, all_fit}
+use Rattle.aps_laws.proofs.IdsLaw.{all_fit}
 use Rattle.aps_laws.proofs.Inherits.{all_more, facts_fit}
 use Rattle.aps_laws.proofs.ListsFit.{AreListsFit, begun_lists, lists_same, settled_lists, tested_lists}
 use Rattle.aps_laws.proofs.Mid.{IsFramed, back_mid, command_kept, framed_bears, sizes_trans, test_mid, tested_by, ticked, unflagged}
@@ -31,12 +29,11 @@ use Rattle.aps_laws.proofs.RowsGrow.{settled_rows, tested_rows}
 use Rattle.aps_laws.proofs.StampCounts.{settled_stamps, tested_stamps, ticked_stamps}
 use Rattle.aps_laws.proofs.StepOf.{bill_at, horizon_same, mid_count}
 use Rattle.aps_laws.proofs.ThreadFacts.{running_within}
-use Rattle.aps_laws.proofs.ThreadFit.{IsBeforeBill, IsInStep, IsPrepared, IsSpent, prepared}
+use Rattle.aps_laws.proofs.ThreadFit.{IsBeforeBill, IsInStep, IsSpent, prepared}
 use Rattle.aps_laws.proofs.ThreadLaws.{stamps_borne, stamps_law}
 use Rattle.aps_laws.proofs.ThreadMoves.{alike_state, threads_bear}
-use Rattle.aps_laws.proofs.ThreadSteps.{IsReadyTo}
 use Rattle.aps_laws.proofs.Walk.{returned_kept, tick_kept}
-use Rattle.aps_model.specs.After.{After, after, over, state_after}
+use Rattle.aps_model.specs.After.{after, over, state_after}
 use Rattle.aps_model.specs.Bill.{spend}
 use Rattle.aps_model.specs.Due.{HasTurn, due, last_end, last_to, left_running}
 use Rattle.aps_model.specs.Legal.{IsLegal}

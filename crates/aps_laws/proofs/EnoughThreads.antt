@@ -1,5 +1,5 @@
 -- With enough threads nobody is starved.
-use Rattle.std.proofs.Common.{◌≡◌, ◌≢◌, ℕ, zero, suc, ◌+◌, ◌*◌, ◌/◌, ◌<◌, ◌≤◌, List, [], ◌∷◌, ◌++◌, map, length, refl, sym, ◌∙◌, ap, subst, Bool, true, false, cond, not, ◌&&◌, ◌||◌, nat_eq, nat_lt, nat_le, Option, Some, None, slice_index_or, slice_set, arith, inl, inr, ◌⊎◌, length-set}
+use Rattle.std.proofs.Common.{◌≡◌, ◌≢◌, ℕ, zero, suc, ◌+◌, ◌*◌, ◌/◌, ◌<◌, ◌≤◌, List, [], ◌∷◌, ◌++◌, map, length, refl, sym, ◌∙◌, ap, subst, Bool, true, false, cond, not, ◌&&◌, ◌||◌, nat_eq, nat_lt, nat_le, Option, Some, None, arith, inl, inr, ◌⊎◌, length-set}
 use Rattle.std.specs.List.{filter, find, list_any, range_with_len, sum_by}
 use Rattle.std.proofs.lemmas.Bool.{cases_eq, cases_lt, eqb-true, ltb-true}
 use Rattle.std.proofs.lemmas.List.FromFn.{get_or-map-range_with_len, length-map-range_with_len}
@@ -24,13 +24,13 @@ use Rattle.aps_laws.proofs.EachStep.{IsStanding}
 use Rattle.aps_laws.proofs.Mid.{IsBack, back_mid, test_mid}
 use Rattle.aps_laws.proofs.Picked.{IsReadyBest, greatest_ready}
 use Rattle.aps_laws.proofs.SmallNumbers.{one_of, sum_added, sum_bounded, sum_changed, sum_less, sum_same}
-use Rattle.aps_laws.proofs.Sound.{after-append, legal_last, sound, sound_step_of}
+use Rattle.aps_laws.proofs.Sound.{after-append, legal_last, sound}
 use Rattle.aps_laws.proofs.StepOf.{bill_at, mid_cpu, step_by, tested_at}
 use Rattle.aps_laws.proofs.ThreadFacts.{set_other, set_same, within}
 use Rattle.aps_laws.proofs.WaitFacts.{test_eq, test_ne}
-use Rattle.aps_model.specs.After.{After, after, state_after}
+use Rattle.aps_model.specs.After.{After, state_after}
 use Rattle.aps_model.specs.Bill.{bill_of}
-use Rattle.aps_model.specs.Budget.{all_parts, is_shut, no_part, part_at, part_facts}
+use Rattle.aps_model.specs.Budget.{all_parts, no_part, part_at, part_facts}
 use Rattle.aps_model.specs.Due.{due, last_end}
 use Rattle.aps_model.specs.Flag.{flag_for, with_flag}
 use Rattle.aps_model.specs.Inherit.{facts_of, inherited, top_of}

@@ -1,5 +1,5 @@
 -- Each number in the state of a legal history names something that exists.
-use Rattle.std.proofs.Common.{◌≡◌, ◌≢◌, ℕ, zero, suc, ◌+◌, ◌/◌, ◌<◌, ◌≤◌, List, [], ◌∷◌, ◌++◌, map, length, refl, sym, ◌∙◌, ap, subst, Option, Some, None, slice_index_or, arith, inl, inr, ◌⊎◌}
+use Rattle.std.proofs.Common.{◌≡◌, ◌≢◌, ℕ, zero, suc, ◌/◌, ◌<◌, ◌≤◌, List, [], ◌∷◌, ◌++◌, map, length, refl, sym, ◌∙◌, ap, subst, Option, Some, None, slice_index_or, arith, inl, inr, ◌⊎◌}
 use Rattle.std.specs.Prelude.{All}
 use Rattle.std.specs.Option.{option_map}
 use Rattle.std.proofs.lemmas.Bool.{cases_eq, cases_lt}
@@ -13,8 +13,7 @@ use Rattle.aps_model.specs.declared.state.CpuNow.{CpuNow}
 use Rattle.aps_model.specs.declared.state.Pick.{Pick}
 use Rattle.aps_model.specs.declared.state.State.{State}
 use Rattle.aps_model.specs.declared.state.State.TheVariants.{Ready, Running, Sleeping, Sending, Receiving, Replying, Gone}
-use Rattle.aps_model.specs.declared.state.ThreadNow.{ThreadNow}
-use Rattle.aps_laws.specs.Ids.{AreFactsFit, IsInRange, IsMessageFit, IsPickFit, IsTripleFit, NamesKnown}
+use Rattle.aps_laws.specs.Ids.{AreFactsFit, IsInRange, IsMessageFit, IsTripleFit, NamesKnown}
 use Rattle.aps_laws.specs.Sound.{IsSound}
 use Rattle.aps_laws.specs.ThreadFits.{Each, StandsAt}
 use Rattle.aps_laws.specs.Untouched.{IsKept, IsPickSaid, thread_kept}
@@ -29,7 +28,7 @@ use Rattle.aps_laws.proofs.Opening.{idle_opening}
 use Rattle.aps_laws.proofs.Picked.{cpu_same, flag_running}
 use Rattle.aps_laws.proofs.Ranges.{pairs_within, receivers_within, senders_within, server_within}
 use Rattle.aps_laws.proofs.RowsGrow.{rows_begun, step_rows}
-use Rattle.aps_laws.proofs.Sound.{after-append, legal_last, pick_law, running_on, sound, sound_opening, sound_step, sound_step_of}
+use Rattle.aps_laws.proofs.Sound.{running_on, sound_opening, sound_step, sound_step_of}
 use Rattle.aps_laws.proofs.StepOf.{bill_at, mid_count, mid_own, step_by, tested_at}
 use Rattle.aps_laws.proofs.ThreadFacts.{running_within, within}
 use Rattle.aps_laws.proofs.ThreadFit.{AreFit, fit_opening, fit_step, start_count}
@@ -37,12 +36,12 @@ use Rattle.aps_laws.proofs.PickSays.{pick_says}
 use Rattle.aps_model.specs.After.{After, after, at_start, left_by, over, state_after}
 use Rattle.aps_model.specs.Budget.{all_parts}
 use Rattle.aps_model.specs.Due.{HasTurn, due}
-use Rattle.aps_model.specs.Flag.{flag_for, with_flag}
+use Rattle.aps_model.specs.Flag.{flag_for}
 use Rattle.aps_model.specs.Inherit.{facts_of}
 use Rattle.aps_model.specs.Legal.{IsLegal}
 use Rattle.aps_model.specs.Pick.{contenders, greatest}
 use Rattle.aps_model.specs.Program.{IsPriority}
-use Rattle.aps_model.specs.Scenario.{Scenario, op_at, thread_row}
+use Rattle.aps_model.specs.Scenario.{Scenario, op_at}
 use Rattle.aps_model.specs.SchedulerState.{ChannelNow, Message, SchedulerState, Triple, channel_at, cpu_at, idle, no_channel, thread_at}
 use Rattle.aps_model.specs.Step.{Step, chosen, settled, step}
 use Rattle.aps_model.specs.Valid.{IsScenario}

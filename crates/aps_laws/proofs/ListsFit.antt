@@ -1,10 +1,9 @@
 -- What waits and who serves whom keep their ranges through a step.
-use Rattle.std.proofs.Common.{◌≡◌, ◌≢◌, ℕ, zero, suc, ◌+◌, ◌-◌, ◌/◌, ◌<◌, ◌≤◌, List, [], ◌∷◌, ◌++◌, length, refl, sym, ◌∙◌, ap, subst, Bool, true, false, cond, nat_eq, Option, Some, None, slice_index_or, slice_set, arith, inl, inr}
+use Rattle.std.proofs.Common.{◌≡◌, ℕ, zero, suc, ◌-◌, ◌/◌, ◌<◌, ◌≤◌, List, [], ◌∷◌, ◌++◌, length, refl, sym, ◌∙◌, subst, Bool, true, false, cond, nat_eq, Option, Some, None, slice_index_or, slice_set, inl, inr}
 use Rattle.std.specs.Prelude.{All}
 use Rattle.std.proofs.lemmas.Bool.{cases_eq, cases_lt}
 use Rattle.std.proofs.lemmas.List.{get_or-set_other, get_or-set_same, set_past}
 use Rattle.std.proofs.lemmas.List.Elements.{All-append, All-cons, All-nil}
-use Rattle.aps_model.specs.declared.command.CommandRow.{CommandRow}
 use Rattle.aps_model.specs.declared.entry.Entry.{Entry}
 use Rattle.aps_model.specs.declared.merit.Contender.{Contender}
 use Rattle.aps_model.specs.declared.merit.PartFacts.{PartFacts}
@@ -13,16 +12,14 @@ use Rattle.aps_model.specs.declared.program.Op.TheVariants.{Run, Forever, Sleep,
 use Rattle.aps_model.specs.declared.state.Pick.{Pick}
 use Rattle.aps_model.specs.declared.state.State.{State}
 use Rattle.aps_model.specs.declared.state.State.TheVariants.{Ready, Running, Sleeping, Sending, Receiving, Replying, Gone}
-use Rattle.aps_model.specs.declared.state.ThreadNow.{ThreadNow}
 use Rattle.aps_laws.specs.Bears.{NamesChannels}
 use Rattle.aps_laws.specs.Ids.{AreFactsFit}
 use Rattle.aps_laws.specs.ThreadFits.{Each}
-use Rattle.aps_laws.specs.Waits.{state_at}
 use Rattle.aps_laws.proofs.Commands.{command_by}
 use Rattle.aps_laws.proofs.EachStep.{IsStanding}
 use Rattle.aps_laws.proofs.EachThread.{each_set, go_on_exact}
 use Rattle.aps_laws.proofs.Inherits.{all_head, all_more, all_tail, facts_fit}
-use Rattle.aps_laws.proofs.Mid.{IsBilled, test_mid, tested_by, unflagged}
+use Rattle.aps_laws.proofs.Mid.{test_mid, tested_by, unflagged}
 use Rattle.aps_laws.proofs.Ranges.{pairs_within}
 use Rattle.aps_laws.proofs.StepOf.{bill_at, step_by, tested_at}
 use Rattle.aps_laws.proofs.ThreadFacts.{running_within}

@@ -1,9 +1,9 @@
 -- How large the moments of a legal history get, and the time that its entries bill.
-use Rattle.std.proofs.Common.{◌≡◌, ◌≢◌, ℕ, zero, suc, ◌+◌, ◌-◌, ◌*◌, ◌/◌, ◌<◌, ◌≤◌, min, max, List, [], ◌∷◌, ◌++◌, length, refl, sym, ◌∙◌, ap, subst, Bool, true, false, cond, nat_eq, ◌&&◌, Option, Some, None, slice_index_or, arith, inl, inr, mul-le-mul_right}
+use Rattle.std.proofs.Common.{◌≡◌, ◌≢◌, ℕ, zero, suc, ◌+◌, ◌-◌, ◌*◌, ◌/◌, ◌<◌, ◌≤◌, min, max, List, [], ◌∷◌, ◌++◌, refl, sym, ◌∙◌, ap, subst, Bool, true, false, cond, nat_eq, ◌&&◌, Option, Some, None, slice_index_or, arith, inl, inr, mul-le-mul_right}
 use Rattle.std.specs.Prelude.{All, unwrap_or}
 use Rattle.std.specs.List.{range_with_len, sum_by}
 use Rattle.std.proofs.Math.Nat.{div-mul-le_self, mul-le-mul_left}
-use Rattle.std.proofs.lemmas.Bool.{cases_eq, cases_lt}
+use Rattle.std.proofs.lemmas.Bool.{cases_eq}
 use Rattle.std.proofs.lemmas.List.Elements.{All-append, All-cons, All-nil}
 use Rattle.std.proofs.lemmas.List.Sums.{sum_by-append, sum_by-cons}
 use Rattle.aps_model.specs.declared.entry.Entry.{Entry}
@@ -12,10 +12,10 @@ use Rattle.aps_model.specs.declared.shape.Shape.{Shape}
 use Rattle.aps_laws.specs.Moments.{IsTimely, moment}
 use Rattle.aps_laws.specs.Numbers.{AreMomentsSmall, FitsWindow, IsEntrySmall, IsUsageSmall, time_within}
 use Rattle.aps_laws.specs.Sizes.{IsSameSizes}
-use Rattle.aps_laws.specs.Sound.{IsNext, IsSound}
+use Rattle.aps_laws.specs.Sound.{IsSound}
 use Rattle.aps_laws.specs.Untouched.{IsStepOf}
 use Rattle.aps_laws.proofs.Carry.{carried}
-use Rattle.aps_laws.proofs.MomentLaws.{due_between, first_is_due, flag_due, last_other, last_own}
+use Rattle.aps_laws.proofs.MomentLaws.{first_is_due, last_other, last_own}
 use Rattle.aps_laws.proofs.Sound.{next_of, running_on, sound_opening, sound_step, sound_step_of, tick_pos}
 use Rattle.aps_laws.proofs.StepOf.{horizon_same}
 use Rattle.aps_laws.proofs.ThreadFit.{horizon_small}
@@ -24,7 +24,7 @@ use Rattle.aps_model.specs.After.{After, after, over, state_after}
 use Rattle.aps_model.specs.Due.{HasTurn, due, last_end, last_to, next_boundary}
 use Rattle.aps_model.specs.Legal.{IsLegal}
 use Rattle.aps_model.specs.Scenario.{Scenario}
-use Rattle.aps_model.specs.SchedulerState.{SchedulerState, cpu_at}
+use Rattle.aps_model.specs.SchedulerState.{SchedulerState}
 use Rattle.aps_model.specs.Shape.{horizon, whole}
 use Rattle.aps_model.specs.Step.{step}
 use Rattle.aps_model.specs.Usage.{billed_by, critical_by, critical_used, names, overlap, used, window_critical, window_used}

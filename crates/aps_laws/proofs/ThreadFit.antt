@@ -1,22 +1,20 @@
 -- Each thread fits its program, and has time left, in each legal history.
-use Rattle.std.proofs.Common.{◌≡◌, ◌≢◌, ℕ, zero, suc, ◌+◌, ◌-◌, ◌*◌, ◌^◌, ◌<◌, ◌≤◌, List, [], ◌∷◌, ◌++◌, length, refl, sym, ◌∙◌, ap, subst, Bool, true, false, Option, Some, None, slice_index_or, map, arith, inl, inr, ◌⊎◌, mul-le-mul_right}
+use Rattle.std.proofs.Common.{◌≡◌, ◌≢◌, ℕ, zero, suc, ◌+◌, ◌-◌, ◌*◌, ◌<◌, ◌≤◌, List, [], ◌∷◌, ◌++◌, length, refl, sym, ◌∙◌, ap, subst, Bool, false, Option, Some, None, slice_index_or, arith, inl, inr, mul-le-mul_right}
 use Rattle.std.specs.Prelude.{unwrap_or}
 use Rattle.std.specs.Option.{option_map}
-use Rattle.std.proofs.lemmas.Bool.{cases_eq}
 use Rattle.aps_model.specs.declared.entry.Entry.{Entry}
 use Rattle.aps_model.specs.declared.entry.Order.{Order}
 use Rattle.aps_model.specs.declared.program.Op.{Op}
-use Rattle.aps_model.specs.declared.program.Op.TheVariants.{Forever, Sleep, Send, Receive, Priority, Exit}
+use Rattle.aps_model.specs.declared.program.Op.TheVariants.{Sleep, Priority}
 use Rattle.aps_model.specs.declared.scenario.ThreadRow.{ThreadRow}
 use Rattle.aps_model.specs.declared.shape.Shape.{Shape}
 use Rattle.aps_model.specs.declared.state.State.{State}
 use Rattle.aps_model.specs.declared.state.State.TheVariants.{Ready, Running, Sleeping, Sending, Receiving, Replying, Gone}
 use Rattle.aps_model.specs.declared.state.ThreadNow.{ThreadNow}
 use Rattle.aps_laws.specs.Moments.{moment}
-use Rattle.aps_laws.specs.Sound.{IsNext, IsSound}
-use Rattle.aps_laws.specs.Stamps.{IsActive}
+use Rattle.aps_laws.specs.Sound.{IsSound}
 use Rattle.aps_laws.specs.ThreadFits.{Each, IsAwake, IsThreadFit, IsThreadTimed, StandsAt}
-use Rattle.aps_laws.specs.Untouched.{IsComplete, IsStepOf}
+use Rattle.aps_laws.specs.Untouched.{IsStepOf}
 use Rattle.aps_laws.proofs.Carry.{carried}
 use Rattle.aps_laws.proofs.Channels.{names_channels}
 use Rattle.aps_laws.proofs.EachThread.{GoesOn, MayGoOn, awake_in, sleep_or_awake}
@@ -25,17 +23,16 @@ use Rattle.aps_laws.proofs.Mid.{unflagged}
 use Rattle.aps_laws.proofs.MomentLaws.{due_within, last_other, last_own, moment-append, turn_early}
 use Rattle.aps_laws.proofs.Opening.{IsFirst, first_in}
 use Rattle.aps_laws.proofs.StepOf.{bill_says, horizon_same}
-
 use Rattle.aps_laws.proofs.Programs.{IsCallTime, after_fits, first_fits, fit_of, next_fits, op_fits, row_fits, some_left}
 use Rattle.aps_laws.proofs.RowsGrow.{rows_begun, step_rows}
-use Rattle.aps_laws.proofs.Sound.{next_of, running_on, sound_opening, sound_step, sound_step_of, tick_pos}
+use Rattle.aps_laws.proofs.Sound.{running_on, sound_opening, sound_step, sound_step_of, tick_pos}
 use Rattle.aps_laws.proofs.ThreadSteps.{ThreadBears, tick_each}
 use Rattle.aps_model.specs.After.{After, after, at_start, is_at_horizon, left_by, over}
 use Rattle.aps_model.specs.Due.{HasTurn, due, last_end, last_to}
 use Rattle.aps_model.specs.Legal.{IsLegal}
 use Rattle.aps_model.specs.Opening.{first_op, first_state, stamp_after, start_threads, started}
 use Rattle.aps_model.specs.Operation.{duration, enter, place_after, state_in}
-use Rattle.aps_model.specs.Program.{IsOp, IsPriority, is_last_op}
+use Rattle.aps_model.specs.Program.{IsOp, is_last_op}
 use Rattle.aps_model.specs.Scenario.{Scenario, no_thread_row, op_at, thread_row}
 use Rattle.aps_model.specs.SchedulerState.{SchedulerState, cpu_at, no_thread, thread_at}
 use Rattle.aps_model.specs.Shape.{horizon}
@@ -342,10 +339,13 @@ leaves : (scenario : Scenario) (s : SchedulerState) (h : List Entry) (c rows : �
     → StepLeaves scenario s h c (IsInStep scenario h (due s h c) c rows) (IsSpent scenario (due s h c) rows) (λ o y t. IsThreadFit scenario rows y t × IsThreadTimed scenario o (h ++ e ∷ []) t)
 leaves scenario s h c rows e end p = record {
   ends = λ o y t why m off. (m.fit, timed_off scenario s h c rows e o y t p m off);
-  ends_own = λ o y t why m run. (m.fit, timed_on scenario s h c e o t p m.since run (λ ne going. absurd (elim why [
-    | inl at ↦ ne (at ∙ end)
-    | inr reboot ↦ reboot going
-  ])));
+  ends_own = λ o y t why m run. (
+    m.fit,
+    timed_on scenario s h c e o t p m.since run (λ ne going. absurd (elim why [
+      | inl at ↦ ne (at ∙ end)
+      | inr reboot ↦ reboot going
+    ])),
+  );
   rests = λ y t ne m off. (m.fit, timed_off scenario s h c rows e None y t p m off);
   picks = λ y t ne m ready. (
     fit_state scenario rows y (Running c) t m.fit (subst (λ z. StandsAt z (op_at scenario y t.place)) ready m.fit.stands) (λ u k. cc),
