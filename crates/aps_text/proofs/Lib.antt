@@ -10,3 +10,4 @@ pub mod Places
 pub mod Journals
 pub mod Wholes
 pub mod Words
+pub mod Rows

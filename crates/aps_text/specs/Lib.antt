@@ -1,4 +1,5 @@
 pub mod Ascii
+pub mod InTime
 pub mod Reader
 pub mod Fields
 pub mod Operation

@@ -2,6 +2,7 @@
 #![tactic(auto)]
 
 mod fields;
+pub mod laws;
 mod line;
 mod operation;
 mod printing;
@@ -12,3 +13,6 @@ pub use line::{LineBuffer, MAX_LINE};
 pub use printing::{print_journal, push_entry};
 pub use reading::read_journal;
 pub use refusal::JournalRefusal;
+
+#[cfg(test)]
+mod tests;
