@@ -7,3 +7,4 @@ pub mod Boot
 pub mod Turns
 pub mod Kept
 pub mod Finish
+pub mod Given

@@ -6,3 +6,4 @@ pub mod Run
 pub mod Turn
 pub mod Core
 pub mod CoreView
+pub mod Given

@@ -6,6 +6,8 @@ mod due;
 mod machine;
 mod merit;
 mod simulator;
+#[cfg(test)]
+mod tests;
 mod turn;
 mod usage;
 
