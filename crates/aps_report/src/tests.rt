@@ -82,13 +82,7 @@ fn begun(alloc: Global) -> Result<History, NoMemory>
 }
 
 /// An entry of processor 0 without a critical, a starved or a flagged one.
-fn entry(
-    from: Nanos,
-    to: Nanos,
-    ran: Option<usize>,
-    done: Done,
-    picked: Option<usize>,
-) -> Entry
+fn entry(from: Nanos, to: Nanos, ran: Option<usize>, done: Done, picked: Option<usize>) -> Entry
     requires ran { IfSome ran (λ x. x ≤ 1) }
     requires picked { IfSome picked (λ x. x ≤ 1) }
     ensures from { result.from ≡ from }
@@ -227,7 +221,12 @@ fn the_answers_to_questions(rt: HostRuntime) -> Result<(), Fail> {
         used: 6,
         critical_used: 5,
     };
-    check(&rt, alloc, statistics, "\nreply 7 statistics 1 used 6 critical_used 5\n")?;
+    check(
+        &rt,
+        alloc,
+        statistics,
+        "\nreply 7 statistics 1 used 6 critical_used 5\n",
+    )?;
     Ok(())
 }
 
