@@ -7,4 +7,6 @@ pub mod Boot
 pub mod Turns
 pub mod Kept
 pub mod Finish
+pub mod Recent
+pub mod Rising
 pub mod Given

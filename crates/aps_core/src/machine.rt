@@ -9,7 +9,8 @@ ghost use Rattle.aps_model.specs.History.{IsEntry};
 ghost use Rattle.aps_model.specs.Scenario.{Scenario as ScenarioOf};
 ghost use Rattle.aps_model.specs.Opening.{start_threads};
 ghost use Rattle.aps_model.specs.SchedulerState.{idle};
-ghost use Rattle.aps_model.specs.Shape.{IsShape, horizon};
+ghost use Rattle.aps_model.specs.Shape.{horizon};
+ghost use Rattle.aps_core.specs.Rising.{IsRising};
 
 mod flag;
 mod pick;
@@ -227,6 +228,7 @@ impl Machine {
         requires one_each { length parts.old ≡ length self.old.rows }
         requires cpu { cpu < length self.old.cpus }
         requires entries { All IsEntry entries.now }
+        requires rising { IsRising entries.now }
         requires few { length entries.now ≤ 4000000 }
         requires entry { IsEntry e }
         requires within { e.to ≤ horizon self.old.shape }
@@ -284,6 +286,7 @@ impl Machine {
         requires cpu { cpu < length self.old.cpus }
         requires threads { length scenario.now.threads ≡ length self.old.threads }
         requires entries { All IsEntry entries.now }
+        requires rising { IsRising entries.now }
         requires few { length entries.now ≤ 4000000 }
         requires bounded { IsBounded self.old (length entries.now) }
         requires forward { last_end entries.now cpu ≤ due self.old entries.now cpu }

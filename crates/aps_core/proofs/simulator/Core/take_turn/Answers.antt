@@ -4,6 +4,8 @@ use Rattle.aps_core.specs.CoreView.{run_of}
 use Rattle.aps_core.specs.Run.{end_of_run}
 use Rattle.aps_core.specs.Turn.{HasTurnIn}
 use Rattle.aps_core.proofs.Kept.{added_last, core_kept, step_read, due_in, entry_fits, own_entry}
+use Rattle.aps_core.specs.Rising.{IsRising}
+use Rattle.aps_core.proofs.Rising.{rising_law}
 use Rattle.aps_core.proofs.Turns.{IsDueNow}
 use Rattle.aps_core.proofs.simulator.Core.take_turn.Goals as goal
 
@@ -19,6 +21,11 @@ due_soon c =
 
 pub step-e-requires-clause-cpu : goal.step-e-requires-clause-cpu
 step-e-requires-clause-cpu c = (due_soon c).exists
+
+pub step-e-requires-clause-rising : goal.step-e-requires-clause-rising
+step-e-requires-clause-rising c =
+    let run = c.self.invariant.keeps in
+    subst IsRising (sym c.entries.ensures.same) (rising_law c.self.inside.history.scenario c.self.inside.order run.setup.valid c.self.inside.history.entries run.legal)
 
 pub step-e-requires-clause-forward : goal.step-e-requires-clause-forward
 step-e-requires-clause-forward c = rw c.entries.ensures.same (due_soon c).forward
