@@ -6,6 +6,8 @@ ghost use Rattle.aps_model.specs.Legal.{IsLegal, fixed_run};
 ghost use Rattle.aps_model.specs.After.{is_at_horizon, or_limit, over_by};
 ghost use Rattle.aps_model.specs.History.{IsEntry};
 ghost use Rattle.aps_model.specs.Tiled.{IsTiled, IsBilledAsInherited};
+ghost use Rattle.aps_model.specs.Bound.{KeepsWindowBound, KeepsCriticalBound};
+ghost use Rattle.aps_laws.specs.Choices.{EachPickIsGreatest};
 ghost use Rattle.aps_core.specs.Plain.{IsPlainScenario};
 ghost use Rattle.aps_core.specs.Run.{IsFirstEnd, IsLater, end_of_run, finished, history_of, most_changes, state_of};
 ghost use Rattle.aps_core.specs.Turn.{HasTurnIn, IsOwn, IsTaken, IsTurn, after_turn, with_entry};
@@ -90,6 +92,9 @@ impl Core {
         ensures first_end { IsFirstEnd self.now.setup.scenario self.now.setup.limit self.now.entries }
         ensures tiled { IsTiled self.now.setup.scenario.shape.tick self.now.entries }
         ensures billed { IsBilledAsInherited self.now.setup.scenario self.now.entries }
+        ensures picks { EachPickIsGreatest self.now.setup.scenario self.now.entries }
+        ensures bound { KeepsWindowBound self.now.setup.scenario self.now.entries }
+        ensures critical_bound { KeepsCriticalBound self.now.setup.scenario self.now.entries }
         ensures cpus { All (λ e. e.cpu < self.now.setup.scenario.shape.cpus) self.now.entries }
     {
         &self.history
@@ -102,6 +107,9 @@ impl Core {
         ensures first_end { IsFirstEnd self.setup.scenario self.setup.limit self.entries }
         ensures tiled { IsTiled self.setup.scenario.shape.tick self.entries }
         ensures billed { IsBilledAsInherited self.setup.scenario self.entries }
+        ensures picks { EachPickIsGreatest self.setup.scenario self.entries }
+        ensures bound { KeepsWindowBound self.setup.scenario self.entries }
+        ensures critical_bound { KeepsCriticalBound self.setup.scenario self.entries }
         ensures cpus { All (λ e. e.cpu < self.setup.scenario.shape.cpus) self.entries }
     {
         self.history

@@ -1,9 +1,8 @@
 -- A property of each thread by itself through a whole step.
-use Rattle.std.proofs.Common.{◌≡◌, ◌≢◌, ℕ, ◌+◌, ◌-◌, ◌/◌, ◌<◌, ◌≤◌, List, [], ◌∷◌, ◌++◌, length, refl, sym, ◌∙◌, ap, subst, false, nat_eq, Option, Some, None, slice_index_or, slice_set, arith, inl, inr, ◌⊎◌, length-set}
+use Rattle.std.proofs.Common.{◌≡◌, ◌≢◌, ℕ, ◌+◌, ◌-◌, ◌/◌, ◌<◌, ◌≤◌, List, [], ◌∷◌, ◌++◌, length, refl, sym, ◌∙◌, ap, subst, Option, Some, None, slice_index_or, slice_set, inl, inr, length-set}
 use Rattle.std.specs.Option.{option_map}
 use Rattle.std.proofs.lemmas.Bool.{cases_eq}
 use Rattle.aps_model.specs.declared.entry.Entry.{Entry}
-use Rattle.aps_model.specs.declared.state.State.{State}
 use Rattle.aps_model.specs.declared.state.State.TheVariants.{Ready, Running}
 use Rattle.aps_model.specs.declared.state.ThreadNow.{ThreadNow}
 use Rattle.aps_model.specs.declared.state.Pick.{Pick}
@@ -15,22 +14,21 @@ use Rattle.aps_laws.specs.Sizes.{IsSameSizes}
 use Rattle.aps_laws.specs.Untouched.{IsComplete, IsKept, thread_kept}
 use Rattle.aps_laws.specs.Waits.{IsPlain, state_at}
 use Rattle.aps_laws.proofs.EachThread.{each_beside, each_set}
-use Rattle.aps_laws.proofs.ThreadFacts.{within, set_same, running_within}
+use Rattle.aps_laws.proofs.ThreadFacts.{set_same, running_within}
 use Rattle.aps_laws.proofs.ThreadMoves.{alike_state}
 use Rattle.aps_laws.proofs.ThreadSteps.{Beside, IsReadyTo, ThreadBears, settled_each}
-use Rattle.aps_laws.proofs.Mid.{IsBack, back_mid, test_mid, tested_by, ticked, unflagged}
+use Rattle.aps_laws.proofs.Mid.{back_mid, test_mid, tested_by, ticked, unflagged}
 use Rattle.aps_laws.proofs.Picked.{IsReadyBest, flag_threads, greatest_ready}
 use Rattle.aps_laws.proofs.StepOf.{bill_at, horizon_same, not_horizon, step_by, tested_at}
 use Rattle.aps_model.specs.Bill.{spend}
 use Rattle.aps_model.specs.Budget.{all_parts}
-use Rattle.aps_model.specs.Due.{due, last_end}
-use Rattle.aps_model.specs.Flag.{flag_for, with_flag}
+use Rattle.aps_model.specs.Due.{due}
+use Rattle.aps_model.specs.Flag.{flag_for}
 use Rattle.aps_model.specs.Pick.{contenders, greatest}
 use Rattle.aps_model.specs.Scenario.{Scenario}
 use Rattle.aps_model.specs.SchedulerState.{SchedulerState, cpu_at, no_thread, thread_at}
 use Rattle.aps_model.specs.Shape.{horizon}
 use Rattle.aps_model.specs.Step.{Step, begun, billed, chosen, settled, step}
-use Rattle.aps_model.specs.TickWork.{tick_work}
 
 -- how long the step bills
 abbrev pub spent_at : SchedulerState → List Entry → ℕ → ℕ

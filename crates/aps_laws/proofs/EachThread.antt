@@ -1,5 +1,5 @@
 -- A property of each thread, where one is set or goes on.
-use Rattle.std.proofs.Common.{◌≡◌, ◌≢◌, ℕ, ◌+◌, ◌<◌, List, length, refl, sym, ◌∙◌, ap, subst, Bool, Option, Some, None, slice_index_or, slice_set, inl, inr, ◌⊎◌, length-set}
+use Rattle.std.proofs.Common.{◌≡◌, ◌≢◌, ℕ, ◌+◌, ◌<◌, List, length, refl, sym, subst, Some, slice_index_or, slice_set, inl, inr, ◌⊎◌, length-set}
 use Rattle.std.specs.Bool.{⊤}
 use Rattle.std.proofs.lemmas.Bool.{cases_eq}
 use Rattle.aps_model.specs.declared.program.Op.{Op}
@@ -11,7 +11,7 @@ use Rattle.aps_model.specs.declared.state.ThreadNow.{ThreadNow}
 use Rattle.aps_laws.specs.ThreadFits.{Each, IsAwake}
 use Rattle.aps_laws.specs.Waits.{state_at}
 use Rattle.aps_laws.proofs.ThreadFacts.{set_same, set_other}
-use Rattle.aps_model.specs.Operation.{duration, enter, go_on, state_in, with_ready, with_stamped}
+use Rattle.aps_model.specs.Operation.{duration, go_on, state_in, with_ready, with_stamped}
 use Rattle.aps_model.specs.Scenario.{Scenario, op_at}
 use Rattle.aps_model.specs.SchedulerState.{SchedulerState, no_thread, thread_at, with_thread}
 

@@ -7,16 +7,19 @@ use Rattle.aps_model.specs.declared.command.Change.{Change}
 use Rattle.aps_model.specs.declared.entry.Entry.{Entry}
 use Rattle.aps_model.specs.declared.entry.Order.{Order}
 use Rattle.aps_laws.specs.Grown.{AllAt}
-use Rattle.aps_laws.specs.Held.{HoldsRows}
+use Rattle.aps_laws.specs.Held.{HasRowsOfTick, HoldsRows}
+use Rattle.aps_laws.specs.Rows.{AreInOrder, AreKept}
 use Rattle.aps_laws.specs.Moments.{moment}
 use Rattle.aps_laws.proofs.BoundaryLaws.{last_split, latest}
 use Rattle.aps_laws.proofs.MomentLaws.{moment-append}
+use Rattle.aps_laws.proofs.RowLaws.{in_order, rows_stay}
 use Rattle.aps_laws.proofs.Prefixes.{by_entries, by_more, legal_up_to}
 use Rattle.aps_laws.proofs.Sound.{legal_last, next_law}
 use Rattle.aps_laws.proofs.StepGrown.{change_or_same}
+use Rattle.aps_laws.proofs.Words.{prefix_legal}
 use Rattle.aps_model.specs.After.{state_after}
 use Rattle.aps_model.specs.Legal.{IsLegal}
-use Rattle.aps_model.specs.Loaded.{has_change, is_among, state_of_tick, through_moment}
+use Rattle.aps_model.specs.Loaded.{has_change, is_among, rows_of_tick, state_of_tick, through_moment}
 use Rattle.aps_model.specs.Scenario.{Scenario}
 use Rattle.aps_model.specs.SchedulerState.{SchedulerState}
 use Rattle.aps_model.specs.Valid.{IsScenario}
@@ -87,13 +90,9 @@ none_before scenario order h later a b r legal =
 among_from : (a b t now : ℕ) → 0 < t → a * t ≤ now → now < b * t → is_among a b (now / t) ≡ true
 among_from a b t now pos from to = search (arith)
 
--- the state leaves the rows and the shape of tick a
-abbrev IsHeldFrom : Scenario → List Entry → ℕ → Type 0
-IsHeldFrom scenario h a = ((state_after scenario h).rows ≡ (state_of_tick scenario h a).rows) × ((state_after scenario h).shape ≡ (state_of_tick scenario h a).shape)
-
 held_step : (scenario : Scenario) (order : Order) (h : List Entry) (e : Entry) (a b : ℕ) → IsScenario scenario → IsLegal scenario order (h ++ e ∷ [])
-    → ((h ≡ [] → ⊥) → a * scenario.shape.tick ≤ moment h → moment h < b * scenario.shape.tick → has_change (state_after scenario h).changes a b ≡ false → IsHeldFrom scenario h a)
-    → a * scenario.shape.tick ≤ e.to → e.to < b * scenario.shape.tick → has_change (state_after scenario (h ++ e ∷ [])).changes a b ≡ false → IsHeldFrom scenario (h ++ e ∷ []) a
+    → ((h ≡ [] → ⊥) → a * scenario.shape.tick ≤ moment h → moment h < b * scenario.shape.tick → has_change (state_after scenario h).changes a b ≡ false → HasRowsOfTick scenario h h a)
+    → a * scenario.shape.tick ≤ e.to → e.to < b * scenario.shape.tick → has_change (state_after scenario (h ++ e ∷ [])).changes a b ≡ false → HasRowsOfTick scenario (h ++ e ∷ []) (h ++ e ∷ []) a
 held_step scenario order h e a b r legal held from to none =
     let t = scenario.shape.tick in
     let rises = (next_law scenario order h e r legal).rises in
@@ -117,14 +116,14 @@ held_step scenario order h e a b r legal held from to none =
       ]
     ]
   where
-    first : through_moment (a * scenario.shape.tick) (h ++ e ∷ []) ≡ h ++ e ∷ [] → IsHeldFrom scenario (h ++ e ∷ []) a
+    first : through_moment (a * scenario.shape.tick) (h ++ e ∷ []) ≡ h ++ e ∷ [] → HasRowsOfTick scenario (h ++ e ∷ []) (h ++ e ∷ []) a
     first whole = (ap (λ l. (state_after scenario l).rows) (sym whole), ap (λ l. (state_after scenario l).shape) (sym whole))
 
-held : (scenario : Scenario) (order : Order) (h : List Entry) (a b : ℕ) → IsScenario scenario → IsLegal scenario order h
-    → (h ≡ [] → ⊥) → a * scenario.shape.tick ≤ moment h → moment h < b * scenario.shape.tick → has_change (state_after scenario h).changes a b ≡ false → IsHeldFrom scenario h a
+pub held : (scenario : Scenario) (order : Order) (h : List Entry) (a b : ℕ) → IsScenario scenario → IsLegal scenario order h
+    → (h ≡ [] → ⊥) → a * scenario.shape.tick ≤ moment h → moment h < b * scenario.shape.tick → has_change (state_after scenario h).changes a b ≡ false → HasRowsOfTick scenario h h a
 held scenario order h a b r legal =
     by_entries scenario order
-    (λ g. (g ≡ [] → ⊥) → a * scenario.shape.tick ≤ moment g → moment g < b * scenario.shape.tick → has_change (state_after scenario g).changes a b ≡ false → IsHeldFrom scenario g a)
+    (λ g. (g ≡ [] → ⊥) → a * scenario.shape.tick ≤ moment g → moment g < b * scenario.shape.tick → has_change (state_after scenario g).changes a b ≡ false → HasRowsOfTick scenario g g a)
     (λ g e l m some from to none.
     let now = moment-append g e in
     held_step scenario order g e a b r l m (omega (arith, from, now)) (omega (arith, to, now)) none)
@@ -142,3 +141,27 @@ rows_held scenario order h a b r legal none = λ before later e split from to.
     let same : state_of_tick scenario (before ++ e ∷ []) a ≡ state_of_tick scenario h a =
     ap (state_after scenario) (sym (ap (through_moment (a * t)) split ∙ through_more (a * t) before later e from)) in
     (m.0 ∙ ap (λ (s : SchedulerState). s.rows) same, m.1 ∙ ap (λ (s : SchedulerState). s.shape) same)
+
+-- ---- the rows of a tick
+
+-- the entries up to a moment are a prefix
+through_split : (now : ℕ) (h : List Entry) → (rest : List Entry) × (h ≡ through_moment now h ++ rest)
+through_split now [] = ([], refl)
+through_split now (x ∷ h) = by_test (nat_le now x.to) (through_split now h)
+  where
+    by_test : (t : Bool) → (rest : List Entry) × (h ≡ through_moment now h ++ rest) → (rest : List Entry) × (x ∷ h ≡ cond t (x ∷ []) (x ∷ through_moment now h) ++ rest)
+    by_test true m = (h, refl)
+    by_test false m = (m.0, ap (λ l. x ∷ l) m.1)
+
+pub tick_in_order : (scenario : Scenario) (order : Order) (h : List Entry) (a : ℕ) → IsScenario scenario → IsLegal scenario order h → AreInOrder scenario (state_of_tick scenario h a)
+tick_in_order scenario order h a r legal =
+    let now = a * scenario.shape.tick in
+    let split = through_split now h in
+    in_order scenario order (through_moment now h) r (prefix_legal scenario order (through_moment now h) split.0 (subst (IsLegal scenario order) split.1 legal))
+
+pub tick_kept : (scenario : Scenario) (order : Order) (h : List Entry) (a : ℕ) → IsScenario scenario → IsLegal scenario order h → AreKept (rows_of_tick scenario h a) (state_after scenario h).rows
+tick_kept scenario order h a r legal =
+    let now = a * scenario.shape.tick in
+    let split = through_split now h in
+    subst (λ g. AreKept (rows_of_tick scenario h a) (state_after scenario g).rows) (sym split.1)
+    (rows_stay scenario order (through_moment now h) split.0 r (subst (IsLegal scenario order) split.1 legal))

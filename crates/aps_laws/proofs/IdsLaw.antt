@@ -1,5 +1,5 @@
 -- Each number in the state of a legal history names something that exists.
-use Rattle.std.proofs.Common.{◌≡◌, ◌≢◌, ℕ, zero, suc, ◌+◌, ◌/◌, ◌<◌, ◌≤◌, List, [], ◌∷◌, ◌++◌, map, length, refl, sym, ◌∙◌, ap, subst, Option, Some, None, slice_index_or, arith, inl, inr, ◌⊎◌}
+use Rattle.std.proofs.Common.{◌≡◌, ◌≢◌, ℕ, zero, suc, ◌/◌, ◌<◌, ◌≤◌, List, [], ◌∷◌, ◌++◌, map, length, refl, sym, ◌∙◌, ap, subst, Option, Some, None, slice_index_or, arith, inl, inr, ◌⊎◌}
 use Rattle.std.specs.Prelude.{All}
 use Rattle.std.specs.Option.{option_map}
 use Rattle.std.proofs.lemmas.Bool.{cases_eq, cases_lt}
@@ -13,8 +13,7 @@ use Rattle.aps_model.specs.declared.state.CpuNow.{CpuNow}
 use Rattle.aps_model.specs.declared.state.Pick.{Pick}
 use Rattle.aps_model.specs.declared.state.State.{State}
 use Rattle.aps_model.specs.declared.state.State.TheVariants.{Ready, Running, Sleeping, Sending, Receiving, Replying, Gone}
-use Rattle.aps_model.specs.declared.state.ThreadNow.{ThreadNow}
-use Rattle.aps_laws.specs.Ids.{AreFactsFit, IsInRange, IsMessageFit, IsPickFit, IsTripleFit, NamesKnown}
+use Rattle.aps_laws.specs.Ids.{AreFactsFit, IsInRange, IsMessageFit, IsTripleFit, NamesKnown}
 use Rattle.aps_laws.specs.Sound.{IsSound}
 use Rattle.aps_laws.specs.ThreadFits.{Each, StandsAt}
 use Rattle.aps_laws.specs.Untouched.{IsKept, IsPickSaid, thread_kept}
@@ -29,7 +28,7 @@ use Rattle.aps_laws.proofs.Opening.{idle_opening}
 use Rattle.aps_laws.proofs.Picked.{cpu_same, flag_running}
 use Rattle.aps_laws.proofs.Ranges.{pairs_within, receivers_within, senders_within, server_within}
 use Rattle.aps_laws.proofs.RowsGrow.{rows_begun, step_rows}
-use Rattle.aps_laws.proofs.Sound.{after-append, legal_last, pick_law, running_on, sound, sound_opening, sound_step, sound_step_of}
+use Rattle.aps_laws.proofs.Sound.{running_on, sound_opening, sound_step, sound_step_of}
 use Rattle.aps_laws.proofs.StepOf.{bill_at, mid_count, mid_own, step_by, tested_at}
 use Rattle.aps_laws.proofs.ThreadFacts.{running_within, within}
 use Rattle.aps_laws.proofs.ThreadFit.{AreFit, fit_opening, fit_step, start_count}
@@ -37,18 +36,18 @@ use Rattle.aps_laws.proofs.PickSays.{pick_says}
 use Rattle.aps_model.specs.After.{After, after, at_start, left_by, over, state_after}
 use Rattle.aps_model.specs.Budget.{all_parts}
 use Rattle.aps_model.specs.Due.{HasTurn, due}
-use Rattle.aps_model.specs.Flag.{flag_for, with_flag}
+use Rattle.aps_model.specs.Flag.{flag_for}
 use Rattle.aps_model.specs.Inherit.{facts_of}
 use Rattle.aps_model.specs.Legal.{IsLegal}
 use Rattle.aps_model.specs.Pick.{contenders, greatest}
 use Rattle.aps_model.specs.Program.{IsPriority}
-use Rattle.aps_model.specs.Scenario.{Scenario, op_at, thread_row}
+use Rattle.aps_model.specs.Scenario.{Scenario, op_at}
 use Rattle.aps_model.specs.SchedulerState.{ChannelNow, Message, SchedulerState, Triple, channel_at, cpu_at, idle, no_channel, thread_at}
 use Rattle.aps_model.specs.Step.{Step, chosen, settled, step}
 use Rattle.aps_model.specs.Valid.{IsScenario}
 
 -- the partition that a processor keeps is a row
-abbrev KeepsRows : SchedulerState → Type 0
+abbrev pub KeepsRows : SchedulerState → Type 0
 KeepsRows s = (c : ℕ) (p : Pick) → (cpu_at s c).running ≡ Some p → p.partition < length s.rows
 
 -- where the entry picks nobody, its processor keeps what it kept, or nothing
@@ -89,12 +88,12 @@ inherited_fit scenario a h m fit lists x below =
     (all_more (λ (t : Triple). (t.server < length s.threads) × (t.client < length s.threads)) (λ (t : Triple). t.client < length s.threads) s.triples (λ t f. f.1) (pairs_within s m.grounded.plain.waiting)) below
 
 -- all that is carried
-record AllFit (scenario : Scenario) (a : After) (h : List Entry) : Type 0 where
-  sound : IsSound scenario a.state h
-  count : length a.state.threads ≡ length scenario.threads
-  fit : AreFit scenario a h
-  lists : AreListsFit (length scenario.channels) a.state.channels a.state.triples
-  kept : KeepsRows a.state
+pub record AllFit (scenario : Scenario) (a : After) (h : List Entry) : Type 0 where
+  pub sound : IsSound scenario a.state h
+  pub count : length a.state.threads ≡ length scenario.threads
+  pub fit : AreFit scenario a h
+  pub lists : AreListsFit (length scenario.channels) a.state.channels a.state.triples
+  pub kept : KeepsRows a.state
 
 all_step : (scenario : Scenario) (order : Order) (a : After) (h : List Entry) (c : ℕ) → IsScenario scenario → over a h ≡ None → HasTurn order a.state h c → AllFit scenario a h → AllFit scenario (left_by (step scenario a.state h c)) (h ++ (step scenario a.state h c).entry ∷ [])
 all_step scenario order a h c r over turn m =
@@ -167,7 +166,7 @@ all_opening scenario r = record {
     nobody : (p : Pick) → None ≡ Some p → ⊥
     nobody p e = cc
 
-all_fit : (scenario : Scenario) (order : Order) (h : List Entry) → IsScenario scenario → IsLegal scenario order h → AllFit scenario (after scenario h) h
+pub all_fit : (scenario : Scenario) (order : Order) (h : List Entry) → IsScenario scenario → IsLegal scenario order h → AllFit scenario (after scenario h) h
 all_fit scenario order h r legal = carried scenario order (λ h a. AllFit scenario a h) (all_opening scenario r) (λ h a c m run turn. all_step scenario order a h c r run turn m) h legal
 
 -- ---- the law
@@ -214,13 +213,3 @@ in_range scenario order h r legal =
       where
         none : (y : ℕ) → None ≡ Some y → ⊥
         none y e = cc
-
--- rows never go away
-pub rows_stay : (scenario : Scenario) (order : Order) (h : List Entry) (e : Entry) → IsScenario scenario → IsLegal scenario order (h ++ e ∷ []) → length (state_after scenario h).rows ≤ length (state_after scenario (h ++ e ∷ [])).rows
-rows_stay scenario order h e r legal =
-    let last = legal_last scenario order h e legal in
-    let g = (sound scenario order r h last.0).grounded in
-    let s = state_after scenario h in
-    let stand : IsStanding scenario s e.cpu = record { names = names_channels scenario r; plain = g.plain; kept = g.kept; call = g.sizes.call_ns } in
-    let more : length s.rows ≤ length (step scenario s h e.cpu).state.rows = let x = step_rows scenario s h e.cpu stand in let y = rows_begun scenario s h e.cpu (due s h e.cpu) in omega (arith, x, y) in
-    subst (λ (a : After). length s.rows ≤ length a.state.rows) (sym (after-append scenario h e)) more

@@ -1,15 +1,10 @@
 -- The ranges of inherited values, and whose values a triple changes.
-use Rattle.std.proofs.Common.{◌≡◌, ◌≢◌, ℕ, zero, suc, ◌+◌, ◌<◌, ◌≤◌, max, List, [], ◌∷◌, map, length, refl, sym, ◌∙◌, ap, subst, Bool, true, false, cond, nat_eq, Option, Some, None, slice_index_or, arith, inl, inr}
+use Rattle.std.proofs.Common.{◌≡◌, ℕ, zero, suc, ◌<◌, ◌≤◌, max, List, [], ◌∷◌, map, length, refl, sym, subst, Bool, true, false, cond, nat_eq, Option, Some, None, slice_index_or, arith}
 use Rattle.std.specs.Prelude.{unwrap_or, All}
 use Rattle.std.specs.List.{fold}
-use Rattle.std.proofs.lemmas.Bool.{cases_eq}
-use Rattle.aps_model.specs.declared.state.Facts.{Facts}
 use Rattle.aps_model.specs.declared.state.ThreadNow.{ThreadNow}
 use Rattle.aps_laws.specs.Ids.{AreFactsFit}
-use Rattle.std.proofs.lemmas.List.Elements.{All-cons, All-nil}
-use Rattle.aps_laws.proofs.WaitFacts.{test_eq, test_ne}
-use Rattle.aps_model.specs.Inherit.{Inheritance, facts_of, follow, inheritance_of, top_at, top_of, without_server}
-use Rattle.aps_model.specs.Program.{IsPriority}
+use Rattle.aps_model.specs.Inherit.{Inheritance, facts_of, follow, inheritance_of, top_at, top_of}
 use Rattle.aps_model.specs.SchedulerState.{ChannelNow, Message, SchedulerState, Triple, channel_at, no_channel, no_facts, no_thread, thread_at}
 
 -- ---- lists whose elements all have a property

@@ -48,3 +48,6 @@ pub mod ListsFit
 pub mod IdsLaw
 pub mod Servers
 pub mod SmallNumbers
+pub mod EnoughThreads
+pub mod BetweenLaw
+pub mod ChoiceLaws

@@ -1,10 +1,9 @@
 -- What waits and who serves whom keep their ranges through a step.
-use Rattle.std.proofs.Common.{◌≡◌, ◌≢◌, ℕ, zero, suc, ◌+◌, ◌-◌, ◌/◌, ◌<◌, ◌≤◌, List, [], ◌∷◌, ◌++◌, length, refl, sym, ◌∙◌, ap, subst, Bool, true, false, cond, nat_eq, Option, Some, None, slice_index_or, slice_set, arith, inl, inr}
+use Rattle.std.proofs.Common.{◌≡◌, ℕ, zero, suc, ◌-◌, ◌/◌, ◌<◌, ◌≤◌, List, [], ◌∷◌, ◌++◌, length, refl, sym, ◌∙◌, subst, Bool, true, false, cond, nat_eq, Option, Some, None, slice_index_or, slice_set, inl, inr}
 use Rattle.std.specs.Prelude.{All}
 use Rattle.std.proofs.lemmas.Bool.{cases_eq, cases_lt}
 use Rattle.std.proofs.lemmas.List.{get_or-set_other, get_or-set_same, set_past}
 use Rattle.std.proofs.lemmas.List.Elements.{All-append, All-cons, All-nil}
-use Rattle.aps_model.specs.declared.command.CommandRow.{CommandRow}
 use Rattle.aps_model.specs.declared.entry.Entry.{Entry}
 use Rattle.aps_model.specs.declared.merit.Contender.{Contender}
 use Rattle.aps_model.specs.declared.merit.PartFacts.{PartFacts}
@@ -13,16 +12,14 @@ use Rattle.aps_model.specs.declared.program.Op.TheVariants.{Run, Forever, Sleep,
 use Rattle.aps_model.specs.declared.state.Pick.{Pick}
 use Rattle.aps_model.specs.declared.state.State.{State}
 use Rattle.aps_model.specs.declared.state.State.TheVariants.{Ready, Running, Sleeping, Sending, Receiving, Replying, Gone}
-use Rattle.aps_model.specs.declared.state.ThreadNow.{ThreadNow}
 use Rattle.aps_laws.specs.Bears.{NamesChannels}
 use Rattle.aps_laws.specs.Ids.{AreFactsFit}
 use Rattle.aps_laws.specs.ThreadFits.{Each}
-use Rattle.aps_laws.specs.Waits.{state_at}
 use Rattle.aps_laws.proofs.Commands.{command_by}
 use Rattle.aps_laws.proofs.EachStep.{IsStanding}
 use Rattle.aps_laws.proofs.EachThread.{each_set, go_on_exact}
 use Rattle.aps_laws.proofs.Inherits.{all_head, all_more, all_tail, facts_fit}
-use Rattle.aps_laws.proofs.Mid.{IsBilled, test_mid, tested_by, unflagged}
+use Rattle.aps_laws.proofs.Mid.{test_mid, tested_by, unflagged}
 use Rattle.aps_laws.proofs.Ranges.{pairs_within}
 use Rattle.aps_laws.proofs.StepOf.{bill_at, step_by, tested_at}
 use Rattle.aps_laws.proofs.ThreadFacts.{running_within}
@@ -181,7 +178,7 @@ finished_lists scenario names s x now (Some zero) priority m =
     lists_same (length scenario.channels) did (enter_next scenario did x now op (thread_at did x).state) (entered_lists scenario did x now op (thread_at did x).state)
     (effect_lists scenario names s x now (thread_at s x).place op refl priority m)
 
-settled_lists : (scenario : Scenario) → NamesChannels scenario → (s : SchedulerState) (now : ℕ) (running : Option Pick) → ((p : Pick) → running ≡ Some p → IsPriority (facts_of s p.thread).priority) → ListsOf (length scenario.channels) s
+pub settled_lists : (scenario : Scenario) → NamesChannels scenario → (s : SchedulerState) (now : ℕ) (running : Option Pick) → ((p : Pick) → running ≡ Some p → IsPriority (facts_of s p.thread).priority) → ListsOf (length scenario.channels) s
     → ListsOf (length scenario.channels) (settled scenario s now running).state
 settled_lists scenario names s now None priority m = m
 settled_lists scenario names s now (Some p) priority m =
@@ -195,15 +192,18 @@ spent_lists : (s : SchedulerState) (ns : ℕ) (running : Option Pick) → HasLis
 spent_lists s ns None = same_lists s
 spent_lists s ns (Some p) = record { channels = refl; triples = refl }
 
-tested_lists : (scenario : Scenario) (s : SchedulerState) (h : List Entry) (c : ℕ) → HasLists s (tested_at scenario s h c).state
+pub begun_lists : (scenario : Scenario) (s : SchedulerState) (h : List Entry) (c now : ℕ) → HasLists s (begun scenario s h c now)
+begun_lists scenario s h c now =
+    tick_kept scenario now (HasLists s) (λ t y u m st. lists_trans s t _ m (go_on_lists scenario t y now))
+    (λ k j t row m. command_by k j t row (HasLists s) (HasLists s) (λ mid rows shape replies changes q sizes. record { channels = q.channels; triples = q.triples }) m (λ x own. record { channels = m.channels; triples = m.triples })) (unflagged s c) h
+    (record { channels = refl; triples = refl })
+
+pub tested_lists : (scenario : Scenario) (s : SchedulerState) (h : List Entry) (c : ℕ) → HasLists s (tested_at scenario s h c).state
 tested_lists scenario s h c =
     let e = bill_at s h c in
     let s1 = begun scenario s h c (due s h c) in
     let r = billed s1 e (cpu_at s c).running in
-    let ticked : HasLists s s1 = tick_kept scenario (due s h c) (HasLists s) (λ t y u m st. lists_trans s t _ m (go_on_lists scenario t y (due s h c)))
-    (λ k j t row m. command_by k j t row (HasLists s) (HasLists s) (λ mid rows shape replies changes q sizes. record { channels = q.channels; triples = q.triples }) m (λ x own. record { channels = m.channels; triples = m.triples })) (unflagged s c) h
-    (record { channels = refl; triples = refl }) in
-    let spent : HasLists s r = lists_trans s s1 r ticked (spent_lists s1 (e.to - e.from) (cpu_at s c).running) in
+    let spent : HasLists s r = lists_trans s s1 r (begun_lists scenario s h c (due s h c)) (spent_lists s1 (e.to - e.from) (cpu_at s c).running) in
     tested_by r.shape.bankruptcy r _ _ (HasLists s) spent (λ p. record { channels = spent.channels; triples = spent.triples })
 
 -- own values keep their ranges so far

@@ -1,9 +1,8 @@
 -- From the counts of who waits where: everybody who stands there is one of the threads.
-use Rattle.std.proofs.Common.{◌≡◌, ◌≢◌, ℕ, ◌+◌, ◌<◌, ◌≤◌, List, [], ◌∷◌, length, refl, sym, ◌∙◌, ap, subst, Bool, true, false, cond, nat_eq, ◌&&◌, Option, Some, None, arith, inl, inr}
+use Rattle.std.proofs.Common.{◌≡◌, ◌≢◌, ℕ, ◌+◌, ◌<◌, ◌≤◌, List, [], ◌∷◌, length, refl, ◌∙◌, ap, Bool, true, false, cond, nat_eq, ◌&&◌, Some, None, arith}
 use Rattle.std.specs.Prelude.{All}
 use Rattle.std.proofs.lemmas.List.Elements.{All-cons, All-nil}
-use Rattle.aps_model.specs.declared.state.State.{State}
-use Rattle.aps_model.specs.declared.state.State.TheVariants.{Sending, Receiving, Replying, Gone}
+use Rattle.aps_model.specs.declared.state.State.TheVariants.{Sending, Receiving, Replying}
 use Rattle.aps_laws.specs.Waits.{IsWaiting, is_replying, one_if, state_at, times, times_paired, times_sent}
 use Rattle.aps_laws.proofs.ThreadFacts.{within}
 use Rattle.aps_laws.proofs.WaitFacts.{receiving_from, replying_from, sending_from, test_eq}

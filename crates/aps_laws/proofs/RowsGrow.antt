@@ -1,5 +1,5 @@
 -- Rows never go away.
-use Rattle.std.proofs.Common.{◌≡◌, ℕ, ◌+◌, ◌-◌, ◌/◌, ◌≤◌, List, [], ◌∷◌, ◌++◌, length, refl, sym, ◌∙◌, ap, subst, Bool, true, false, Option, Some, None, slice_set, arith, length-set}
+use Rattle.std.proofs.Common.{◌≡◌, ℕ, ◌-◌, ◌/◌, ◌≤◌, List, [], ◌∷◌, ◌++◌, length, refl, ◌∙◌, ap, Bool, true, false, Option, Some, None, slice_set, arith, length-set}
 use Rattle.std.proofs.lemmas.List.{length-append}
 use Rattle.aps_model.specs.declared.entry.Entry.{Entry}
 use Rattle.aps_model.specs.declared.command.Answer.{Answer}
@@ -17,7 +17,6 @@ use Rattle.aps_model.specs.declared.state.Pick.{Pick}
 use Rattle.aps_model.specs.declared.state.State.{State}
 use Rattle.aps_model.specs.declared.state.State.TheVariants.{Ready, Running, Sleeping, Sending, Receiving, Replying, Gone}
 use Rattle.aps_laws.specs.Bears.{Bears, NamesChannels}
-use Rattle.aps_laws.specs.Untouched.{IsKept}
 use Rattle.aps_laws.specs.Waits.{IsPlain, state_at}
 use Rattle.aps_laws.proofs.EachThread.{go_on_exact}
 use Rattle.aps_laws.proofs.EachStep.{IsStanding}
@@ -30,14 +29,14 @@ use Rattle.aps_model.specs.Bill.{spend}
 use Rattle.aps_model.specs.Budget.{all_parts}
 use Rattle.aps_model.specs.Command.{Performed, create_under, created, mark_thread, marked, modified, modify_found, perform}
 use Rattle.aps_model.specs.Due.{due}
-use Rattle.aps_model.specs.Flag.{flag_for, with_flag}
+use Rattle.aps_model.specs.Flag.{flag_for}
 use Rattle.aps_model.specs.Operation.{go_on}
 use Rattle.aps_model.specs.Partition.{partition_named, row_or_none}
 use Rattle.aps_model.specs.Pick.{contenders, greatest}
 use Rattle.aps_model.specs.Scenario.{Scenario}
 use Rattle.aps_model.specs.SchedulerState.{SchedulerState, cpu_at}
 use Rattle.aps_model.specs.Step.{Step, begun, billed, chosen, settled, step}
-use Rattle.aps_model.specs.TickWork.{do_command, tick_work, thread_named, view_of}
+use Rattle.aps_model.specs.TickWork.{do_command, view_of}
 
 abbrev IsLonger : List PartitionRow → Performed → Type 0
 IsLonger rows p = length rows ≤ length p.rows

@@ -1,10 +1,7 @@
 -- A triple changes the inherited values of its server alone.
-use Rattle.std.proofs.Common.{◌≡◌, ◌≢◌, ℕ, ◌+◌, List, [], ◌∷◌, max, refl, sym, ◌∙◌, ap, subst, Bool, true, false, cond, nat_eq, ◌&&◌, arith, inl, inr}
+use Rattle.std.proofs.Common.{◌≡◌, ◌≢◌, ℕ, ◌+◌, List, [], ◌∷◌, max, refl, sym, ◌∙◌, ap, Bool, true, false, cond, nat_eq, ◌&&◌, arith, inl, inr}
 use Rattle.std.proofs.lemmas.Bool.{cases_eq}
-use Rattle.aps_model.specs.declared.entry.Entry.{Entry}
-use Rattle.aps_model.specs.declared.entry.Order.{Order}
-use Rattle.aps_model.specs.declared.state.State.{State}
-use Rattle.aps_model.specs.declared.state.State.TheVariants.{Running, Replying}
+use Rattle.aps_model.specs.declared.state.State.TheVariants.{Running}
 use Rattle.aps_laws.specs.Servers.{ChangesOnlyServer, IsNobodysClient}
 use Rattle.aps_laws.specs.Waits.{IsWaiting, is_replying, one_if, state_at, times_paired}
 use Rattle.aps_laws.proofs.WaitFacts.{test_eq, test_ne}

@@ -1,15 +1,14 @@
 -- Below the horizon a sleeper's moment is later than the begin of the tick.
-use Rattle.std.proofs.Common.{◌≡◌, ◌≢◌, ℕ, ◌+◌, ◌*◌, ◌/◌, ◌%◌, ◌<◌, ◌≤◌, List, [], ◌∷◌, ◌++◌, length, refl, sym, ◌∙◌, ap, subst, Bool, true, false, not, ◌&&◌, ◌||◌, nat_eq, nat_lt, Option, Some, None, arith, inl, inr, ◌⊎◌, mul-le-mul_right}
+use Rattle.std.proofs.Common.{◌≡◌, ◌≢◌, ℕ, ◌+◌, ◌*◌, ◌/◌, ◌%◌, ◌<◌, ◌≤◌, List, [], ◌∷◌, ◌++◌, length, refl, sym, ◌∙◌, ap, subst, Bool, true, false, not, ◌&&◌, ◌||◌, nat_eq, nat_lt, Option, Some, None, arith, inl, inr, mul-le-mul_right}
 use Rattle.std.specs.List.{list_any}
 use Rattle.std.specs.Prelude.{unwrap_or}
 use Rattle.aps_laws.specs.Untouched.{IsStepOf}
 use Rattle.std.proofs.Math.Nat.{div-lt_iff_lt-mul, div-mul-le_self, lt-div-mul-add, mul-mod_left}
-use Rattle.std.proofs.lemmas.Bool.{cases_eq, cases_lt, eqb-true}
+use Rattle.std.proofs.lemmas.Bool.{eqb-true}
 use Rattle.std.proofs.lemmas.Bool.Decides.{nat_tests}
 use Rattle.std.proofs.lemmas.List.Folds.{list_any-append}
 use Rattle.aps_model.specs.declared.entry.Entry.{Entry}
 use Rattle.aps_model.specs.declared.entry.Order.{Order}
-use Rattle.aps_model.specs.declared.program.Op.{Op}
 use Rattle.aps_model.specs.declared.program.Op.TheVariants.{Sleep}
 use Rattle.aps_model.specs.declared.state.State.{State}
 use Rattle.aps_model.specs.declared.state.State.TheVariants.{Ready, Running, Sleeping}
@@ -18,11 +17,10 @@ use Rattle.aps_laws.specs.Moments.{moment}
 use Rattle.aps_laws.specs.Sound.{IsSound}
 use Rattle.aps_laws.specs.Stamps.{IsActive}
 use Rattle.aps_laws.specs.ThreadFits.{Each, SleepsOn}
-use Rattle.aps_laws.specs.Waits.{state_at}
 use Rattle.aps_laws.proofs.Carry.{carried}
 use Rattle.aps_laws.proofs.Channels.{names_channels}
 use Rattle.aps_laws.proofs.EachThread.{awake_in, sleep_or_awake}
-use Rattle.aps_laws.proofs.EachStep.{IsStanding, StepBears, StepLeaves, step_each}
+use Rattle.aps_laws.proofs.EachStep.{IsStanding, step_each}
 use Rattle.aps_laws.proofs.Mid.{unflagged}
 use Rattle.aps_laws.proofs.MomentLaws.{moment-append}
 use Rattle.aps_laws.proofs.Programs.{op_fits}
@@ -32,14 +30,13 @@ use Rattle.aps_laws.proofs.Sound.{next_of, running_on, sound_opening, sound_step
 use Rattle.aps_laws.proofs.StepOf.{horizon_same}
 use Rattle.aps_laws.proofs.ThreadFit.{start_count, started_at}
 use Rattle.aps_laws.proofs.ThreadSteps.{ThreadBears}
-use Rattle.aps_model.specs.After.{After, after, at_start, left_by, over, state_after}
+use Rattle.aps_model.specs.After.{After, at_start, over, state_after}
 use Rattle.aps_model.specs.Due.{HasTurn, due, last_end, last_to, next_boundary}
 use Rattle.aps_model.specs.Legal.{IsLegal}
-use Rattle.aps_model.specs.Opening.{first_op, first_state, started}
 use Rattle.aps_model.specs.Operation.{state_in}
 use Rattle.aps_model.specs.Program.{IsOp}
-use Rattle.aps_model.specs.Scenario.{Scenario, op_at, thread_row}
-use Rattle.aps_model.specs.SchedulerState.{SchedulerState, thread_at}
+use Rattle.aps_model.specs.Scenario.{Scenario, op_at}
+use Rattle.aps_model.specs.SchedulerState.{SchedulerState}
 use Rattle.aps_model.specs.Shape.{horizon}
 use Rattle.aps_model.specs.Step.{begun, step}
 use Rattle.aps_model.specs.TickWork.{do_commands, has_tick_work, wake_all}
@@ -186,18 +183,17 @@ sleep_step scenario order a h c r m over turn latest sleeps =
     (subst (λ k. (nat_eq (now % tick) 0 && nat_lt now k && not (list_any (λ (x : Entry). nat_eq x.to now) h)) ≡ false) end_same (subst (λ k. (nat_eq (now % k) 0 && nat_lt now (horizon s.shape) && not (list_any (λ (x : Entry). nat_eq x.to now) h)) ≡ false) tick_same none)))
     (omega (arith, rises, to)) sleeps in
     let rows = length (step scenario s h c).state.rows in
-    let grow = step_rows scenario s h c stand in
-    (
+    let grow = step_rows scenario s h c stand in (
       λ y below early u is.
-      let each = step_each scenario s h c rows (λ y t. IsBeyond now tick end t) (λ y t. IsBeyond now tick end t) (λ y t. Unit {0}) (λ o y t. IsBeyond now tick end t)
-      (record { moves = λ x. moves scenario r now c x rows tick end; calms = λ x t k. k; spends = λ x t k is. tt })
-      (record {
-        ends = λ o y t why k off. k;
-        ends_own = λ o y t why k on. awake_beyond now tick end t (λ v z. asleep c v (sym on ∙ z));
-        rests = λ y t ne k off. k;
-        picks = λ y t ne k ready early v z. absurd cc;
-      }) stand (omega (arith, grow)) begun' in
-      subst (λ k. k / tick * tick < u) (sym at) (each y below (subst (λ k. k < end) at early) u is),
+          let each = step_each scenario s h c rows (λ y t. IsBeyond now tick end t) (λ y t. IsBeyond now tick end t) (λ y t. Unit {0}) (λ o y t. IsBeyond now tick end t)
+          (record { moves = λ x. moves scenario r now c x rows tick end; calms = λ x t k. k; spends = λ x t k is. tt })
+          (record {
+            ends = λ o y t why k off. k;
+            ends_own = λ o y t why k on. awake_beyond now tick end t (λ v z. asleep c v (sym on ∙ z));
+            rests = λ y t ne k off. k;
+            picks = λ y t ne k ready early v z. absurd cc;
+          }) stand (omega (arith, grow)) begun' in
+          subst (λ k. k / tick * tick < u) (sym at) (each y below (subst (λ k. k < end) at early) u is),
       latest_more h e rises latest,
     )
   where

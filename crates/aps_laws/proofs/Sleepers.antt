@@ -1,16 +1,10 @@
 -- Who sleeps sleeps beyond the begin of the tick.
-use Rattle.std.proofs.Common.{◌≡◌, ◌≢◌, ℕ, zero, suc, ◌+◌, ◌*◌, ◌/◌, ◌%◌, ◌<◌, ◌≤◌, List, [], ◌∷◌, ◌++◌, length, All, refl, sym, ◌∙◌, ap, subst, Bool, true, false, cond, not, ◌&&◌, nat_eq, nat_lt, nat_le, Option, Some, None, slice_index_or, arith, inl, inr, ◌⊎◌}
-use Rattle.std.specs.Prelude.{unwrap_or}
-use Rattle.std.specs.List.{cons_option, filter_map, fold, list_any, range_with_len}
-use Rattle.std.proofs.lemmas.Bool.{cases_eq, cases_lt, eqb-true}
+use Rattle.std.proofs.Common.{◌≡◌, ℕ, zero, suc, ◌+◌, ◌<◌, ◌≤◌, List, [], ◌∷◌, length, sym, ◌∙◌, ap, subst, Bool, true, false, cond, nat_le, Option, Some, None, arith, inl, inr, ◌⊎◌}
+use Rattle.std.specs.List.{cons_option, filter_map, fold, range_with_len}
+use Rattle.std.proofs.lemmas.Bool.{cases_eq, cases_lt}
 use Rattle.std.proofs.lemmas.Bool.Decides.{nat_tests}
-use Rattle.aps_model.specs.declared.entry.Entry.{Entry}
-use Rattle.aps_model.specs.declared.entry.Order.{Order}
-use Rattle.aps_model.specs.declared.program.Op.{Op}
 use Rattle.aps_model.specs.declared.program.Op.TheVariants.{Sleep}
-use Rattle.aps_model.specs.declared.scenario.ThreadRow.{ThreadRow}
-use Rattle.aps_model.specs.declared.state.State.{State}
-use Rattle.aps_model.specs.declared.state.State.TheVariants.{Ready, Running, Sleeping, Sending, Receiving, Replying, Gone}
+use Rattle.aps_model.specs.declared.state.State.TheVariants.{Ready, Sleeping}
 use Rattle.aps_model.specs.declared.state.ThreadNow.{ThreadNow}
 use Rattle.aps_laws.specs.Waits.{state_at}
 use Rattle.aps_laws.proofs.EachThread.{go_on_count, go_on_exact}
@@ -19,8 +13,8 @@ use Rattle.aps_laws.proofs.Walk.{go_on_other}
 use Rattle.aps_laws.proofs.Programs.{op_fits}
 use Rattle.aps_model.specs.Operation.{go_on}
 use Rattle.aps_model.specs.Program.{IsOp}
-use Rattle.aps_model.specs.Scenario.{Scenario, op_at}
-use Rattle.aps_model.specs.SchedulerState.{SchedulerState, no_thread, thread_at}
+use Rattle.aps_model.specs.Scenario.{Scenario}
+use Rattle.aps_model.specs.SchedulerState.{SchedulerState, thread_at}
 use Rattle.aps_model.specs.TickWork.{insert_sleeper, is_earlier, wake_all, wakes_at, waking}
 use Rattle.aps_model.specs.Valid.{IsScenario, joinable}
 

@@ -1,20 +1,21 @@
 -- How large the moments of a legal history get, and the time that its entries bill.
-use Rattle.std.proofs.Common.{◌≡◌, ◌≢◌, ℕ, zero, suc, ◌+◌, ◌-◌, ◌*◌, ◌/◌, ◌<◌, ◌≤◌, min, max, List, [], ◌∷◌, ◌++◌, length, refl, sym, ◌∙◌, ap, subst, Bool, true, false, cond, nat_eq, ◌&&◌, Option, Some, None, slice_index_or, arith, inl, inr, mul-le-mul_right}
+use Rattle.std.proofs.Common.{◌≡◌, ◌≢◌, ℕ, zero, suc, ◌+◌, ◌-◌, ◌*◌, ◌/◌, ◌<◌, ◌≤◌, min, max, List, [], ◌∷◌, ◌++◌, refl, sym, ◌∙◌, ap, subst, Bool, true, false, cond, nat_eq, ◌&&◌, Option, Some, None, slice_index_or, arith, inl, inr, mul-le-mul_right}
 use Rattle.std.specs.Prelude.{All, unwrap_or}
 use Rattle.std.specs.List.{range_with_len, sum_by}
 use Rattle.std.proofs.Math.Nat.{div-mul-le_self, mul-le-mul_left}
-use Rattle.std.proofs.lemmas.Bool.{cases_eq, cases_lt}
+use Rattle.std.proofs.lemmas.Bool.{cases_eq}
 use Rattle.std.proofs.lemmas.List.Elements.{All-append, All-cons, All-nil}
 use Rattle.std.proofs.lemmas.List.Sums.{sum_by-append, sum_by-cons}
 use Rattle.aps_model.specs.declared.entry.Entry.{Entry}
 use Rattle.aps_model.specs.declared.entry.Order.{Order}
 use Rattle.aps_model.specs.declared.shape.Shape.{Shape}
 use Rattle.aps_laws.specs.Moments.{IsTimely, moment}
-use Rattle.aps_laws.specs.Numbers.{AreMomentsSmall, IsEntrySmall, IsUsageSmall, time_within}
-use Rattle.aps_laws.specs.Sound.{IsNext, IsSound}
+use Rattle.aps_laws.specs.Numbers.{AreMomentsSmall, FitsWindow, IsEntrySmall, IsUsageSmall, time_within}
+use Rattle.aps_laws.specs.Sizes.{IsSameSizes}
+use Rattle.aps_laws.specs.Sound.{IsSound}
 use Rattle.aps_laws.specs.Untouched.{IsStepOf}
 use Rattle.aps_laws.proofs.Carry.{carried}
-use Rattle.aps_laws.proofs.MomentLaws.{due_between, first_is_due, flag_due, last_other, last_own}
+use Rattle.aps_laws.proofs.MomentLaws.{first_is_due, last_other, last_own}
 use Rattle.aps_laws.proofs.Sound.{next_of, running_on, sound_opening, sound_step, sound_step_of, tick_pos}
 use Rattle.aps_laws.proofs.StepOf.{horizon_same}
 use Rattle.aps_laws.proofs.ThreadFit.{horizon_small}
@@ -23,21 +24,21 @@ use Rattle.aps_model.specs.After.{After, after, over, state_after}
 use Rattle.aps_model.specs.Due.{HasTurn, due, last_end, last_to, next_boundary}
 use Rattle.aps_model.specs.Legal.{IsLegal}
 use Rattle.aps_model.specs.Scenario.{Scenario}
-use Rattle.aps_model.specs.SchedulerState.{SchedulerState, cpu_at}
-use Rattle.aps_model.specs.Shape.{horizon}
+use Rattle.aps_model.specs.SchedulerState.{SchedulerState}
+use Rattle.aps_model.specs.Shape.{horizon, whole}
 use Rattle.aps_model.specs.Step.{step}
-use Rattle.aps_model.specs.Usage.{billed_by, critical_by, critical_used, names, overlap, used}
+use Rattle.aps_model.specs.Usage.{billed_by, critical_by, critical_used, names, overlap, used, window_critical, window_used}
 use Rattle.aps_model.specs.Valid.{IsScenario}
 
 -- ---- sums over numbers
 
-sum_same : (f g : ℕ → ℕ) (n a : ℕ) → ((d : ℕ) → a ≤ d → g d ≡ f d) → sum_by g (range_with_len a n) ≡ sum_by f (range_with_len a n)
+pub sum_same : (f g : ℕ → ℕ) (n a : ℕ) → ((d : ℕ) → a ≤ d → g d ≡ f d) → sum_by g (range_with_len a n) ≡ sum_by f (range_with_len a n)
 sum_same f g zero a same = refl
 sum_same f g (suc n) a same =
     omega (arith, sum_by-cons g a (range_with_len (a + 1) n), sum_by-cons f a (range_with_len (a + 1) n), same a (omega arith), sum_same f g n (a + 1) (λ d l. same d (omega (arith, l))))
 
 -- one of the terms is so much more
-sum_changed : (f g : ℕ → ℕ) (c more n a : ℕ) → a ≤ c → c < a + n → g c ≡ f c + more → ((d : ℕ) → d ≢ c → g d ≡ f d) → sum_by g (range_with_len a n) ≡ sum_by f (range_with_len a n) + more
+pub sum_changed : (f g : ℕ → ℕ) (c more n a : ℕ) → a ≤ c → c < a + n → g c ≡ f c + more → ((d : ℕ) → d ≢ c → g d ≡ f d) → sum_by g (range_with_len a n) ≡ sum_by f (range_with_len a n) + more
 sum_changed f g c more zero a low high here others = absurd (omega arith)
 sum_changed f g c more (suc n) a low high here others = elim (cases_eq a c) [
   | inl e ↦
@@ -47,11 +48,11 @@ sum_changed f g c more (suc n) a low high here others = elim (cases_eq a c) [
       omega (arith, sum_by-cons g a (range_with_len (a + 1) n), sum_by-cons f a (range_with_len (a + 1) n), others a ne, sum_changed f g c more n (a + 1) (omega (arith, ne)) (omega arith) here others)
 ]
 
-sum_bounded : (f : ℕ → ℕ) (most n a : ℕ) → ((d : ℕ) → f d ≤ most) → sum_by f (range_with_len a n) ≤ n * most
+pub sum_bounded : (f : ℕ → ℕ) (most n a : ℕ) → ((d : ℕ) → f d ≤ most) → sum_by f (range_with_len a n) ≤ n * most
 sum_bounded f most zero a small = omega arith
 sum_bounded f most (suc n) a small = let more : suc n * most ≡ n * most + most = search (arith) in omega (arith, sum_by-cons f a (range_with_len (a + 1) n), small a, sum_bounded f most n (a + 1) small, more)
 
-sum_added : (f g : ℕ → ℕ) (xs : List ℕ) → sum_by (λ x. f x + g x) xs ≡ sum_by f xs + sum_by g xs
+pub sum_added : (f g : ℕ → ℕ) (xs : List ℕ) → sum_by (λ x. f x + g x) xs ≡ sum_by f xs + sum_by g xs
 sum_added f g [] = refl
 sum_added f g (x ∷ xs) = omega (arith, sum_by-cons (λ y. f y + g y) x xs, sum_by-cons f x xs, sum_by-cons g x xs, sum_added f g xs)
 
@@ -78,7 +79,7 @@ overlap_small tick a b to = small (a * tick) (b * tick) to
     small : (low high to : ℕ) → min to high - max 0 low ≤ to
     small low high to = omega arith
 
-one_of : (q most n a : ℕ) → sum_by (λ p. cond (nat_eq q p) most 0) (range_with_len a n) ≤ most
+pub one_of : (q most n a : ℕ) → sum_by (λ p. cond (nat_eq q p) most 0) (range_with_len a n) ≤ most
 one_of q most zero a = omega arith
 one_of q most (suc n) a = elim (cases_eq q a) [
   | inl e ↦
@@ -105,7 +106,7 @@ billed_less tick p a b e = by_tests (names e.billed p) e.critical
     by_tests true false = (omega arith, omega arith)
     by_tests false u = (omega arith, omega arith)
 
-sum_less : {X : Type 0} (f g : X → ℕ) (xs : List X) → ((x : X) → f x ≤ g x) → sum_by f xs ≤ sum_by g xs
+pub sum_less : {X : Type 0} (f g : X → ℕ) (xs : List X) → ((x : X) → f x ≤ g x) → sum_by f xs ≤ sum_by g xs
 sum_less f g [] l = omega arith
 sum_less f g (x ∷ xs) l = omega (arith, sum_by-cons f x xs, sum_by-cons g x xs, l x, sum_less f g xs l)
 
@@ -222,14 +223,14 @@ moments_small scenario order h r legal =
     due_small s h c t tick l None is = omega (arith, first_is_due s h c is)
     due_small s h c t tick l (Some z) is = let b = t.soon c z is in let n = boundary_near s.shape.tick z in omega (arith, ap (λ o. unwrap_or o 0) is, b, n, l, tick)
 
-pub usage_small : (scenario : Scenario) (order : Order) (h : List Entry) (a b : ℕ) → IsScenario scenario → IsLegal scenario order h → IsUsageSmall scenario.shape h a b
-usage_small scenario order h a b r legal =
-    let m = all_small scenario order h r legal in
+-- where all that is billed is what the processors have passed
+usage_of : (scenario : Scenario) → IsScenario scenario → (h : List Entry) (a b : ℕ) → time_within scenario.shape.tick h a b ≡ sum_by (passed scenario.shape.tick a b h) (range_with_len 0 scenario.shape.cpus) → ((c : ℕ) → last_end h c ≤ 10000000000000)
+    → IsUsageSmall scenario.shape h a b
+usage_of scenario r h a b passes ends =
     let tick = scenario.shape.tick in
     let cpus = scenario.shape.cpus in
-    let moments = moments_small scenario order h r legal in
-    let time : time_within tick h a b ≤ cpus * ((b - a) * tick) = let e = m.passes a b in let l = sum_bounded (passed tick a b h) ((b - a) * tick) cpus 0 (λ c. overlap_bounded tick a b (last_end h c)) in omega (arith, e, l) in
-    let run : time_within tick h a b ≤ cpus * 10000000000000 = let e = m.passes a b in let l = sum_bounded (passed tick a b h) 10000000000000 cpus 0 (λ c. let o = overlap_small tick a b (last_end h c) in let f = moments.ends c in omega (arith, o, f)) in omega (arith, e, l) in
+    let time : time_within tick h a b ≤ cpus * ((b - a) * tick) = let l = sum_bounded (passed tick a b h) ((b - a) * tick) cpus 0 (λ c. overlap_bounded tick a b (last_end h c)) in omega (arith, passes, l) in
+    let run : time_within tick h a b ≤ cpus * 10000000000000 = let l = sum_bounded (passed tick a b h) 10000000000000 cpus 0 (λ c. let o = overlap_small tick a b (last_end h c) in let f = ends c in omega (arith, o, f)) in omega (arith, passes, l) in
     let few : cpus ≤ 16 = r.shape.few_cpus in
     let short : tick ≤ 10000000 = r.shape.tick_short in
     record {
@@ -248,3 +249,58 @@ usage_small scenario order h a b r legal =
         let y : most * tick ≤ most * 10000000 = mul-le-mul_left most short in
         let z : cpus * (ticks * tick) ≤ 16 * (ticks * tick) = mul-le-mul_right (ticks * tick) few in
         omega (arith, x, y, z)
+
+pub usage_small : (scenario : Scenario) (order : Order) (h : List Entry) (a b : ℕ) → IsScenario scenario → IsLegal scenario order h → IsUsageSmall scenario.shape h a b
+usage_small scenario order h a b r legal = usage_of scenario r h a b ((all_small scenario order h r legal).passes a b) (moments_small scenario order h r legal).ends
+
+-- with the entry in hand, whatever else stands in it
+pub usage_in_hand : (scenario : Scenario) (order : Order) (h : List Entry) (e : Entry) (a b : ℕ) → IsScenario scenario → IsLegal scenario order h → over (after scenario h) h ≡ None → HasTurn order (state_after scenario h) h e.cpu
+    → e.from ≡ last_end h e.cpu → e.to ≡ due (state_after scenario h) h e.cpu → IsUsageSmall scenario.shape (h ++ e ∷ []) a b
+usage_in_hand scenario order h e a b r legal running turn from to =
+    let m = all_small scenario order h r legal in
+    let s = state_after scenario h in
+    let x = (step scenario s h e.cpu).entry in
+    let st = sound_step_of scenario order s h e.cpu r m.sound turn in
+    let d = added scenario order (after scenario h) h e.cpu r m.sound running turn in
+    let exists : e.cpu < scenario.shape.cpus = subst (λ n. e.cpu < n) m.sound.grounded.sizes.cpus turn.exists in
+    let small : e.to ≤ 10000000000000 = let l = d.small.small in omega (arith, l, st.to, to) in
+    let forward : e.from ≤ e.to = let l = d.small.forward in omega (arith, l, st.to, to, st.from, from) in
+    let ends = (moments_small scenario order h r legal).ends in
+    usage_of scenario r (h ++ e ∷ []) a b (within_passed scenario.shape.tick a b scenario.shape.cpus h e exists from forward (m.passes a b))
+    (λ c. elim (cases_eq c e.cpu) [
+      | inl same ↦ omega (arith, small, ap (λ o. unwrap_or o 0) (last_own h e c (sym same)))
+      | inr ne ↦ let l = ends c in omega (arith, l, ap (λ o. unwrap_or o 0) (last_other h e c (λ k. ne (sym k))))
+    ])
+
+-- a window of so many ticks holds at most the whole
+pub window_small : (shape : Shape) (h : List Entry) (j p : ℕ) → IsUsageSmall shape h (j + 1 - shape.window) (j + 1) → (window_used shape h j p ≤ whole shape) × (window_critical shape h j p ≤ window_used shape h j p)
+window_small shape h j p m =
+    let a = j + 1 - shape.window in
+    let near : (j + 1 - a) * shape.tick ≤ shape.window * shape.tick = mul-le-mul_right shape.tick (omega arith) in
+    let all : shape.cpus * ((j + 1 - a) * shape.tick) ≤ shape.cpus * (shape.window * shape.tick) = mul-le-mul_left shape.cpus near in
+    let same : shape.cpus * (shape.window * shape.tick) ≡ shape.cpus * shape.window * shape.tick = search (arith) in
+    let time = m.time in
+    let each = m.each p in
+    (omega (arith, all, same, time, each), m.critical p)
+
+-- the same of a shape of these sizes
+usage_like : (shape other : Shape) (h : List Entry) (a b : ℕ) → IsSameSizes shape other → IsUsageSmall shape h a b → IsUsageSmall other h a b
+usage_like shape other h a b sizes m =
+    let t = sym sizes.tick in
+    record {
+      time = subst (λ n. time_within other.tick h a b ≤ n * ((b - a) * other.tick)) (sym sizes.cpus) (subst (λ n. time_within n h a b ≤ shape.cpus * ((b - a) * n)) t m.time);
+      one_tick = subst (λ n. b ≤ a + 1 → time_within n h a b ≤ 160000000) t m.one_tick;
+      window = subst (λ n. b ≤ a + 400 → time_within n h a b ≤ 64000000000) t m.window;
+      run = subst (λ n. time_within n h a b ≤ 160000000000000) t m.run;
+      each = subst (λ n. (p : ℕ) → used n h p a b ≤ time_within n h a b) t m.each;
+      critical = subst (λ n. (p : ℕ) → critical_used n h p a b ≤ used n h p a b) t m.critical;
+      all = subst (λ n. (k : ℕ) → sum_by (λ p. used n h p a b) (range_with_len 0 k) ≤ time_within n h a b) t m.all;
+    }
+
+pub windows_small : (scenario : Scenario) (order : Order) (h : List Entry) → IsScenario scenario → IsLegal scenario order h → FitsWindow (state_after scenario h) h
+windows_small scenario order h r legal j p =
+    let s = state_after scenario h in
+    let sizes = (all_small scenario order h r legal).sound.grounded.sizes in
+    let first = j + 1 - s.shape.window in
+    let m = usage_small scenario order h first (j + 1) r legal in
+    window_small s.shape h j p (usage_like scenario.shape s.shape h first (j + 1) sizes m)

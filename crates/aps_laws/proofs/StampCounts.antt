@@ -1,5 +1,5 @@
 -- How many stamps a step gives.
-use Rattle.std.proofs.Common.{◌≡◌, ℕ, zero, suc, ◌+◌, ◌*◌, ◌-◌, ◌/◌, ◌≤◌, List, [], ◌∷◌, ◌++◌, length, refl, sym, ◌∙◌, ap, subst, Bool, true, false, cond, Option, Some, None, arith, length-set, mul-le-mul_right}
+use Rattle.std.proofs.Common.{◌≡◌, ℕ, zero, suc, ◌+◌, ◌*◌, ◌-◌, ◌/◌, ◌≤◌, List, [], ◌∷◌, ◌++◌, length, refl, sym, ◌∙◌, subst, Bool, true, false, cond, Option, Some, None, arith, length-set, mul-le-mul_right}
 use Rattle.std.specs.List.{cons_option, filter_map, fold, range_with_len}
 use Rattle.std.proofs.lemmas.List.{length-append}
 use Rattle.aps_model.specs.declared.entry.Entry.{Entry}
@@ -10,7 +10,6 @@ use Rattle.aps_model.specs.declared.merit.Contender.{Contender}
 use Rattle.aps_model.specs.declared.program.Op.{Op}
 use Rattle.aps_model.specs.declared.program.Op.TheVariants.{Run, Forever, Sleep, Yield, Send, Receive, Reply, Join, Priority, CriticalOn, CriticalOff, Repeat, Exit}
 use Rattle.aps_model.specs.declared.scenario.ThreadRow.{ThreadRow}
-use Rattle.aps_model.specs.declared.shape.Bankruptcy.{Bankruptcy}
 use Rattle.aps_model.specs.declared.state.Pick.{Pick}
 use Rattle.aps_model.specs.declared.state.State.{State}
 use Rattle.aps_model.specs.declared.state.State.TheVariants.{Ready, Running, Sleeping, Sending, Receiving, Replying, Gone}
@@ -19,8 +18,7 @@ use Rattle.aps_laws.specs.Stamped.{HasFewStamps}
 use Rattle.aps_laws.specs.Waits.{state_at}
 use Rattle.aps_laws.proofs.Carry.{carried}
 use Rattle.aps_laws.proofs.Commands.{command_by}
-use Rattle.aps_laws.proofs.Counts.{counts_law}
-use Rattle.aps_laws.proofs.EachThread.{go_on_count, go_on_exact}
+use Rattle.aps_laws.proofs.EachThread.{go_on_exact}
 use Rattle.aps_laws.proofs.Mid.{tested_by, unflagged}
 use Rattle.aps_laws.proofs.Picked.{flag_stamps}
 use Rattle.aps_laws.proofs.Sound.{running_on, sound_opening, sound_step, sound_step_of}
@@ -29,15 +27,15 @@ use Rattle.aps_laws.proofs.ThreadFit.{start_count}
 use Rattle.aps_laws.proofs.ThreadLaws.{stamps_law}
 use Rattle.aps_laws.proofs.Walk.{command_each}
 use Rattle.aps_model.specs.After.{state_after}
-use Rattle.aps_model.specs.Bill.{after_test, spend}
+use Rattle.aps_model.specs.Bill.{spend}
 use Rattle.aps_model.specs.Budget.{all_parts}
 use Rattle.aps_model.specs.Due.{due}
 use Rattle.aps_model.specs.Effect.{effect, joined}
-use Rattle.aps_model.specs.Flag.{flag_for, with_flag}
+use Rattle.aps_model.specs.Flag.{flag_for}
 use Rattle.aps_model.specs.Inherit.{client_of}
 use Rattle.aps_model.specs.Legal.{IsLegal}
 use Rattle.aps_model.specs.Messages.{first_message, received, received_message, replied, sent}
-use Rattle.aps_model.specs.Opening.{first_state, opening, stamp_after, start_stamps}
+use Rattle.aps_model.specs.Opening.{first_state, stamp_after, start_stamps}
 use Rattle.aps_model.specs.Operation.{go_on, is_slice_over, with_stamped}
 use Rattle.aps_model.specs.Partition.{partition_named}
 use Rattle.aps_model.specs.Pick.{contenders, greatest}
@@ -91,10 +89,10 @@ commanded : (h : List Entry) (j : ℕ) (s t : SchedulerState) (c : ℕ × Comman
 commanded h j s t c m = command_by h j t c (IsSameStamps s) (IsSameStamps s) (λ mid rows shape replies changes q sizes. record { stamps = q.stamps; count = q.count }) m (λ x own. record { stamps = m.stamps; count = length-set t.threads x _ ∙ m.count })
 
 -- no more stamps than one for each thread
-abbrev IsOneEach : SchedulerState → SchedulerState → Type 0
+abbrev pub IsOneEach : SchedulerState → SchedulerState → Type 0
 IsOneEach s t = t.stamps ≤ s.stamps + length s.threads
 
-ticked_stamps : (scenario : Scenario) (s : SchedulerState) (h : List Entry) (now : ℕ) → IsOneEach s (tick_work scenario s h now)
+pub ticked_stamps : (scenario : Scenario) (s : SchedulerState) (h : List Entry) (now : ℕ) → IsOneEach s (tick_work scenario s h now)
 ticked_stamps scenario s h now = by_test (has_tick_work s h now)
   where
     by_test : (t : Bool) → IsOneEach s (elim t [
@@ -177,7 +175,7 @@ given_stamps scenario s x (Receiving d) = omega arith
 given_stamps scenario s x (Replying y) = omega arith
 given_stamps scenario s x Gone = omega arith
 
-settled_stamps : (scenario : Scenario) (s : SchedulerState) (now : ℕ) (running : Option Pick) → (settled scenario s now running).state.stamps ≤ s.stamps + 2
+pub settled_stamps : (scenario : Scenario) (s : SchedulerState) (now : ℕ) (running : Option Pick) → (settled scenario s now running).state.stamps ≤ s.stamps + 2
 settled_stamps scenario s now None = omega arith
 settled_stamps scenario s now (Some p) =
     let did = (finish_op scenario s p.thread now (thread_at s p.thread).left).state in
@@ -191,7 +189,7 @@ chosen_stamps : (s : SchedulerState) (ps : List PartFacts) (c : ℕ) (best : Opt
 chosen_stamps s ps c None = refl
 chosen_stamps s ps c (Some b) = refl
 
-tested_stamps : (scenario : Scenario) (s : SchedulerState) (h : List Entry) (c : ℕ) → (tested_at scenario s h c).state.stamps ≤ s.stamps + length s.threads
+pub tested_stamps : (scenario : Scenario) (s : SchedulerState) (h : List Entry) (c : ℕ) → (tested_at scenario s h c).state.stamps ≤ s.stamps + length s.threads
 tested_stamps scenario s h c =
     let e = bill_at s h c in
     let s1 = begun scenario s h c (due s h c) in
@@ -244,8 +242,7 @@ few_stamps scenario order h r legal =
     (sound_opening scenario, start_count scenario.shape scenario.threads 0 0, let f = first_stamps 0 scenario.threads in omega (arith, f))
     (λ h a c m run turn.
     let e = (step scenario a.state h c).entry in
-    let more = step_stamps scenario a.state h c in
-    (
+    let more = step_stamps scenario a.state h c in (
       sound_step scenario order a.state h c r m.0 (running_on a h run).early turn,
       (sound_step_of scenario order a.state h c r m.0 turn).count ∙ m.1,
       omega (arith, more, m.1, m.2, grows (n + 2) n h e),

@@ -1,22 +1,20 @@
 -- Each thread fits its program, and has time left, in each legal history.
-use Rattle.std.proofs.Common.{◌≡◌, ◌≢◌, ℕ, zero, suc, ◌+◌, ◌-◌, ◌*◌, ◌^◌, ◌<◌, ◌≤◌, List, [], ◌∷◌, ◌++◌, length, refl, sym, ◌∙◌, ap, subst, Bool, true, false, Option, Some, None, slice_index_or, map, arith, inl, inr, ◌⊎◌, mul-le-mul_right}
+use Rattle.std.proofs.Common.{◌≡◌, ◌≢◌, ℕ, zero, suc, ◌+◌, ◌-◌, ◌*◌, ◌<◌, ◌≤◌, List, [], ◌∷◌, ◌++◌, length, refl, sym, ◌∙◌, ap, subst, Bool, false, Option, Some, None, slice_index_or, arith, inl, inr, mul-le-mul_right}
 use Rattle.std.specs.Prelude.{unwrap_or}
 use Rattle.std.specs.Option.{option_map}
-use Rattle.std.proofs.lemmas.Bool.{cases_eq}
 use Rattle.aps_model.specs.declared.entry.Entry.{Entry}
 use Rattle.aps_model.specs.declared.entry.Order.{Order}
 use Rattle.aps_model.specs.declared.program.Op.{Op}
-use Rattle.aps_model.specs.declared.program.Op.TheVariants.{Forever, Sleep, Send, Receive, Priority, Exit}
+use Rattle.aps_model.specs.declared.program.Op.TheVariants.{Sleep, Priority}
 use Rattle.aps_model.specs.declared.scenario.ThreadRow.{ThreadRow}
 use Rattle.aps_model.specs.declared.shape.Shape.{Shape}
 use Rattle.aps_model.specs.declared.state.State.{State}
 use Rattle.aps_model.specs.declared.state.State.TheVariants.{Ready, Running, Sleeping, Sending, Receiving, Replying, Gone}
 use Rattle.aps_model.specs.declared.state.ThreadNow.{ThreadNow}
 use Rattle.aps_laws.specs.Moments.{moment}
-use Rattle.aps_laws.specs.Sound.{IsNext, IsSound}
-use Rattle.aps_laws.specs.Stamps.{IsActive}
+use Rattle.aps_laws.specs.Sound.{IsSound}
 use Rattle.aps_laws.specs.ThreadFits.{Each, IsAwake, IsThreadFit, IsThreadTimed, StandsAt}
-use Rattle.aps_laws.specs.Untouched.{IsComplete, IsStepOf}
+use Rattle.aps_laws.specs.Untouched.{IsStepOf}
 use Rattle.aps_laws.proofs.Carry.{carried}
 use Rattle.aps_laws.proofs.Channels.{names_channels}
 use Rattle.aps_laws.proofs.EachThread.{GoesOn, MayGoOn, awake_in, sleep_or_awake}
@@ -25,17 +23,16 @@ use Rattle.aps_laws.proofs.Mid.{unflagged}
 use Rattle.aps_laws.proofs.MomentLaws.{due_within, last_other, last_own, moment-append, turn_early}
 use Rattle.aps_laws.proofs.Opening.{IsFirst, first_in}
 use Rattle.aps_laws.proofs.StepOf.{bill_says, horizon_same}
-
 use Rattle.aps_laws.proofs.Programs.{IsCallTime, after_fits, first_fits, fit_of, next_fits, op_fits, row_fits, some_left}
 use Rattle.aps_laws.proofs.RowsGrow.{rows_begun, step_rows}
-use Rattle.aps_laws.proofs.Sound.{next_of, running_on, sound_opening, sound_step, sound_step_of, tick_pos}
+use Rattle.aps_laws.proofs.Sound.{running_on, sound_opening, sound_step, sound_step_of, tick_pos}
 use Rattle.aps_laws.proofs.ThreadSteps.{ThreadBears, tick_each}
 use Rattle.aps_model.specs.After.{After, after, at_start, is_at_horizon, left_by, over}
 use Rattle.aps_model.specs.Due.{HasTurn, due, last_end, last_to}
 use Rattle.aps_model.specs.Legal.{IsLegal}
 use Rattle.aps_model.specs.Opening.{first_op, first_state, stamp_after, start_threads, started}
 use Rattle.aps_model.specs.Operation.{duration, enter, place_after, state_in}
-use Rattle.aps_model.specs.Program.{IsOp, IsPriority, is_last_op}
+use Rattle.aps_model.specs.Program.{IsOp, is_last_op}
 use Rattle.aps_model.specs.Scenario.{Scenario, no_thread_row, op_at, thread_row}
 use Rattle.aps_model.specs.SchedulerState.{SchedulerState, cpu_at, no_thread, thread_at}
 use Rattle.aps_model.specs.Shape.{horizon}
@@ -48,26 +45,26 @@ call_time scenario r shape call = let a = r.shape.some_call in let b = r.shape.s
 -- ---- what is told of a thread in the midst of a step
 
 -- the step's numbers: its moment is small, and its processor is not at the horizon yet
-record IsMoving (scenario : Scenario) (s : SchedulerState) (h : List Entry) (c : ℕ) : Type 0 where
-  valid : IsScenario scenario
-  small : due s h c ≤ 10000000000000
-  early : last_to h c ≢ Some (horizon scenario.shape)
-  forward : last_end h c + spent_at s h c ≤ due s h c
+pub record IsMoving (scenario : Scenario) (s : SchedulerState) (h : List Entry) (c : ℕ) : Type 0 where
+  pub valid : IsScenario scenario
+  pub small : due s h c ≤ 10000000000000
+  pub early : last_to h c ≢ Some (horizon scenario.shape)
+  pub forward : last_end h c + spent_at s h c ≤ due s h c
 
-record IsInStep (scenario : Scenario) (h : List Entry) (now c rows y : ℕ) (t : ThreadNow) : Type 0 where
-  fit : IsThreadFit scenario rows y t
-  ready : t.state ≡ Ready → t.left ≢ Some 0
-  running : (d : ℕ) → t.state ≡ Running d → last_to h d ≢ Some (horizon scenario.shape) → t.left ≢ Some 0
-  since : t.since ≤ now
-  since_running : (d : ℕ) → d ≢ c → t.state ≡ Running d → t.since ≤ last_end h d
+pub record IsInStep (scenario : Scenario) (h : List Entry) (now c rows y : ℕ) (t : ThreadNow) : Type 0 where
+  pub fit : IsThreadFit scenario rows y t
+  pub ready : t.state ≡ Ready → t.left ≢ Some 0
+  pub running : (d : ℕ) → t.state ≡ Running d → last_to h d ≢ Some (horizon scenario.shape) → t.left ≢ Some 0
+  pub since : t.since ≤ now
+  pub since_running : (d : ℕ) → d ≢ c → t.state ≡ Running d → t.since ≤ last_end h d
 
-record IsBeforeBill (scenario : Scenario) (h : List Entry) (now c rows y : ℕ) (t : ThreadNow) : Type 0 where
-  in_step : IsInStep scenario h now c rows y t
-  own : t.state ≡ Running c → t.since ≤ last_end h c
+pub record IsBeforeBill (scenario : Scenario) (h : List Entry) (now c rows y : ℕ) (t : ThreadNow) : Type 0 where
+  pub in_step : IsInStep scenario h now c rows y t
+  pub own : t.state ≡ Running c → t.since ≤ last_end h c
 
-record IsSpent (scenario : Scenario) (now rows y : ℕ) (t : ThreadNow) : Type 0 where
-  fit : IsThreadFit scenario rows y t
-  since : t.since ≤ now
+pub record IsSpent (scenario : Scenario) (now rows y : ℕ) (t : ThreadNow) : Type 0 where
+  pub fit : IsThreadFit scenario rows y t
+  pub since : t.since ≤ now
 
 -- fit is a fact of place, state, time left and own values alone
 fit_stamp : (scenario : Scenario) (rows y n since : ℕ) (t : ThreadNow) → IsThreadFit scenario rows y t → IsThreadFit scenario rows y (record t { stamp = n; since = since })
@@ -129,23 +126,61 @@ fit_spent scenario rows y ns t f = record {
 
 -- ---- the moves
 
-going : (scenario : Scenario) (s : SchedulerState) (h : List Entry) (c rows : ℕ) → IsMoving scenario s h c → GoesOn scenario (due s h c) (IsInStep scenario h (due s h c) c rows)
-going scenario s h c rows v = record {
-  readies = λ shape y n t call m may awake. record {
-    fit = fit_readies scenario v.valid shape rows y n (due s h c) t call v.small m.fit may awake;
-    ready = λ e. some_left scenario v.valid shape (call_time scenario v.valid shape call) y (t.place + 1) awake;
-    running = λ d e late. absurd cc;
-    since = omega arith;
-    since_running = λ d ne e. absurd cc;
-  };
-  sleeps = λ y ns t m may is. record {
-    fit = fit_sleeps scenario v.valid rows y ns (due s h c) t v.small m.fit may is;
-    ready = λ e. absurd cc;
-    running = λ d e late. absurd cc;
-    since = m.since;
-    since_running = λ d ne e. absurd cc;
-  };
+-- fitting alone is borne by each move, at a moment of the run
+pub fits_go_on : (scenario : Scenario) → IsScenario scenario → (now rows : ℕ) → now ≤ 10000000000000 → GoesOn scenario now (IsThreadFit scenario rows)
+fits_go_on scenario r now rows small = record {
+  readies = λ shape y n t call f may awake. fit_readies scenario r shape rows y n now t call small f may awake;
+  sleeps = λ y ns t f may is. fit_sleeps scenario r rows y ns now t small f may is;
 }
+
+pub fits_bear : (scenario : Scenario) → IsScenario scenario → (now c x rows : ℕ) → now ≤ 10000000000000 → ThreadBears scenario now c x rows (IsThreadFit scenario rows) (IsThreadFit scenario rows)
+fits_bear scenario r now c x rows small = record {
+  going = fits_go_on scenario r now rows small;
+  delivered = λ y d t f st. fit_state scenario rows y (Replying x) t f (d, at y t (Sending d) st f.stands) (λ u e. cc);
+  marked = λ on t f. fit_marked scenario rows x on t f;
+  stamped = λ n t f. fit_stamp scenario rows x n 0 t f;
+  prioritized = λ n t f is.
+      let range : IsOp (length scenario.channels) (joinable scenario) (Priority n) = subst (IsOp (length scenario.channels) (joinable scenario)) is (op_fits scenario r x t.place) in
+      record { place = f.place; stands = f.stands; endless = f.endless; forever = f.forever; left_small = f.left_small; wakes_soon = f.wakes_soon; priority = range; partition = f.partition };
+  joins = λ p t f below. record { place = f.place; stands = f.stands; endless = f.endless; forever = f.forever; left_small = f.left_small; wakes_soon = f.wakes_soon; priority = f.priority; partition = below };
+  stays = λ t f run some. f;
+  enters = λ shape op t call f run left is no_exit.
+      let place = place_after op t.place in
+      let inside = after_fits scenario r x t.place op f.place is no_exit (λ e. ended (sym left ∙ f.forever (is ∙ e))) in
+      fit_of scenario r shape (call_time scenario r shape call) rows x now (Running c) (enter scenario shape x place now (Running c) t) tt small inside refl refl f.priority f.partition;
+  sends = λ d t f is. fit_state scenario rows x (Sending d) t f is (λ u e. cc);
+  waits = λ d k t f is. fit_state scenario rows x (Replying k) t f (d, is) (λ u e. cc);
+  receives = λ d t f is. fit_state scenario rows x (Receiving d) t f is (λ u e. cc);
+  leaves = λ t f is. fit_state scenario rows x Gone t f is (λ u e. cc);
+  back = λ t f run. fit_state scenario rows x Ready t f (at x t (Running c) run f.stands) (λ u e. cc);
+  back_stamped = λ n t f run. fit_stamp scenario rows x n 0 (record t { state = Ready }) (fit_state scenario rows x Ready t f (at x t (Running c) run f.stands) (λ u e. cc));
+}
+  where
+    ended : ◌≡◌ {A = Option ℕ} (Some 0) None → ⊥
+    ended e = cc
+
+    at : (y : ℕ) (t : ThreadNow) (st : State) → t.state ≡ st → StandsAt t.state (op_at scenario y t.place) → StandsAt st (op_at scenario y t.place)
+    at y t st is stands = subst (λ z. StandsAt z (op_at scenario y t.place)) is stands
+
+going : (scenario : Scenario) (s : SchedulerState) (h : List Entry) (c rows : ℕ) → IsMoving scenario s h c → GoesOn scenario (due s h c) (IsInStep scenario h (due s h c) c rows)
+going scenario s h c rows v =
+    let f = fits_go_on scenario v.valid (due s h c) rows v.small in
+    record {
+      readies = λ shape y n t call m may awake. record {
+        fit = f.readies shape y n t call m.fit may awake;
+        ready = λ e. some_left scenario v.valid shape (call_time scenario v.valid shape call) y (t.place + 1) awake;
+        running = λ d e late. absurd cc;
+        since = omega arith;
+        since_running = λ d ne e. absurd cc;
+      };
+      sleeps = λ y ns t m may is. record {
+        fit = f.sleeps y ns t m.fit may is;
+        ready = λ e. absurd cc;
+        running = λ d e late. absurd cc;
+        since = m.since;
+        since_running = λ d ne e. absurd cc;
+      };
+    }
 
 going_before : (scenario : Scenario) (s : SchedulerState) (h : List Entry) (c rows : ℕ) → IsMoving scenario s h c → GoesOn scenario (due s h c) (IsBeforeBill scenario h (due s h c) c rows)
 going_before scenario s h c rows v =
@@ -159,17 +194,16 @@ going_before scenario s h c rows v =
 in_step_off : (scenario : Scenario) (h : List Entry) (now c rows y : ℕ) (t : ThreadNow) → IsThreadFit scenario rows y t → t.since ≤ now → t.state ≢ Ready → ((d : ℕ) → t.state ≢ Running d) → IsInStep scenario h now c rows y t
 in_step_off scenario h now c rows y t f since unready off = record { fit = f; ready = λ e. absurd (unready e); running = λ d e late. absurd (off d e); since = since; since_running = λ d ne e. absurd (off d e) }
 
+-- time is left in the operation that x enters, if it still runs
 entered : (scenario : Scenario) (s : SchedulerState) (h : List Entry) (c rows x : ℕ) (shape : Shape) (op : Op) (t : ThreadNow) → IsMoving scenario s h c → shape.call_ns ≡ scenario.shape.call_ns
-    → IsSpent scenario (due s h c) rows x t → t.left ≡ Some 0 → op_at scenario x t.place ≡ op → op ≢ Exit → IsInStep scenario h (due s h c) c rows x (enter scenario shape x (place_after op t.place) (due s h c) (Running c) t)
-entered scenario s h c rows x shape op t v call m left is going =
+    → t.since ≤ due s h c → IsThreadFit scenario rows x (enter scenario shape x (place_after op t.place) (due s h c) (Running c) t) → IsInStep scenario h (due s h c) c rows x (enter scenario shape x (place_after op t.place) (due s h c) (Running c) t)
+entered scenario s h c rows x shape op t v call since fit =
     let now = due s h c in
     let place = place_after op t.place in
     let next = op_at scenario x place in
-    let u : ThreadNow = enter scenario shape x place now (Running c) t in
-    let inside = after_fits scenario v.valid x t.place op m.fit.place is going (λ e. ended (sym left ∙ m.fit.forever (is ∙ e))) in
     let time = call_time scenario v.valid shape call in
     record {
-      fit = fit_of scenario v.valid shape time rows x now (Running c) u tt v.small inside refl refl m.fit.priority m.fit.partition;
+      fit = fit;
       ready = λ e. elim (sleep_or_awake next) [
         | inl sl ↦ absurd (sleeping_ready (now + sl.0) (sym (ap (λ o. state_in o now (Running c)) sl.1) ∙ e))
         | inr awake ↦ some_left scenario v.valid shape time x place awake
@@ -178,16 +212,13 @@ entered scenario s h c rows x shape op t v call m left is going =
         | inl sl ↦ absurd (sleeping_running (now + sl.0) d (sym (ap (λ o. state_in o now (Running c)) sl.1) ∙ e))
         | inr awake ↦ some_left scenario v.valid shape time x place awake
       ];
-      since = m.since;
+      since = since;
       since_running = λ d ne e. elim (sleep_or_awake next) [
         | inl sl ↦ absurd (sleeping_running (now + sl.0) d (sym (ap (λ o. state_in o now (Running c)) sl.1) ∙ e))
         | inr awake ↦ absurd (ne (same_cpu d (sym (awake_in next now (Running c) awake) ∙ e)))
       ];
     }
   where
-    ended : ◌≡◌ {A = Option ℕ} (Some 0) None → ⊥
-    ended e = cc
-
     sleeping_ready : (u : ℕ) → Sleeping u ≡ Ready → ⊥
     sleeping_ready u e = cc
 
@@ -200,37 +231,24 @@ entered scenario s h c rows x shape op t v call m left is going =
 bears : (scenario : Scenario) (s : SchedulerState) (h : List Entry) (c rows : ℕ) → IsMoving scenario s h c → (x : ℕ) → ThreadBears scenario (due s h c) c x rows (IsInStep scenario h (due s h c) c rows) (IsSpent scenario (due s h c) rows)
 bears scenario s h c rows v x =
     let now = due s h c in
+    let f = fits_bear scenario v.valid now c x rows v.small in
     record {
       going = going scenario s h c rows v;
-      delivered = λ y d t m st. in_step_off scenario h now c rows y (record t { state = Replying x }) (fit_state scenario rows y (Replying x) t m.fit (d, at_send y d t st m.fit.stands) (λ u e. cc)) m.since (λ e. cc) (λ k e. cc);
-      marked = λ on t m. record { fit = fit_marked scenario rows x on t m.fit; since = m.since };
-      stamped = λ n t m. record { fit = fit_stamp scenario rows x n 0 t m.fit; since = omega arith };
-      prioritized = λ n t m is.
-          let range : IsOp (length scenario.channels) (joinable scenario) (Priority n) = subst (IsOp (length scenario.channels) (joinable scenario)) is (op_fits scenario v.valid x t.place) in
-          let f = m.fit in
-          record { fit = record { place = f.place; stands = f.stands; endless = f.endless; forever = f.forever; left_small = f.left_small; wakes_soon = f.wakes_soon; priority = range; partition = f.partition }; since = m.since };
-      joins = λ p t m below.
-          let f = m.fit in
-          record { fit = record { place = f.place; stands = f.stands; endless = f.endless; forever = f.forever; left_small = f.left_small; wakes_soon = f.wakes_soon; priority = f.priority; partition = below }; since = m.since };
+      delivered = λ y d t m st. in_step_off scenario h now c rows y (record t { state = Replying x }) (f.delivered y d t m.fit st) m.since (λ e. cc) (λ k e. cc);
+      marked = λ on t m. record { fit = f.marked on t m.fit; since = m.since };
+      stamped = λ n t m. record { fit = f.stamped n t m.fit; since = omega arith };
+      prioritized = λ n t m is. record { fit = f.prioritized n t m.fit is; since = m.since };
+      joins = λ p t m below. record { fit = f.joins p t m.fit below; since = m.since };
       stays = λ t m run some. record { fit = m.fit; ready = λ e. some; running = λ d e late. some; since = m.since; since_running = λ d ne e. absurd (ne (same_cpu d (sym run ∙ e))) };
-      enters = λ shape op t call m run left is no_exit. entered scenario s h c rows x shape op t v call m left is no_exit;
-      sends = λ d t m is. in_step_off scenario h now c rows x (record t { state = Sending d }) (fit_state scenario rows x (Sending d) t m.fit is (λ u e. cc)) m.since (λ e. cc) (λ k e. cc);
-      waits = λ d r t m is. in_step_off scenario h now c rows x (record t { state = Replying r }) (fit_state scenario rows x (Replying r) t m.fit (d, is) (λ u e. cc)) m.since (λ e. cc) (λ k e. cc);
-      receives = λ d t m is. in_step_off scenario h now c rows x (record t { state = Receiving d }) (fit_state scenario rows x (Receiving d) t m.fit is (λ u e. cc)) m.since (λ e. cc) (λ k e. cc);
-      leaves = λ t m is. in_step_off scenario h now c rows x (record t { state = Gone }) (fit_state scenario rows x Gone t m.fit is (λ u e. cc)) m.since (λ e. cc) (λ k e. cc);
-      back = λ t m run. record { fit = fit_state scenario rows x Ready t m.fit (subst (λ z. StandsAt z (op_at scenario x t.place)) run m.fit.stands) (λ u e. cc); ready = λ e. m.running c run v.early; running = λ d e late. absurd cc; since = m.since; since_running = λ d ne e. absurd cc };
-      back_stamped = λ n t m run. record {
-        fit = fit_stamp scenario rows x n 0 (record t { state = Ready }) (fit_state scenario rows x Ready t m.fit (subst (λ z. StandsAt z (op_at scenario x t.place)) run m.fit.stands) (λ u e. cc));
-        ready = λ e. m.running c run v.early;
-        running = λ d e late. absurd cc;
-        since = omega arith;
-        since_running = λ d ne e. absurd cc;
-      };
+      enters = λ shape op t call m run left is no_exit. entered scenario s h c rows x shape op t v call m.since (f.enters shape op t call m.fit run left is no_exit);
+      sends = λ d t m is. in_step_off scenario h now c rows x (record t { state = Sending d }) (f.sends d t m.fit is) m.since (λ e. cc) (λ k e. cc);
+      waits = λ d k t m is. in_step_off scenario h now c rows x (record t { state = Replying k }) (f.waits d k t m.fit is) m.since (λ e. cc) (λ k e. cc);
+      receives = λ d t m is. in_step_off scenario h now c rows x (record t { state = Receiving d }) (f.receives d t m.fit is) m.since (λ e. cc) (λ k e. cc);
+      leaves = λ t m is. in_step_off scenario h now c rows x (record t { state = Gone }) (f.leaves t m.fit is) m.since (λ e. cc) (λ k e. cc);
+      back = λ t m run. record { fit = f.back t m.fit run; ready = λ e. m.running c run v.early; running = λ d e late. absurd cc; since = m.since; since_running = λ d ne e. absurd cc };
+      back_stamped = λ n t m run. record { fit = f.back_stamped n t m.fit run; ready = λ e. m.running c run v.early; running = λ d e late. absurd cc; since = omega arith; since_running = λ d ne e. absurd cc };
     }
   where
-    at_send : (y d : ℕ) (t : ThreadNow) → t.state ≡ Sending d → StandsAt t.state (op_at scenario y t.place) → op_at scenario y t.place ≡ Send d
-    at_send y d t st stands = subst (λ z. StandsAt z (op_at scenario y t.place)) st stands
-
     same_cpu : (d : ℕ) → Running c ≡ Running d → d ≡ c
     same_cpu d e = cc
 
@@ -252,12 +270,12 @@ horizon_small scenario r =
     omega (arith, a, b)
 
 -- how a step stands after its history
-record IsStepped (scenario : Scenario) (s : SchedulerState) (h : List Entry) (c : ℕ) (e : Entry) : Type 0 where
-  moving : IsMoving scenario s h c
-  past : moment h ≤ due s h c
-  now : moment (h ++ e ∷ []) ≡ due s h c
-  own : last_to (h ++ e ∷ []) c ≡ Some (due s h c)
-  other : (d : ℕ) → d ≢ c → last_to (h ++ e ∷ []) d ≡ last_to h d
+pub record IsStepped (scenario : Scenario) (s : SchedulerState) (h : List Entry) (c : ℕ) (e : Entry) : Type 0 where
+  pub moving : IsMoving scenario s h c
+  pub past : moment h ≤ due s h c
+  pub now : moment (h ++ e ∷ []) ≡ due s h c
+  pub own : last_to (h ++ e ∷ []) c ≡ Some (due s h c)
+  pub other : (d : ℕ) → d ≢ c → last_to (h ++ e ∷ []) d ≡ last_to h d
 
 stepped : (scenario : Scenario) (order : Order) (s : SchedulerState) (h : List Entry) (c : ℕ) (e : Entry) (t : SchedulerState) → IsScenario scenario → IsSound scenario s h → is_at_horizon s h ≡ false → HasTurn order s h c
     → IsStepOf scenario s h c e t → IsStepped scenario s h c e
@@ -321,10 +339,13 @@ leaves : (scenario : Scenario) (s : SchedulerState) (h : List Entry) (c rows : �
     → StepLeaves scenario s h c (IsInStep scenario h (due s h c) c rows) (IsSpent scenario (due s h c) rows) (λ o y t. IsThreadFit scenario rows y t × IsThreadTimed scenario o (h ++ e ∷ []) t)
 leaves scenario s h c rows e end p = record {
   ends = λ o y t why m off. (m.fit, timed_off scenario s h c rows e o y t p m off);
-  ends_own = λ o y t why m run. (m.fit, timed_on scenario s h c e o t p m.since run (λ ne going. absurd (elim why [
-    | inl at ↦ ne (at ∙ end)
-    | inr reboot ↦ reboot going
-  ])));
+  ends_own = λ o y t why m run. (
+    m.fit,
+    timed_on scenario s h c e o t p m.since run (λ ne going. absurd (elim why [
+      | inl at ↦ ne (at ∙ end)
+      | inr reboot ↦ reboot going
+    ])),
+  );
   rests = λ y t ne m off. (m.fit, timed_off scenario s h c rows e None y t p m off);
   picks = λ y t ne m ready. (
     fit_state scenario rows y (Running c) t m.fit (subst (λ z. StandsAt z (op_at scenario y t.place)) ready m.fit.stands) (λ u k. cc),
@@ -332,28 +353,31 @@ leaves scenario s h c rows e end p = record {
   );
 }
 
-pub fit_step : (scenario : Scenario) (order : Order) (a : After) (h : List Entry) (c : ℕ) → IsScenario scenario → IsSound scenario a.state h → over a h ≡ None → HasTurn order a.state h c
-    → AreFit scenario a h → AreFit scenario (left_by (step scenario a.state h c)) (h ++ (step scenario a.state h c).entry ∷ [])
-fit_step scenario order a h c r m over turn fit =
+-- all that a step of c after h stands on, where there are so many rows after the work of the tick
+pub record IsPrepared (scenario : Scenario) (s : SchedulerState) (h : List Entry) (c rows : ℕ) (e : Entry) : Type 0 where
+  pub stepped : IsStepped scenario s h c e
+  pub standing : IsStanding scenario s c
+  pub few : length (begun scenario s h c (due s h c)).rows ≤ rows
+  pub begun' : Each (IsBeforeBill scenario h (due s h c) c rows) (begun scenario s h c (due s h c)).threads
+  pub bears : StepBears scenario s h c rows (IsBeforeBill scenario h (due s h c) c rows) (IsInStep scenario h (due s h c) c rows) (IsSpent scenario (due s h c) rows)
+
+pub prepared : (scenario : Scenario) (order : Order) (a : After) (h : List Entry) (c rows : ℕ) → IsScenario scenario → IsSound scenario a.state h → over a h ≡ None → HasTurn order a.state h c → AreFit scenario a h
+    → length (begun scenario a.state h c (due a.state h c)).rows ≤ rows → IsPrepared scenario a.state h c rows (step scenario a.state h c).entry
+prepared scenario order a h c rows r m over turn fit few =
     let s = a.state in
     let run = running_on a h over in
-    let e = (step scenario s h c).entry in
     let now = due s h c in
     let st = sound_step_of scenario order s h c r m turn in
-    let p = stepped scenario order s h c e (step scenario s h c).state r m run.early turn st in
+    let p = stepped scenario order s h c (step scenario s h c).entry (step scenario s h c).state r m run.early turn st in
     let v = p.moving in
-    let stand : IsStanding scenario s c = record { names = names_channels scenario r; plain = m.grounded.plain; kept = m.grounded.kept; call = m.grounded.sizes.call_ns } in
-    let rows = length (step scenario s h c).state.rows in
-    let grow = step_rows scenario s h c stand in
-    let begun' = rows_begun scenario s h c now in
-    let few : length s.rows ≤ rows = omega (arith, grow, begun') in
+    let grow = rows_begun scenario s h c now in
     let start : Each (IsBeforeBill scenario h now c rows) s.threads = λ y below.
     let was = fit y below in
     let past = p.past in
     let old = was.1.since in
     record {
       in_step = record {
-        fit = fit_more scenario (length s.rows) rows y (thread_at s y) few was.0;
+        fit = fit_more scenario (length s.rows) rows y (thread_at s y) (omega (arith, grow, few)) was.0;
         ready = was.1.ready;
         running = λ d is late. was.1.running d is late run.calm;
         since = omega (arith, past, old);
@@ -361,16 +385,31 @@ fit_step scenario order a h c r m over turn fit =
       };
       own = was.1.since_running c;
     } in
-    let ticked' = tick_each scenario now (IsBeforeBill scenario h now c rows) (going_before scenario s h c rows v)
-    (λ y on t k. let f = k.in_step in record { in_step = record { fit = fit_marked scenario rows y on t f.fit; ready = f.ready; running = f.running; since = f.since; since_running = f.since_running }; own = k.own })
-    (unflagged s c) h m.grounded.sizes.call_ns start in
+    record {
+      stepped = p;
+      standing = record { names = names_channels scenario r; plain = m.grounded.plain; kept = m.grounded.kept; call = m.grounded.sizes.call_ns };
+      few = few;
+      begun' = tick_each scenario now (IsBeforeBill scenario h now c rows) (going_before scenario s h c rows v)
+          (λ y on t k. let f = k.in_step in record { in_step = record { fit = fit_marked scenario rows y on t f.fit; ready = f.ready; running = f.running; since = f.since; since_running = f.since_running }; own = k.own })
+          (unflagged s c) h m.grounded.sizes.call_ns start;
+      bears = record {
+        moves = bears scenario s h c rows v;
+        calms = λ x t k. k.in_step;
+        spends = λ x t k is. record { fit = fit_spent scenario rows x (spent_at s h c) t k.in_step.fit; since = let l = k.own is in let f = v.forward in omega (arith, l, f) };
+      };
+    }
+
+pub fit_step : (scenario : Scenario) (order : Order) (a : After) (h : List Entry) (c : ℕ) → IsScenario scenario → IsSound scenario a.state h → over a h ≡ None → HasTurn order a.state h c
+    → AreFit scenario a h → AreFit scenario (left_by (step scenario a.state h c)) (h ++ (step scenario a.state h c).entry ∷ [])
+fit_step scenario order a h c r m over turn fit =
+    let s = a.state in
+    let e = (step scenario s h c).entry in
+    let now = due s h c in
+    let rows = length (step scenario s h c).state.rows in
+    let grow = step_rows scenario s h c (record { names = names_channels scenario r; plain = m.grounded.plain; kept = m.grounded.kept; call = m.grounded.sizes.call_ns }) in
+    let p = prepared scenario order a h c rows r m over turn fit (omega (arith, grow)) in
     step_each scenario s h c rows (IsBeforeBill scenario h now c rows) (IsInStep scenario h now c rows) (IsSpent scenario now rows) (λ o y t. IsThreadFit scenario rows y t × IsThreadTimed scenario o (h ++ e ∷ []) t)
-    (record {
-      moves = bears scenario s h c rows v;
-      calms = λ x t k. k.in_step;
-      spends = λ x t k is. record { fit = fit_spent scenario rows x (spent_at s h c) t k.in_step.fit; since = let l = k.own is in let f = v.forward in omega (arith, l, f) };
-    })
-    (leaves scenario s h c rows e (horizon_same scenario.shape s.shape m.grounded.sizes) p) stand (omega (arith, grow)) ticked'
+    p.bears (leaves scenario s h c rows e (horizon_same scenario.shape s.shape m.grounded.sizes) p.stepped) p.standing p.few p.begun'
 
 -- ---- the start
 

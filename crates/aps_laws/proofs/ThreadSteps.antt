@@ -1,9 +1,8 @@
 -- A property of each thread by itself, through a step: like Walk, with all that is known of the one thread that is set.
-use Rattle.std.proofs.Common.{◌≡◌, ◌≢◌, ℕ, ◌+◌, ◌-◌, ◌<◌, ◌≤◌, zero, suc, List, [], ◌∷◌, ◌++◌, length, refl, sym, ◌∙◌, ap, subst, Bool, true, false, cond, nat_eq, nat_lt, Option, Some, None, slice_index_or, slice_set, arith, inl, inr, ◌⊎◌, length-set}
-use Rattle.std.specs.Option.{option_map}
+use Rattle.std.proofs.Common.{◌≡◌, ◌≢◌, ℕ, ◌<◌, ◌≤◌, zero, suc, List, [], ◌∷◌, length, refl, sym, ◌∙◌, ap, subst, Bool, true, false, cond, nat_lt, Option, Some, None, slice_index_or, slice_set, arith, inl, inr, ◌⊎◌, length-set}
 use Rattle.std.specs.List.{position, position_or_len}
 use Rattle.std.specs.Str.{bytes_eq}
-use Rattle.std.proofs.lemmas.Bool.{cases_eq, ltb-true}
+use Rattle.std.proofs.lemmas.Bool.{ltb-true}
 use Rattle.aps_model.specs.declared.program.Op.{Op}
 use Rattle.aps_model.specs.declared.program.Op.TheVariants.{Run, Forever, Sleep, Yield, Send, Receive, Reply, Join, Priority, CriticalOn, CriticalOff, Repeat, Exit}
 use Rattle.aps_model.specs.declared.shape.Shape.{Shape}
@@ -29,7 +28,7 @@ use Rattle.aps_model.specs.Messages.{first_message, received, received_message, 
 use Rattle.aps_model.specs.Operation.{enter, go_on, is_slice_over, place_after, state_in, with_stamped}
 use Rattle.aps_model.specs.Partition.{partition_named}
 use Rattle.aps_model.specs.Scenario.{Scenario, op_at, thread_row}
-use Rattle.aps_model.specs.SchedulerState.{Message, SchedulerState, channel_at, no_thread, thread_at, with_state, with_thread}
+use Rattle.aps_model.specs.SchedulerState.{Message, SchedulerState, channel_at, no_thread, thread_at, with_state}
 use Rattle.aps_model.specs.Step.{enter_next, finish_op, give_back, settled}
 use Rattle.aps_model.specs.TickWork.{do_command, tick_work, thread_named, view_of, with_mark}
 use Rattle.aps_model.specs.Command.{perform}

@@ -1,5 +1,5 @@
 -- How many threads, processors and channels there are, and what no command changes of the shape.
-use Rattle.std.specs.Prelude.{◌≡◌, ◌≢◌, ℕ, length, Some, None}
+use Rattle.std.specs.Prelude.{◌≡◌, ℕ, length, Some}
 use Rattle.aps_model.specs.declared.state.Pick.{Pick}
 use Rattle.aps_laws.specs.Sizes.{IsSameSizes}
 use Rattle.aps_model.specs.Scenario.{Scenario}

@@ -1,5 +1,5 @@
 -- Each number by which a state names something names one that exists, and each priority has its range.
-use Rattle.std.specs.Prelude.{◌≡◌, ℕ, ◌<◌, ◌≤◌, List, length, All, Some}
+use Rattle.std.specs.Prelude.{◌≡◌, ℕ, ◌<◌, length, All, Some}
 use Rattle.std.specs.Bool.{⊤}
 use Rattle.aps_model.specs.declared.state.Facts.{Facts}
 use Rattle.aps_model.specs.declared.state.Pick.{Pick}

@@ -6,7 +6,8 @@ use Rattle.aps_model.specs.declared.shape.Shape.{Shape}
 use Rattle.aps_laws.specs.Moments.{moment}
 use Rattle.aps_model.specs.Due.{due, last_end, next_boundary}
 use Rattle.aps_model.specs.SchedulerState.{SchedulerState, cpu_at}
-use Rattle.aps_model.specs.Usage.{critical_used, overlap, used}
+use Rattle.aps_model.specs.Shape.{whole}
+use Rattle.aps_model.specs.Usage.{critical_used, overlap, used, window_critical, window_used}
 
 -- an entry of one of the processors, within a tick, before the end of the longest run
 pub record IsEntrySmall (shape : Shape) (e : Entry) : Type 0 where
@@ -38,3 +39,8 @@ pub record IsUsageSmall (shape : Shape) (h : List Entry) (a b : ℕ) : Type 0 wh
   pub each : (p : ℕ) → used shape.tick h p a b ≤ time_within shape.tick h a b
   pub critical : (p : ℕ) → critical_used shape.tick h p a b ≤ used shape.tick h p a b
   pub all : (n : ℕ) → sum_by (λ p. used shape.tick h p a b) (range_with_len 0 n) ≤ time_within shape.tick h a b
+
+-- in each window of the state's own length a partition uses at most the whole, critical time included
+abbrev pub FitsWindow : SchedulerState → List Entry → Type 0
+FitsWindow s h =
+    (j p : ℕ) → (window_used s.shape h j p ≤ whole s.shape) × (window_critical s.shape h j p ≤ window_used s.shape h j p)

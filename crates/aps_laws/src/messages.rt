@@ -1,5 +1,5 @@
 //! Messages, receivers and inheritance in a legal history.
-ghost use Rattle.std.specs.Prelude.{◌≡◌, ℕ, ◌≤◌, List, [], ◌∷◌, ◌++◌, length, ◌/◌};
+ghost use Rattle.std.specs.Prelude.{◌≡◌, ℕ, List, ◌/◌};
 ghost use Rattle.aps_model.specs.declared.entry.Entry.{Entry};
 ghost use Rattle.aps_model.specs.declared.entry.Order.{Order};
 ghost use Rattle.aps_model.specs.Scenario.{Scenario};
@@ -27,11 +27,6 @@ pub fn servers_inherit()
 /// Each number of a thread, processor, channel or partition names one that exists, in states, messages, receivers, triples, inherited values and what processors keep; each priority that waits or is inherited is between 1 and 255.
 pub fn ids_fit()
     ensures { (scenario : Scenario) (order : Order) (h : List Entry) → IsScenario scenario → IsLegal scenario order h → IsInRange scenario (state_after scenario h) }
-{}
-
-/// Rows never go away, so a partition that a thread or a processor has stays one.
-pub fn rows_stay()
-    ensures { (scenario : Scenario) (order : Order) (h : List Entry) (e : Entry) → IsScenario scenario → IsLegal scenario order (h ++ e ∷ []) → length (state_after scenario h).rows ≤ length (state_after scenario (h ++ e ∷ [])).rows }
 {}
 
 /// Where a thread that is nobody's client serves anew or serves no longer, no other thread's inherited values change.

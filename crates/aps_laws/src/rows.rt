@@ -1,5 +1,5 @@
 //! The partition rows and the parameters of a legal history.
-ghost use Rattle.std.specs.Prelude.{◌≡◌, ℕ, ◌≤◌, false, length, All, List, [], ◌∷◌, ◌++◌, ◌/◌};
+ghost use Rattle.std.specs.Prelude.{◌≡◌, ◌≢◌, ℕ, ◌*◌, ◌<◌, ◌≤◌, false, length, All, List, [], ◌∷◌, ◌++◌, ◌/◌};
 ghost use Rattle.aps_model.specs.declared.entry.Entry.{Entry};
 ghost use Rattle.aps_model.specs.declared.entry.Order.{Order};
 ghost use Rattle.aps_model.specs.Scenario.{Scenario};
@@ -8,9 +8,10 @@ ghost use Rattle.aps_model.specs.After.{state_after};
 ghost use Rattle.aps_model.specs.Legal.{IsLegal};
 ghost use Rattle.aps_laws.specs.Changes.{AreInTicks, HasRoomForChanges, OnlyGrow};
 ghost use Rattle.aps_laws.specs.Grown.{IsGrown};
-ghost use Rattle.aps_model.specs.Loaded.{has_change};
+ghost use Rattle.aps_model.specs.Loaded.{has_change, rows_of_tick, state_of_tick};
 ghost use Rattle.aps_model.specs.Partition.{IsRow};
-ghost use Rattle.aps_laws.specs.Held.{HoldsRows};
+ghost use Rattle.aps_laws.specs.Held.{HasRowsOfTick, HoldsRows};
+ghost use Rattle.aps_laws.specs.Moments.{moment};
 ghost use Rattle.aps_laws.specs.Rows.{AreInOrder, AreKept};
 
 /// Changes only grow, by changes at the entry's tick, and where there is none more rows and shape are the same.
@@ -29,9 +30,16 @@ pub fn rows_stay()
     ensures { (scenario : Scenario) (order : Order) (h later : List Entry) → IsScenario scenario → IsLegal scenario order (h ++ later) → AreKept (state_after scenario h).rows (state_after scenario (h ++ later)).rows }
 {}
 
-/// Where no change stands at ticks a to b-1, each entry that ends in them leaves the rows and the shape that the first entry at or after tick a leaves.
+/// Where no change stands at ticks a to b-1, each entry that ends in them leaves the rows and the shape that the first entry at or after tick a leaves, and so does the whole history if it ends there.
 pub fn rows_hold()
-    ensures { (scenario : Scenario) (order : Order) (h : List Entry) (a b : ℕ) → IsScenario scenario → IsLegal scenario order h → has_change (state_after scenario h).changes a b ≡ false → HoldsRows scenario h a b }
+    ensures entries { (scenario : Scenario) (order : Order) (h : List Entry) (a b : ℕ) → IsScenario scenario → IsLegal scenario order h → has_change (state_after scenario h).changes a b ≡ false → HoldsRows scenario h a b }
+    ensures last { (scenario : Scenario) (order : Order) (h : List Entry) (a b : ℕ) → IsScenario scenario → IsLegal scenario order h → h ≢ [] → a * scenario.shape.tick ≤ moment h → moment h < b * scenario.shape.tick → has_change (state_after scenario h).changes a b ≡ false → HasRowsOfTick scenario h h a }
+{}
+
+/// The rows and the shape of a tick are in order, and its rows stay in the rows that the history leaves.
+pub fn tick_rows_sound()
+    ensures in_order { (scenario : Scenario) (order : Order) (h : List Entry) (a : ℕ) → IsScenario scenario → IsLegal scenario order h → AreInOrder scenario (state_of_tick scenario h a) }
+    ensures stay { (scenario : Scenario) (order : Order) (h : List Entry) (a : ℕ) → IsScenario scenario → IsLegal scenario order h → AreKept (rows_of_tick scenario h a) (state_after scenario h).rows }
 {}
 
 /// Replies and changes only grow, at their ends.

@@ -1,4 +1,12 @@
+pub mod Taken
+pub mod Ranges
+pub mod Ends
+pub mod Spans
 pub mod Sums
+pub mod Cells
+pub mod Windowed
+pub mod Moved
 pub mod Ascii
 pub mod Rows
 pub mod Tables
+pub mod Answers

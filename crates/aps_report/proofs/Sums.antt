@@ -54,13 +54,13 @@ sums_more h e sums places so_far = record {
 }
 
 -- each sum over the first entries is far below the greatest number
-few : (f : Entry → ℕ) (h : List Entry) (i : ℕ) → ((e : Entry) → IsEntry e → f e ≤ 10000000) → All IsEntry h → length h < 2 ^ 64 → sum_by f (take i h) < 2 ^ 127
+pub few : (f : Entry → ℕ) (h : List Entry) (i : ℕ) → ((e : Entry) → IsEntry e → f e ≤ 10000000) → All IsEntry h → length h < 2 ^ 64 → sum_by f (take i h) < 2 ^ 127
 few f h i short entries small =
     let each : All (λ e. f e ≤ 10000000) h = λ k d here. short (get_or h k d) (entries k d here) in
     let whole : sum_by f h ≤ length h * 10000000 = sum_by-le f 10000000 h each in
     omega (arith, sum_by-take-le f h i)
 
-part : (b : Bool) (n m : ℕ) → n ≤ m → (if b then n else 0) ≤ m
+pub part : (b : Bool) (n m : ℕ) → n ≤ m → (if b then n else 0) ≤ m
 part true n m h = h
 part false n m h = omega arith
 

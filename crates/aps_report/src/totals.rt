@@ -1,8 +1,9 @@
 //! Sums of time over all entries of a history.
-ghost use Rattle.std.specs.Prelude.{◌≡◌, ◌≤◌, ◌<◌, All, IfOk, replicate, slice_index};
+ghost use Rattle.std.specs.Prelude.{◌≡◌, ◌≤◌, ◌<◌, All, IfOk, slice_index};
 ghost use Rattle.aps_model.specs.History.{IsEntry};
 ghost use Rattle.aps_report.specs.Totals.{no_time, sums_with, HavePlaces, HaveRoom, AreSums};
 
+use crate::zeros::zeros;
 use aps_model::{Entry, NoMemory};
 use std::alloc::Global;
 use std::marker::Model;
@@ -100,10 +101,4 @@ impl Totals {
     {
         self.idle
     }
-}
-
-fn zeros(alloc: Global, count: usize) -> Result<Vec<u128>, NoMemory>
-    ensures { IfOk result (λ v. v.items ≡ replicate count 0) }
-{
-    vec![in alloc; 0; count]
 }

@@ -1,3 +1,13 @@
 pub mod Digits
 pub mod Ascii
 pub mod Lines
+pub mod Readers
+pub mod Numbers
+pub mod Operations
+pub mod Options
+pub mod Entries
+pub mod Places
+pub mod Journals
+pub mod Wholes
+pub mod Words
+pub mod Rows

@@ -1,8 +1,18 @@
 //! The journal: the entries of a run as text, one line each, printed and read back.
 #![tactic(auto)]
 
+mod fields;
+pub mod laws;
 mod line;
+mod operation;
 mod printing;
+mod reading;
+mod refusal;
 
 pub use line::{LineBuffer, MAX_LINE};
 pub use printing::{print_journal, push_entry};
+pub use reading::read_journal;
+pub use refusal::JournalRefusal;
+
+#[cfg(test)]
+mod tests;

@@ -1,6 +1,7 @@
-ghost use Rattle.std.specs.Prelude.{◌≡◌, ◌+◌, ◌<◌, ◌≤◌, ◌++◌, List, [], ◌∷◌, length, drop, if◌then◌else◌, codes, IsAscii, IsTrue};
+ghost use Rattle.std.specs.Prelude.{◌≡◌, ◌+◌, ◌<◌, ◌≤◌, ◌++◌, List, [], ◌∷◌, length, drop, if◌then◌else◌, codes, IsAscii, IsTrue, IfSome};
 ghost use Rattle.std.specs.Fmt.{decimal};
-ghost use Rattle.aps_model.specs.Journal.{option_text, done_text, entry_line};
+ghost use Rattle.aps_model.specs.Journal.{option_text, done_text, thread_in, entry_line, IsLine};
+ghost use Rattle.aps_text.specs.InTime.{IsInTime};
 ghost use Rattle.aps_text.specs.Ascii.{is_ascii};
 
 use aps_model::{CpuId, Done, Entry, PartitionId, ThreadId};
@@ -46,6 +47,7 @@ impl LineBuffer {
         ensures text { result.now ≡ entry_line entry.now }
         ensures short { length result.now ≤ MAX_LINE }
         ensures ascii { IsAscii result.now }
+        ensures within { IsInTime entry.now → IsLine entry.now }
     {
         self.clear();
         self.put_pick(entry);
@@ -68,6 +70,9 @@ impl LineBuffer {
         requires { length self.old + 11 ≤ MAX_LINE }
         ensures text { self.new ≡ option_text entry.now.picked ++ (32 ∷ (option_text entry.now.starved ++ (32 ∷ (option_text entry.now.flagged ++ (10 ∷ self.old))))) }
         ensures long { length self.new ≤ length self.old + 11 }
+        ensures picked { IfSome entry.now.picked (λ thread. thread ≤ 1023) }
+        ensures starved { IfSome entry.now.starved (λ partition. partition ≤ 31) }
+        ensures flagged { IfSome entry.now.flagged (λ cpu. cpu ≤ 15) }
     {
         self.put_byte(b'\n');
         self.put_cpu(entry.flagged);
@@ -82,6 +87,8 @@ impl LineBuffer {
         requires { length self.old + 10 ≤ MAX_LINE }
         ensures text { self.new ≡ option_text entry.now.ran ++ (32 ∷ (option_text entry.now.billed ++ (32 ∷ ((if entry.now.critical then codes "c" else codes "-") ++ (32 ∷ self.old))))) }
         ensures long { length self.new ≤ length self.old + 10 }
+        ensures ran { IfSome entry.now.ran (λ thread. thread ≤ 1023) }
+        ensures billed { IfSome entry.now.billed (λ partition. partition ≤ 31) }
     {
         self.put_byte(b' ');
         self.put_byte(if entry.critical { b'c' } else { b'-' });
@@ -96,6 +103,7 @@ impl LineBuffer {
         requires { length self.old + 45 ≤ MAX_LINE }
         ensures text { self.new ≡ decimal entry.now.cpu ++ (32 ∷ (decimal entry.now.from ++ (32 ∷ (decimal entry.now.to ++ (32 ∷ self.old))))) }
         ensures long { length self.new ≤ length self.old + 45 }
+        ensures cpu { entry.now.cpu ≤ 15 }
     {
         self.put_byte(b' ');
         self.put_number(entry.to);
@@ -110,6 +118,7 @@ impl LineBuffer {
         requires { length self.old + 20 ≤ MAX_LINE }
         ensures text { self.new ≡ done_text done.now ++ self.old }
         ensures long { length self.new ≤ length self.old + 20 }
+        ensures thread { IfSome (thread_in done.now) (λ thread. thread ≤ 1023) }
     {
         match done {
             Done::Nothing => self.put_word(b"-"),
@@ -139,6 +148,7 @@ impl LineBuffer {
         requires room { length self.old + 20 ≤ MAX_LINE }
         ensures text { self.new ≡ (word.now ++ decimal thread) ++ self.old }
         ensures long { length self.new ≤ length self.old + 20 }
+        ensures small { thread ≤ 1023 }
     {
         self.put_number(thread.index() as u64);
         self.put_word(word);
@@ -149,6 +159,7 @@ impl LineBuffer {
         requires { length self.old + 2 ≤ MAX_LINE }
         ensures text { self.new ≡ option_text cpu ++ self.old }
         ensures long { length self.new ≤ length self.old + 2 }
+        ensures small { IfSome cpu (λ cpu. cpu ≤ 15) }
     {
         match cpu {
             Some(cpu) => self.put_number(cpu.index() as u64),
@@ -161,6 +172,7 @@ impl LineBuffer {
         requires { length self.old + 2 ≤ MAX_LINE }
         ensures text { self.new ≡ option_text partition ++ self.old }
         ensures long { length self.new ≤ length self.old + 2 }
+        ensures small { IfSome partition (λ partition. partition ≤ 31) }
     {
         match partition {
             Some(partition) => self.put_number(partition.index() as u64),
@@ -173,6 +185,7 @@ impl LineBuffer {
         requires { length self.old + 4 ≤ MAX_LINE }
         ensures text { self.new ≡ option_text thread ++ self.old }
         ensures long { length self.new ≤ length self.old + 4 }
+        ensures small { IfSome thread (λ thread. thread ≤ 1023) }
     {
         match thread {
             Some(thread) => self.put_number(thread.index() as u64),

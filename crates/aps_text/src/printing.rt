@@ -1,5 +1,6 @@
-ghost use Rattle.std.specs.Prelude.{◌≡◌, ◌++◌, string_bytes, IfOk, OnOk, OnErr};
-ghost use Rattle.aps_model.specs.Journal.{entry_line, journal_text};
+ghost use Rattle.std.specs.Prelude.{◌≡◌, ◌++◌, string_bytes, All, IfOk, OnOk, OnErr};
+ghost use Rattle.aps_model.specs.Journal.{entry_line, journal_text, IsJournal};
+ghost use Rattle.aps_text.specs.InTime.{IsInTime};
 
 use crate::line::LineBuffer;
 use aps_model::{Entry, NoMemory};
@@ -16,7 +17,9 @@ pub fn push_entry(out: &mut Vec<u8>, entry: &Entry) -> Result<(), NoMemory>
 
 /// The journal of these entries: the line of each, in their order.
 pub fn print_journal(alloc: Global, entries: &[Entry]) -> Result<String, NoMemory>
-    ensures { IfOk result (λ text. string_bytes text ≡ journal_text entries.now) }
+    ensures text { IfOk result (λ text. string_bytes text ≡ journal_text entries.now) }
+    // Such a text is read again.
+    ensures journal { All IsInTime entries.now → IfOk result (λ text. IsJournal entries.now (string_bytes text)) }
 {
     let mut text = Vec::new(alloc);
     let mut buffer = LineBuffer::new();

@@ -14,4 +14,15 @@ returns c =
       text = rw (c.put_span.ensures.text, c.put_bill.ensures.text, c.put_done.ensures.text, c.put_byte.ensures, c.put_pick.ensures.text, c.clear.ensures) (simp append_assoc);
       short = omega (arith, ap length c.clear.ensures, ap length c.put_byte.ensures);
       ascii = ascii;
+      within = λ h. record {
+        cpu = c.put_span.ensures.cpu;
+        from = h.from;
+        to = h.to;
+        ran = c.put_bill.ensures.ran;
+        billed = c.put_bill.ensures.billed;
+        done = c.put_done.ensures.thread;
+        picked = c.put_pick.ensures.picked;
+        starved = c.put_pick.ensures.starved;
+        flagged = c.put_pick.ensures.flagged;
+      };
     }

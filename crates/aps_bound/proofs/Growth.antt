@@ -1,0 +1,67 @@
+-- The audit as it grows by windows is that over all windows.
+use Rattle.std.proofs.Common.{◌≡◌, ℕ, ◌+◌, ◌-◌, ◌≤◌, List, [], ◌∷◌, length, max, refl, ◌∙◌, ap, Option, None, arith}
+use Rattle.std.specs.List.{fold, range_with_len}
+use Rattle.aps_model.specs.declared.audit.Audit.{Audit}
+use Rattle.aps_model.specs.declared.audit.Worst.{Worst}
+use Rattle.aps_model.specs.declared.command.Change.{Change}
+use Rattle.aps_model.specs.declared.entry.Entry.{Entry}
+use Rattle.aps_model.specs.declared.shape.Shape.{Shape}
+use Rattle.aps_model.specs.Audit.{audit_of, critical_over_from, over_from, short_from}
+use Rattle.aps_model.specs.History.{History}
+use Rattle.aps_model.specs.Loaded.{finished_ticks, loaded_tick, loaded_windows}
+use Rattle.aps_bound.specs.Worst.{with_partition, with_partitions, with_window, worst_with}
+use Rattle.aps_bound.proofs.Folds.{fold-more}
+
+-- one partition more
+pub partitions-more : (h : History) (audit : Audit) (a n : ℕ) → with_partitions h audit a (n + 1) ≡ with_partition h (with_partitions h audit a n) a n
+partitions-more h audit a n =
+    let over = fold-more (worst_with (over_from h) a) audit.worst_over 0 n n (omega arith) in
+    let short = fold-more (worst_with (short_from h) a) audit.worst_short 0 n n (omega arith) in
+    let critical = fold-more (worst_with (critical_over_from h) a) audit.critical_worst 0 n n (omega arith) in
+    ap (λ (o : Option Worst). record audit { worst_over = o; worst_short = fold (worst_with (short_from h) a) audit.worst_short (range_with_len 0 (n + 1)); critical_worst = fold (worst_with (critical_over_from h) a) audit.critical_worst (range_with_len 0 (n + 1)) }) over
+    ∙ ap (λ (o : Option Worst). record audit { worst_over = worst_with (over_from h) a (fold (worst_with (over_from h) a) audit.worst_over (range_with_len 0 n)) n; worst_short = o; critical_worst = fold (worst_with (critical_over_from h) a) audit.critical_worst (range_with_len 0 (n + 1)) }) short
+    ∙ ap (λ (o : Option Worst). record audit { worst_over = worst_with (over_from h) a (fold (worst_with (over_from h) a) audit.worst_over (range_with_len 0 n)) n; worst_short = worst_with (short_from h) a (fold (worst_with (short_from h) a) audit.worst_short (range_with_len 0 n)) n; critical_worst = o }) critical
+
+-- over these windows, as three separate scans
+windows_apart : (h : History) (audit : Audit) (windows : List ℕ) → fold (with_window h) audit windows ≡ record audit {
+  worst_over = fold (λ found a. fold (worst_with (over_from h) a) found (range_with_len 0 (length h.rows))) audit.worst_over windows;
+  worst_short = fold (λ found a. fold (worst_with (short_from h) a) found (range_with_len 0 (length h.rows))) audit.worst_short windows;
+  critical_worst = fold (λ found a. fold (worst_with (critical_over_from h) a) found (range_with_len 0 (length h.rows))) audit.critical_worst windows;
+}
+windows_apart h audit [] = refl
+windows_apart h audit (a ∷ windows) = windows_apart h (with_window h audit a) windows
+
+pub windows-more : (h : History) (audit : Audit) (s a : ℕ) → s ≤ a → fold (with_window h) audit (range_with_len s (a + 1 - s)) ≡ with_window h (fold (with_window h) audit (range_with_len s (a - s))) a
+windows-more h audit s a from =
+    ap (λ n. fold (with_window h) audit (range_with_len s n)) (one_more from) ∙ fold-more (with_window h) audit s (a - s) a (omega arith)
+  where
+    one_more : s ≤ a → a + 1 - s ≡ a - s + 1
+    one_more from = omega arith
+
+-- over all loaded windows
+pub all_windows : (h : History) (s n : ℕ) → s ≡ loaded_tick h.shape h.entries h.changes → n ≡ finished_ticks h.shape h.entries + 1 - (s + h.shape.window)
+    → fold (with_window h) (record { loaded_from = s; worst_over = None; worst_short = None; critical_worst = None }) (range_with_len s n) ≡ audit_of h
+all_windows h s n loaded count =
+    let start : ℕ → Audit = λ k. record { loaded_from = k; worst_over = None; worst_short = None; critical_worst = None } in
+    let last : ℕ = finished_ticks h.shape h.entries in
+    ap (λ k. fold (with_window h) (start s) (range_with_len s k)) count
+    ∙ ap (λ k. fold (with_window h) (start k) (range_with_len k (last + 1 - (k + h.shape.window)))) loaded
+    ∙ windows_apart h (start (loaded_tick h.shape h.entries h.changes)) (loaded_windows h.shape h.entries h.changes)
+
+-- over the numbers of the scan
+pub audit_is : (h : History) (shape : Shape) (entries : List Entry) (changes : List Change) (count s end a : ℕ) (audit : Audit) → shape ≡ h.shape → entries ≡ h.entries → changes ≡ h.changes
+    → count ≡ finished_ticks shape entries → s ≡ loaded_tick shape entries changes → end ≡ count + 1 - shape.window
+    → s ≤ a → end ≤ a → a ≤ max s end
+    → audit ≡ fold (with_window h) (record { loaded_from = s; worst_over = None; worst_short = None; critical_worst = None }) (range_with_len s (a - s))
+    → audit ≡ audit_of h
+audit_is h shape entries changes count s end a audit e1 e2 e3 finished loaded last from to within is =
+    is ∙ all_windows h s (a - s) loaded' (omega (arith, finished', width', last, from, to, within))
+  where
+    loaded' : s ≡ loaded_tick h.shape h.entries h.changes
+    loaded' = loaded ∙ ap (λ (x : Shape). loaded_tick x entries changes) e1 ∙ ap (λ (x : List Entry). loaded_tick h.shape x changes) e2 ∙ ap (loaded_tick h.shape h.entries) e3
+
+    finished' : count ≡ finished_ticks h.shape h.entries
+    finished' = finished ∙ ap (λ (x : Shape). finished_ticks x entries) e1 ∙ ap (finished_ticks h.shape) e2
+
+    width' : shape.window ≡ h.shape.window
+    width' = ap (λ (x : Shape). x.window) e1

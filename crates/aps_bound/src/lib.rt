@@ -1,0 +1,14 @@
+//! The audit of a history: by how much its loaded windows exceed their budgets, fall short of them, and exceed their
+//! critical budgets. A loaded window is one of whole, finished ticks since the last change and the last pick with a
+//! starved partition.
+#![tactic(auto)]
+
+mod finished;
+mod loaded;
+mod recount;
+#[cfg(test)]
+mod tests;
+mod usage;
+mod worst;
+
+pub use recount::audit;

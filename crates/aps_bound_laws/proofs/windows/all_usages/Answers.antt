@@ -1,0 +1,5 @@
+use Rattle.aps_bound_laws.proofs.Budget.{usages}
+use Rattle.aps_bound_laws.proofs.windows.all_usages.Goals as goal
+
+pub returns : goal.returns
+returns c = usages

@@ -1,0 +1,27 @@
+//! What the loaded windows of a legal history keep, and with them the numbers of its audit.
+ghost use Rattle.std.specs.Prelude.{ℕ, ◌≤◌, ◌*◌, ◌/◌, List, IfSome};
+ghost use Rattle.aps_model.specs.declared.entry.Entry.{Entry};
+ghost use Rattle.aps_model.specs.declared.entry.Order.{Order};
+ghost use Rattle.aps_model.specs.declared.audit.Worst.{Worst};
+ghost use Rattle.aps_model.specs.Scenario.{Scenario};
+ghost use Rattle.aps_model.specs.Valid.{IsScenario};
+ghost use Rattle.aps_model.specs.Legal.{IsLegal};
+ghost use Rattle.aps_model.specs.History.{Rooms};
+ghost use Rattle.aps_model.specs.Recorded.{recorded};
+ghost use Rattle.aps_model.specs.Audit.{audit_of};
+ghost use Rattle.aps_bound_laws.specs.Loaded.{IsLoaded, IsSettled, IsUncritical, KeepsLast};
+
+/// Where no change stands at the first unfinished tick or later, each loaded window keeps both bounds by the rows and the window that stand last.
+pub fn loaded_windows_keep_bounds()
+    ensures { (scenario : Scenario) (order : Order) (h : List Entry) (limit : ℕ) (rooms : Rooms) → IsScenario scenario → IsLegal scenario order h → IsSettled (recorded scenario limit rooms h) → (a : ℕ) → IsLoaded (recorded scenario limit rooms h) a → KeepsLast (recorded scenario limit rooms h) a }
+{}
+
+/// The greatest excess over a critical budget is then at most one tick for each processor.
+pub fn critical_worst_is_small()
+    ensures { (scenario : Scenario) (order : Order) (h : List Entry) (limit : ℕ) (rooms : Rooms) → IsScenario scenario → IsLegal scenario order h → IsSettled (recorded scenario limit rooms h) → IfSome (audit_of (recorded scenario limit rooms h)).critical_worst (λ (w : Worst). w.amount ≤ (recorded scenario limit rooms h).shape.cpus * (recorded scenario limit rooms h).shape.tick) }
+{}
+
+/// So is the greatest excess over a budget, where no critical time was spent in a loaded window.
+pub fn worst_over_is_small()
+    ensures { (scenario : Scenario) (order : Order) (h : List Entry) (limit : ℕ) (rooms : Rooms) → IsScenario scenario → IsLegal scenario order h → IsSettled (recorded scenario limit rooms h) → IsUncritical (recorded scenario limit rooms h) → IfSome (audit_of (recorded scenario limit rooms h)).worst_over (λ (w : Worst). w.amount ≤ (recorded scenario limit rooms h).shape.cpus * (recorded scenario limit rooms h).shape.tick) }
+{}

@@ -1,0 +1,18 @@
+use Rattle.std.proofs.Common.{◌≤◌, arith, take}
+use Rattle.std.proofs.Math.ListN.{length-set}
+use Rattle.std.proofs.lemmas.List.Elements.{All-set}
+use Rattle.aps_model.specs.History.{IsEntry}
+use Rattle.aps_report.proofs.Taken.{taken}
+use Rattle.aps_report.proofs.Ends.{ends_more}
+use Rattle.aps_report.proofs.finished.last_ends.Goals as goal
+
+pub loop-e-preserved : goal.loop-e-preserved
+loop-e-preserved c =
+    let this : IsEntry c.e-item.result = rw c.e-item.is (c.requires c.loop-e.e-index c.e-item.result c.loop-e-test.true) in
+    record {
+      places = rw length-set c.loop-e.invariant.places;
+      each =
+          rw (taken _ _ c.e-item.result c.loop-e-test.true c.e-item.is, c.index.ensures.same)
+          (ends_more c.loop-e.ends (take c.loop-e.e-index c.args.entries.now) c.e-item.result (omega arith) c.loop-e.invariant.each);
+      early = All-set (λ end. end ≤ 10000000000000) _ _ _ this.to c.loop-e.invariant.early;
+    }

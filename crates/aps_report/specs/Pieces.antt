@@ -1,0 +1,14 @@
+use Rattle.std.specs.Prelude.{◌≡◌, ℕ, ◌≤◌, List, ◌++◌, length, take, Option}
+use Rattle.std.specs.Io.KnownBytes.{Appends}
+
+-- the front of what waited was written, and the rest still waits
+pub record IsMoved (old new : Option (List ℕ)) (before after : List ℕ) : Type 0 where
+  pub front : List ℕ
+  pub written : Appends old new front
+  pub rest : before ≡ front ++ after
+
+-- so many bytes of the text were written
+pub record IsPrefixWritten (old new : Option (List ℕ)) (text : List ℕ) : Type 0 where
+  pub count : ℕ
+  pub within : count ≤ length text
+  pub written : Appends old new (take count text)

@@ -1,0 +1,38 @@
+//! How much of a run every processor has billed.
+ghost use Rattle.std.specs.Prelude.{◌≡◌, ℕ, ◌<◌, ◌≤◌, All, slice_index};
+ghost use Rattle.aps_model.specs.History.{IsEntry};
+ghost use Rattle.aps_model.specs.Shape.{IsShape};
+ghost use Rattle.aps_model.specs.Due.{last_end};
+ghost use Rattle.aps_model.specs.Loaded.{finished_ticks};
+
+use aps_model::{Entry, Nanos, Shape};
+
+const CPUS: usize = 16;
+
+/// The number of whole ticks that every processor has billed.
+pub fn finished_ticks(shape: &Shape, entries: &[Entry]) -> u64
+    requires shape { IsShape shape.now }
+    requires entries { All IsEntry entries.now }
+    ensures same { result ≡ finished_ticks shape.now entries.now }
+    ensures few { result ≤ 100000000 }
+{
+    let ends = last_ends(entries);
+    let mut least = ends[0];
+    for cpu in 0..usize::from(shape.cpus) {
+        least = least.min(ends[cpu]);
+    }
+    least / shape.tick
+}
+
+/// Where the last entry of each processor ended, or 0 where it has none.
+fn last_ends(entries: &[Entry]) -> [Nanos; CPUS]
+    requires { All IsEntry entries.now }
+    ensures same { (c : ℕ) → c < 16 → slice_index result c ≡ last_end entries.now c }
+    ensures early { All (λ end. end ≤ 10000000000000) result }
+{
+    let mut ends = [0; CPUS];
+    for e in entries {
+        ends[e.cpu.index()] = e.to;
+    }
+    ends
+}

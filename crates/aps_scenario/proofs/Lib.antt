@@ -1,0 +1,9 @@
+pub mod Tables
+pub mod Programs
+pub mod Elements
+pub mod Values
+pub mod Lists
+pub mod Trees
+pub mod ThreadRows
+pub mod Validity
+pub mod Documents

@@ -1,0 +1,10 @@
+pub mod Kind
+pub mod Path
+pub mod Key
+pub mod Row
+pub mod Elements
+pub mod Refusal
+pub mod Partitions
+pub mod Threads
+pub mod Reading
+pub mod PlainScenario

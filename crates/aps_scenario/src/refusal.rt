@@ -1,0 +1,74 @@
+ghost use Rattle.std.specs.Prelude.{◌≡◌};
+ghost use Rattle.aps_scenario.specs.declared.refusal.Failure.TheVariants as failure;
+
+use crate::key::Key;
+use crate::kind::Kind;
+use crate::path::PathText;
+use std::alloc::{AllocError, AllocFailed};
+use thiserror::Error;
+
+/// Why a text gives no scenario.
+#[derive(Clone, Copy, Debug, PartialEq, Eq, Error)]
+pub enum ScenarioRefusal {
+    #[error("scenario refused: {kind}")]
+    Refused { kind: Kind, path: PathText },
+    #[error("out of memory")]
+    NoMemory,
+}
+
+/// A table: the top one, or an element of an array by its index.
+#[derive(Clone, Copy, Debug, PartialEq, Eq)]
+pub enum Place {
+    Top,
+    Partition(usize),
+    Thread(usize),
+}
+
+/// The part of a text that is refused.
+#[derive(Clone, Copy, Debug, PartialEq, Eq)]
+pub enum Part {
+    /// A whole table.
+    Table(Place),
+    /// A key of the format, in a table.
+    At(Place, Key),
+    /// Another key of a table.
+    OtherKey(Place),
+}
+
+/// The first part of a text that breaks a rule of the format, and how.
+#[derive(Clone, Copy, Debug, PartialEq, Eq)]
+pub struct Finding {
+    pub kind: Kind,
+    pub part: Part,
+}
+
+/// Why reading stops.
+#[derive(Clone, Copy, Debug, PartialEq, Eq)]
+pub enum Failure {
+    Found(Finding),
+    NoMemory,
+}
+
+impl From<Finding> for Failure {
+    ghost from_gives = { λ finding e. e ≡ failure.Found finding };
+
+    fn from(finding: Finding) -> Failure {
+        Failure::Found(finding)
+    }
+}
+
+impl From<AllocError> for Failure {
+    ghost from_gives = { λ _ e. e ≡ failure.NoMemory };
+
+    fn from(_: AllocError) -> Failure {
+        Failure::NoMemory
+    }
+}
+
+impl<T: Drop> From<AllocFailed<T>> for Failure {
+    ghost from_gives = { λ _ e. e ≡ failure.NoMemory };
+
+    fn from(_: AllocFailed<T>) -> Failure {
+        Failure::NoMemory
+    }
+}

@@ -1,0 +1,32 @@
+-- A line.
+use Rattle.std.specs.Prelude.{ℕ, List, Ok}
+use Rattle.aps_model.specs.declared.entry.Entry.{Entry}
+use Rattle.aps_text.specs.Reader.{◌>>=◌, Reading, number_at}
+use Rattle.aps_text.specs.Fields.{option_at, mark_at}
+use Rattle.aps_text.specs.Operation.{done_at}
+
+-- an entry by its ten fields, from left to right
+unfoldable pub line_at : List ℕ → Reading Entry
+line_at bytes = do
+  cpu ← number_at 15 32 bytes
+  from ← number_at 10000000000000 32 cpu.1
+  to ← number_at 10000000000000 32 from.1
+  ran ← option_at 1023 32 to.1
+  billed ← option_at 31 32 ran.1
+  critical ← mark_at billed.1
+  done ← done_at critical.1
+  picked ← option_at 1023 32 done.1
+  starved ← option_at 31 32 picked.1
+  flagged ← option_at 15 10 starved.1
+  Ok (record {
+    from = from.0;
+    to = to.0;
+    done = done.0;
+    ran = ran.0;
+    picked = picked.0;
+    billed = billed.0;
+    starved = starved.0;
+    flagged = flagged.0;
+    cpu = cpu.0;
+    critical = critical.0;
+  }, flagged.1)

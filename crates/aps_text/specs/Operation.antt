@@ -1,0 +1,43 @@
+-- What an operation did, with the space behind it: byte after byte, as far as the words are alike.
+use lib.Chars.{codes}
+use Rattle.std.specs.Prelude.{ℕ, List, Ok}
+use Rattle.aps_model.specs.declared.entry.Done.{Done}
+use Rattle.aps_model.specs.declared.entry.Done.TheVariants.{Nothing, Run, Yield, SendBlocked, SendTo, ReceiveBlocked, ReceiveGot, ReceiveHolding, ReplyFreed, ReplyNoClient, Join, JoinNone, Priority, CriticalOn, CriticalOff, Repeat, Exit}
+use Rattle.aps_text.specs.Reader.{◌>>=◌, Reading, word_at, whole_word, after, nothing_at, number_at}
+
+-- the number of the thread that the operation names
+abbrev pub named_at : (ℕ → Done) → List ℕ → Reading Done
+named_at make bytes = number_at 1023 32 bytes >>= λ n. Ok (make n.0, n.1)
+
+-- behind 'c': on or off
+abbrev pub critical_at : List ℕ → Reading Done
+critical_at bytes = word_at (codes "ritical:o") bytes >>= after 110 (whole_word (codes " ") CriticalOn) (whole_word (codes "ff ") CriticalOff)
+
+-- behind 'j'
+abbrev pub join_at : List ℕ → Reading Done
+join_at bytes = word_at (codes "oin") bytes >>= after 58 (whole_word (codes "none ") JoinNone) (whole_word (codes " ") Join)
+
+-- behind 's': 'b' begins `blocked`
+abbrev pub send_at : List ℕ → Reading Done
+send_at bytes = word_at (codes "end:") bytes >>= after 98 (whole_word (codes "locked ") SendBlocked) (named_at SendTo)
+
+-- behind 'rec': 'b' begins `blocked`, 'h' `holding`
+abbrev pub receive_at : List ℕ → Reading Done
+receive_at bytes = word_at (codes "eive:") bytes >>= after 98 (whole_word (codes "locked ") ReceiveBlocked)
+    (after 104 (λ rest. word_at (codes "olding:") rest >>= named_at ReceiveHolding) (named_at ReceiveGot))
+
+-- behind 'rep': 'l' goes on to `reply`, where 'n' begins `none`
+abbrev pub repeat_at : List ℕ → Reading Done
+repeat_at = after 108 (λ rest. word_at (codes "y:") rest >>= after 110 (whole_word (codes "one ") ReplyNoClient) (named_at ReplyFreed))
+    (whole_word (codes "eat ") Repeat)
+
+-- behind 'r': 'u' goes on to `run`; behind 'e' stand 'c' of `receive`, and 'p'
+abbrev pub run_at : List ℕ → Reading Done
+run_at = after 117 (whole_word (codes "n ") Run)
+    (λ bytes. word_at (codes "e") bytes >>= after 99 receive_at (λ rest. word_at (codes "p") rest >>= repeat_at))
+
+-- by the first byte: '-', 'c', 'e', 'j', 'p', 'r', 's' or 'y'
+abbrev pub done_at : List ℕ → Reading Done
+done_at = after 45 (whole_word (codes " ") Nothing) (after 99 critical_at (after 101 (whole_word (codes "xit ") Exit)
+    (after 106 join_at (after 112 (whole_word (codes "riority ") Priority) (after 114 run_at (after 115 send_at
+    (after 121 (whole_word (codes "ield ") Yield) nothing_at)))))))

@@ -1,0 +1,78 @@
+ghost use Rattle.std.specs.Prelude.{◌≡◌, ◌≤◌, IfOk, IfErr, MatchResult, List, length};
+ghost use Rattle.aps_model.specs.declared.entry.Entry.{Entry as PlainEntry};
+ghost use Rattle.aps_model.specs.Journal.{IsJournal};
+ghost use Rattle.aps_text.specs.Reader.{Gives};
+ghost use Rattle.aps_text.specs.Line.{line_at};
+ghost use Rattle.aps_text.specs.Refusal.{Refuses};
+ghost use Rattle.aps_text.specs.declared.refusal.JournalRefusal.TheVariants.{NoMemory};
+
+use crate::fields::{LAST_THREAD, Reading, mark, number, number_or_none};
+use crate::operation::done;
+use crate::refusal::JournalRefusal;
+use aps_model::{CpuId, Entry, PartitionId, ThreadId};
+use std::alloc::Global;
+
+const LAST_CPU: u64 = 15;
+const LAST_PARTITION: u64 = 31;
+const LAST_MOMENT: u64 = 10_000_000_000_000;
+
+/// The entries whose journal the bytes are. The answer is `BadLine` exactly where they are no
+/// journal, unless memory runs out.
+pub fn read_journal(alloc: Global, bytes: &[u8]) -> Result<Vec<Entry>, JournalRefusal>
+    requires { length bytes.now ≤ 4000000000 }
+    ensures journal { IfOk result (λ entries. IsJournal entries.items bytes.now) }
+    ensures whole { (entries : List PlainEntry) → IsJournal entries bytes.now
+        → MatchResult result (λ read. read.items ≡ entries) (λ refusal. refusal ≡ NoMemory) }
+    ensures first_bad { IfErr result (Refuses bytes.now) }
+{
+    let mut entries = Vec::new(alloc);
+    let mut rest = bytes;
+    while !rest.is_empty() {
+        match line(rest) {
+            Ok((entry, after)) => {
+                entries.push(entry)?;
+                rest = after;
+            }
+            Err(bad) => {
+                return Err(JournalRefusal::BadLine {
+                    line: 1 + entries.len() as u32,
+                    column: 1 + (rest.len() - bad.len()) as u32,
+                });
+            }
+        }
+    }
+    Ok(entries)
+}
+
+// An entry by its line.
+#[tactic(auto, unfolding(crate::specs::Line::line_at))]
+fn line(bytes: &[u8]) -> Reading<Entry>
+    ensures { Gives (λ x. (x.0, x.1.now)) result (line_at bytes.now) }
+{
+    let (cpu, rest) = number(bytes, LAST_CPU, b' ')?;
+    let (from, rest) = number(rest, LAST_MOMENT, b' ')?;
+    let (to, rest) = number(rest, LAST_MOMENT, b' ')?;
+    let (ran, rest) = number_or_none(rest, LAST_THREAD, b' ')?;
+    let (billed, rest) = number_or_none(rest, LAST_PARTITION, b' ')?;
+    let (critical, rest) = mark(rest)?;
+    let (done, rest) = match done(rest) {
+        Ok(read) => read,
+        Err(rest) => return Err(rest),
+    };
+    let (picked, rest) = number_or_none(rest, LAST_THREAD, b' ')?;
+    let (starved, rest) = number_or_none(rest, LAST_PARTITION, b' ')?;
+    let (flagged, rest) = number_or_none(rest, LAST_CPU, b'\n')?;
+    let entry = Entry {
+        from,
+        to,
+        done,
+        ran: ran.map(|thread| ThreadId::at(thread as usize)),
+        picked: picked.map(|thread| ThreadId::at(thread as usize)),
+        billed: billed.map(|partition| PartitionId::at(partition as usize)),
+        starved: starved.map(|partition| PartitionId::at(partition as usize)),
+        flagged: flagged.map(|cpu| CpuId::at(cpu as usize)),
+        cpu: CpuId::at(cpu as usize),
+        critical,
+    };
+    Ok((entry, rest))
+}
