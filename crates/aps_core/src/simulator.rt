@@ -8,8 +8,10 @@ ghost use Rattle.aps_model.specs.History.{IsEntry};
 ghost use Rattle.aps_model.specs.Tiled.{IsTiled, IsBilledAsInherited};
 ghost use Rattle.aps_model.specs.Bound.{KeepsWindowBound, KeepsCriticalBound};
 ghost use Rattle.aps_laws.specs.Choices.{EachPickIsGreatest};
+ghost use Rattle.aps_laws.specs.Runs.{EndsNoSooner};
+ghost use Rattle.aps_core.specs.Core.{IsUnderWay};
 ghost use Rattle.aps_core.specs.Plain.{IsPlainScenario};
-ghost use Rattle.aps_core.specs.Run.{IsFirstEnd, IsLater, end_of_run, finished, history_of, most_changes, state_of};
+ghost use Rattle.aps_core.specs.Run.{IsLater, end_of_run, finished_run, history_of, most_changes, state_of};
 ghost use Rattle.aps_core.specs.Turn.{HasTurnIn, IsOwn, IsTaken, IsTurn, after_turn, with_entry};
 
 use crate::machine::Machine;
@@ -89,7 +91,7 @@ impl Core {
     pub fn history(&self) -> &History
         ensures same { result.now ≡ history_of self.now }
         ensures legal { IsLegal self.now.setup.scenario self.now.setup.order self.now.entries }
-        ensures first_end { IsFirstEnd self.now.setup.scenario self.now.setup.limit self.now.entries }
+        ensures no_sooner { EndsNoSooner self.now.setup.scenario self.now.setup.limit self.now.entries }
         ensures tiled { IsTiled self.now.setup.scenario.shape.tick self.now.entries }
         ensures billed { IsBilledAsInherited self.now.setup.scenario self.now.entries }
         ensures picks { EachPickIsGreatest self.now.setup.scenario self.now.entries }
@@ -104,7 +106,7 @@ impl Core {
     pub fn into_history(self) -> History
         ensures same { result ≡ history_of self }
         ensures legal { IsLegal self.setup.scenario self.setup.order self.entries }
-        ensures first_end { IsFirstEnd self.setup.scenario self.setup.limit self.entries }
+        ensures no_sooner { EndsNoSooner self.setup.scenario self.setup.limit self.entries }
         ensures tiled { IsTiled self.setup.scenario.shape.tick self.entries }
         ensures billed { IsBilledAsInherited self.setup.scenario self.entries }
         ensures picks { EachPickIsGreatest self.setup.scenario self.entries }
@@ -136,7 +138,7 @@ impl Core {
     /// Steps the lowest processor that has the turn until the run has ended.
     pub fn finish(&mut self) -> End
         ensures ended { end_of_run self.new ≡ Some result }
-        ensures run { self.new ≡ finished self.old }
+        ensures run { self.new ≡ finished_run self.old }
         ensures later { IsLater self.old self.new }
         ensures fixed { self.old.entries ≡ [] → self.new.entries ≡ fixed_run self.old.setup.scenario self.old.setup.limit }
     {
@@ -154,6 +156,7 @@ impl Core {
         ensures same { result ≡ first_due (state_of self.now) self.now.entries (state_of self.now).shape.cpus }
         ensures lowest { HasTurn Fixed (state_of self.now) self.now.entries result }
         ensures exists { result < self.now.setup.scenario.shape.cpus }
+        ensures keeps { IsUnderWay self.now }
     {
         self.machine.first_due(self.history.entries())
     }
