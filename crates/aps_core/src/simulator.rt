@@ -87,7 +87,8 @@ impl Core {
         self.history.end()
     }
 
-    /// The history so far, with its end where it has ended.
+    /// The history so far, with its end where it has ended. It is legal in the core's order, and no shorter prefix of
+    /// it has ended; what follows for its entries stands beside.
     pub fn history(&self) -> &History
         ensures same { result.now ≡ history_of self.now }
         ensures legal { IsLegal self.now.setup.scenario self.now.setup.order self.now.entries }
@@ -117,7 +118,9 @@ impl Core {
         self.history
     }
 
-    /// One step of the processor, if the run goes on and the processor has the turn.
+    /// One step of the processor. The answer is the end of the run where it has ended, the lowest processor that has
+    /// the turn where this one hasn't, and else the entry of the step, which the history then has as its last one.
+    /// But for that entry nothing changes.
     pub fn step(&mut self, cpu: CpuId) -> Turn
         requires { cpu < self.old.setup.scenario.shape.cpus }
         ensures turn { IsTurn self.old cpu result }
@@ -135,7 +138,8 @@ impl Core {
         Turn::Took(self.take_turn(cpu))
     }
 
-    /// Steps the lowest processor that has the turn until the run has ended.
+    /// Steps the lowest processor that has the turn until the run has ended, and answers that end. From no entries
+    /// this makes the run in fixed order, in a core of either order.
     pub fn finish(&mut self) -> End
         ensures ended { end_of_run self.new ≡ Some result }
         ensures run { self.new ≡ finished_run self.old }
@@ -190,6 +194,7 @@ impl Core {
             self.parts.as_mut_slice(),
             cpu,
         );
+        // the check wants a copy of its own of what is handed on and answered too
         let added = e;
         self.history.add_entry(added);
         let end = end_after(&self.machine, self.history.entries(), self.limit);
