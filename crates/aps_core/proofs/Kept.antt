@@ -25,7 +25,7 @@ use Rattle.aps_laws.proofs.WaitFacts.{test_eq, test_ne}
 use Rattle.aps_laws.specs.Runs.{EndsNoSooner}
 use Rattle.aps_core.specs.Core.{IsCore, IsSetup, IsUnderWay}
 use Rattle.aps_core.specs.Plain.{IsKept}
-use Rattle.aps_core.specs.Run.{Run, Setup, end_of_run, history_of, rooms_of, state_of}
+use Rattle.aps_core.specs.Run.{Run, Setup, end_of_run, history_of, rooms_of, state_of, with_last}
 use Rattle.aps_core.specs.Turn.{HasTurnIn, with_entry}
 use Rattle.aps_core.proofs.Turns.{AreStampsSmall, IsDueNow, due_now, stamps_small}
 
@@ -132,19 +132,6 @@ no_sooner_more run e first goes_on before later x same =
 
 pub length_more : (h : List Entry) (e : Entry) → length (h ++ e ∷ []) ≡ length h + 1
 length_more h e = length-append h (e ∷ [])
-
--- the history with one entry more, and with the end that it has where the entry leaves this state
-abbrev pub with_last : History → ℕ → SchedulerState → Entry → History
-with_last kept limit state e = record kept {
-  entries = kept.entries ++ e ∷ [];
-  end = or_limit (over_by None (is_at_horizon state (kept.entries ++ e ∷ []))) limit (length (kept.entries ++ e ∷ []));
-}
-
--- by the calls that make it
-pub added_last : (kept added last : History) (limit : ℕ) (state : SchedulerState) (e : Entry) (es : List Entry) (end : Option End)
-    → added ≡ record kept { entries = kept.entries ++ e ∷ [] } → es ≡ added.entries
-    → end ≡ or_limit (over_by None (is_at_horizon state es)) limit (length es) → last ≡ record added { end = end } → last ≡ with_last kept limit state e
-added_last kept added last limit state e es end e1 e2 e3 e4 = rw (e4, e3, e2, e1) refl
 
 -- the entry of the step, the state that it leaves, and the history with both
 pub record IsMore (run : Run) (kept : History) (state : SchedulerState) (c : ℕ) (e : Entry) (kept' : History) (state' : SchedulerState) : Type 0 where

@@ -1,10 +1,10 @@
-use Rattle.std.specs.Prelude.{◌≡◌, ℕ, ◌+◌, ◌*◌, ◌++◌, List, ◌∷◌, length, nat_lt, Option}
+use Rattle.std.specs.Prelude.{◌≡◌, ℕ, ◌+◌, ◌*◌, ◌++◌, List, [], ◌∷◌, length, nat_lt, Option, None}
 use Rattle.std.specs.List.{count_by}
 use Rattle.aps_model.specs.declared.entry.End.{End}
 use Rattle.aps_model.specs.declared.entry.Entry.{Entry}
 use Rattle.aps_model.specs.declared.entry.Order.{Order}
 use Rattle.aps_model.specs.declared.partition.PartitionRow.{PartitionRow}
-use Rattle.aps_model.specs.After.{end_of, state_after}
+use Rattle.aps_model.specs.After.{end_of, is_at_horizon, or_limit, over_by, state_after}
 use Rattle.aps_model.specs.History.{History, Rooms}
 use Rattle.aps_model.specs.Recorded.{recorded}
 use Rattle.aps_model.specs.Scenario.{Scenario}
@@ -55,3 +55,10 @@ finished_run run = record run { entries = finished run.setup.scenario run.setup.
 -- the same run, further on
 abbrev pub IsLater : Run → Run → Type 0
 IsLater run later = (rest : List Entry) × (later ≡ record run { entries = run.entries ++ rest })
+
+-- the history with one entry more, which leaves this state, and with the end that comes by it
+abbrev pub with_last : History → ℕ → SchedulerState → Entry → History
+with_last kept limit state e = record kept {
+  entries = kept.entries ++ e ∷ [];
+  end = or_limit (over_by None (is_at_horizon state (kept.entries ++ e ∷ []))) limit (length (kept.entries ++ e ∷ []));
+}

@@ -11,7 +11,7 @@ ghost use Rattle.aps_laws.specs.Choices.{EachPickIsGreatest};
 ghost use Rattle.aps_laws.specs.Runs.{EndsNoSooner};
 ghost use Rattle.aps_core.specs.Core.{IsUnderWay};
 ghost use Rattle.aps_core.specs.Plain.{IsPlainScenario};
-ghost use Rattle.aps_core.specs.Run.{IsLater, end_of_run, finished_run, history_of, most_changes, state_of};
+ghost use Rattle.aps_core.specs.Run.{IsLater, end_of_run, finished_run, history_of, most_changes, state_of, with_last};
 ghost use Rattle.aps_core.specs.Turn.{HasTurnIn, IsOwn, IsTaken, IsTurn, after_turn, with_entry};
 
 use crate::machine::Machine;
@@ -196,10 +196,21 @@ impl Core {
         );
         // the check wants a copy of its own of what is handed on and answered too
         let added = e;
-        self.history.add_entry(added);
-        let end = end_after(&self.machine, self.history.entries(), self.limit);
-        keep_end(&mut self.history, end);
+        append(&mut self.history, added, &self.machine, self.limit);
         e
+    }
+}
+
+/// The history has one entry more, which left this machine, and the end of the run if that has come.
+fn append(history: &mut History, e: Entry, machine: &Machine, limit: u32)
+    requires room { length history.old.entries < history.old.room.entries }
+    requires entry { IsEntry e }
+    requires goes_on { history.old.end ≡ None }
+    ensures { history.new ≡ with_last history.old limit machine.now e }
+{
+    history.add_entry(e);
+    if let Some(end) = end_after(machine, history.entries(), limit) {
+        history.set_end(end);
     }
 }
 
@@ -214,16 +225,6 @@ fn end_after(machine: &Machine, entries: &[Entry], limit: u32) -> Option<End>
         Some(End::Limit)
     } else {
         None
-    }
-}
-
-/// The end, if there is one, is kept in a history that had none.
-fn keep_end(history: &mut History, end: Option<End>)
-    requires { history.old.end ≡ None }
-    ensures { history.new ≡ record history.old { end = end } }
-{
-    if let Some(end) = end {
-        history.set_end(end);
     }
 }
 
