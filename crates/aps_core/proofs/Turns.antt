@@ -1,5 +1,5 @@
 -- The step of a processor that has the turn.
-use Rattle.std.proofs.Common.{◌≡◌, ℕ, ◌-◌, ◌<◌, ◌≤◌, List, [], ◌∷◌, ◌++◌, length, refl, sym, ◌∙◌, ap, subst, None, All, Contains, arith}
+use Rattle.std.proofs.Common.{◌≡◌, ℕ, ◌<◌, ◌≤◌, List, [], ◌∷◌, ◌++◌, length, sym, ap, subst, None, All, arith}
 use Rattle.std.proofs.Math.Seq.{get_or-append_seam}
 use Rattle.std.proofs.lemmas.List.{get_or_default, length-append}
 use Rattle.aps_model.specs.declared.entry.Entry.{Entry}
@@ -14,7 +14,6 @@ use Rattle.aps_model.specs.SchedulerState.{SchedulerState, no_thread}
 use Rattle.aps_model.specs.Shape.{horizon}
 use Rattle.aps_model.specs.Step.{step}
 use Rattle.aps_model.specs.Valid.{IsScenario}
-use Rattle.aps_laws.specs.Moments.{moment}
 use Rattle.aps_laws.specs.Runs.{GoesOn}
 use Rattle.aps_laws.proofs.BoundaryLaws.{entries_fit}
 use Rattle.aps_laws.proofs.Counts.{counts_law}
@@ -23,7 +22,6 @@ use Rattle.aps_laws.proofs.SmallNumbers.{moments_small}
 use Rattle.aps_laws.proofs.Sound.{next_law, sound, sound_step_of}
 use Rattle.aps_laws.proofs.StampCounts.{few_stamps}
 use Rattle.aps_laws.proofs.ThreadFit.{fits_law}
-use Rattle.aps_core.specs.Rising.{IsRising}
 
 -- ---- what is small in each legal history
 

@@ -1,4 +1,4 @@
-use Rattle.std.proofs.Common.{◌≡◌, ◌+◌, ◌-◌, ◌*◌, ◌++◌, [], ◌∷◌, ◌∙◌, ap, drop, length, subst, take}
+use Rattle.std.proofs.Common.{◌+◌, ◌-◌, ◌*◌, ◌++◌, [], ◌∷◌, ◌∙◌, ap, subst, take}
 use Rattle.aps_model.specs.Budget.{all_parts}
 use Rattle.aps_core.proofs.Recent.{parts_recent, rest_whole}
 use Rattle.aps_core.proofs.Rising.{ArePast}

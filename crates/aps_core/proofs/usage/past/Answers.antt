@@ -1,4 +1,4 @@
-use Rattle.std.proofs.Common.{◌≡◌, ◌+◌, ◌-◌, ◌<◌, length, take, subst, arith}
+use Rattle.std.proofs.Common.{◌-◌, take, subst, arith}
 use Rattle.aps_core.proofs.Rising.{ArePast, past_before}
 use Rattle.aps_core.proofs.usage.past.Goals as goal
 

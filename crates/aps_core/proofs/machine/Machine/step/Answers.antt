@@ -1,4 +1,4 @@
-use Rattle.std.proofs.Common.{◌*◌, ◌-◌, sym, ◌∙◌, length, arith}
+use Rattle.std.proofs.Common.{sym, ◌∙◌}
 use Rattle.aps_core.proofs.PlainStep.{billed_by, step_at_end, step_below}
 use Rattle.aps_core.proofs.machine.Machine.step.Goals as goal
 
