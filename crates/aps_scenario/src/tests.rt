@@ -132,18 +132,26 @@ fn what_is_given_replaces_the_defaults(rt: HostRuntime) -> Result<(), Fail> {
     Ok(())
 }
 
-/// The printed word of a refusal, or nothing where the text is read.
-fn word(rt: &HostRuntime, text: &[u8]) -> &'static str {
-    match scenario_of(rt.alloc(), text) {
-        Ok(_) => "",
-        Err(ScenarioRefusal::NoMemory) => "no memory",
-        Err(ScenarioRefusal::Refused { kind, path }) => {
+/// The printed word of a refusal of a text as a whole.
+fn word_of(refusal: &ScenarioRefusal) -> &'static str {
+    match refusal {
+        ScenarioRefusal::NoMemory => "no memory",
+        ScenarioRefusal::Refused { kind, path } => {
             if path.text() == b"-".as_slice() {
                 kind.word()
             } else {
                 "another path"
             }
         }
+    }
+}
+
+/// The same, or nothing where the text is read.
+fn word(rt: &HostRuntime, text: &[u8]) -> &'static str {
+    let answer = scenario_of(rt.alloc(), text);
+    match &answer {
+        Ok(_) => "",
+        Err(refusal) => word_of(refusal),
     }
 }
 
