@@ -1,0 +1,29 @@
+use Rattle.std.proofs.Common.{sym, ap, ◌∙◌}
+use Rattle.apsim.specs.Outcome.{status_of, text_of}
+use Rattle.apsim.proofs.Said.{said_as}
+use Rattle.apsim.proofs.outcome.Outcome.say.Goals as goal
+
+pub returns-in-WordsRefused : goal.returns-in-WordsRefused
+returns-in-WordsRefused g c =
+    let is = c.in-WordsRefused.is in
+    said_as _ _ _ _ _ _ (sym (ap text_of is)) (sym (ap status_of is)) c.print.ensures.prints
+
+pub returns-in-ReadFault : goal.returns-in-ReadFault
+returns-in-ReadFault g c =
+    let is = c.in-ReadFault.is in
+    said_as _ _ _ _ _ _ (sym (ap text_of is)) (sym (ap status_of is)) c.print-in-ReadFault.ensures.prints
+
+pub returns-in-TooLong : goal.returns-in-TooLong
+returns-in-TooLong g c =
+    let is = c.in-TooLong.is in
+    said_as _ _ _ _ _ _ (sym (ap text_of is)) (sym (ap status_of is)) c.print-in-TooLong.ensures.prints
+
+pub returns-in-Ok : goal.returns-in-Ok
+returns-in-Ok g c =
+    let is = c.in-ScenarioRefused.is in
+    said_as _ _ _ _ _ _ (c.deref.ensures.value ∙ c.in-Ok.ensures ∙ sym (ap text_of is)) (sym (ap status_of is)) c.print-in-Ok.ensures.prints
+
+pub returns-in-Ok-usage : goal.returns-in-Ok-usage
+returns-in-Ok-usage g c =
+    let is = c.in-Ran.is in
+    said_as _ _ _ _ _ _ (c.as_bytes.ensures.value ∙ c.in-Ok-usage.ensures ∙ sym (ap text_of is)) (c.of_end.ensures ∙ sym (ap status_of is)) c.print-in-Ok-usage.ensures.prints

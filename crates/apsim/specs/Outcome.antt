@@ -1,0 +1,47 @@
+-- What the program comes to, and what it says of it.
+use Rattle.std.specs.Prelude.{ℕ, List, [], ◌++◌, codes, Option, Some, None}
+use Rattle.aps_model.specs.History.{History}
+use Rattle.aps_model.specs.Report.{usage_text}
+use Rattle.aps_scenario.specs.Kind.{kind_word}
+use Rattle.aps_scenario.specs.declared.kind.Kind.{Kind}
+use Rattle.aps_scenario.specs.declared.refusal.ScenarioRefusal.{ScenarioRefusal}
+use Rattle.aps_scenario.specs.declared.refusal.ScenarioRefusal.TheVariants as refusal
+use Rattle.apsim.specs.declared.status.Status.{Status}
+use Rattle.apsim.specs.declared.status.Status.TheVariants as status
+use Rattle.apsim.specs.declared.outcome.Outcome.{Outcome}
+use Rattle.apsim.specs.declared.outcome.Outcome.TheVariants.{WordsRefused, ReadFault, TooLong, ScenarioRefused, Ran, NoMemory}
+use Rattle.apsim.specs.Status.{status_of_end}
+
+abbrev pub status_of : Outcome → Status
+status_of WordsRefused = status.WordsRefused
+status_of ReadFault = status.ReadFault
+status_of TooLong = status.TooLong
+status_of (ScenarioRefused kind path) = status.ScenarioRefused
+status_of (Ran end history) = status_of_end end
+status_of NoMemory = status.NoMemory
+
+abbrev pub refusal_text : Kind → List ℕ → List ℕ
+refusal_text kind path = codes "aps: scenario refused: " ++ kind_word kind ++ codes " " ++ path ++ codes "\n"
+
+-- what comes of a text that is no scenario
+abbrev pub of_refusal : ScenarioRefusal → Outcome
+of_refusal (refusal.Refused kind path) = ScenarioRefused kind path
+of_refusal refusal.NoMemory = NoMemory
+
+-- what is written
+abbrev pub text_of : Outcome → List ℕ
+text_of WordsRefused = codes "aps: words refused\n"
+text_of ReadFault = codes "aps: read fault\n"
+text_of TooLong = codes "aps: input too long\n"
+text_of (ScenarioRefused kind path) = refusal_text kind path
+text_of (Ran end history) = usage_text history
+text_of NoMemory = []
+
+-- the history that is handed back
+abbrev pub history_of : Outcome → Option History
+history_of WordsRefused = None
+history_of ReadFault = None
+history_of TooLong = None
+history_of (ScenarioRefused kind path) = None
+history_of (Ran end history) = Some history
+history_of NoMemory = None

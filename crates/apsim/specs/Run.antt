@@ -1,0 +1,30 @@
+-- The history of a run in fixed order.
+use Rattle.std.specs.Prelude.{◌≡◌, ℕ, Some}
+use Rattle.aps_model.specs.declared.entry.End.{End}
+use Rattle.aps_model.specs.declared.entry.Order.TheVariants.{Fixed}
+use Rattle.aps_model.specs.History.{History}
+use Rattle.aps_model.specs.Legal.{IsLegal, fixed_run}
+use Rattle.aps_model.specs.Recorded.{recorded}
+use Rattle.aps_model.specs.Tiled.{IsTiled, IsBilledAsInherited}
+use Rattle.aps_model.specs.Bound.{KeepsWindowBound, KeepsCriticalBound}
+use Rattle.aps_laws.specs.Choices.{EachPickIsGreatest}
+use Rattle.aps_core.specs.Run.{IsFirstEnd}
+
+-- the history of the run of its scenario in fixed order, which ended so, or else by this many entries
+pub record IsFixedRun (limit : ℕ) (end : End) (h : History) : Type 0 where
+  pub entries : h.entries ≡ fixed_run h.scenario limit
+  -- its replies, changes, rows, shape and end are those that its entries leave
+  pub kept : h ≡ recorded h.scenario limit h.room h.entries
+  pub ended : h.end ≡ Some end
+  pub no_sooner : IsFirstEnd h.scenario limit h.entries
+  -- each entry is the step of the processor that had the turn
+  pub legal : IsLegal h.scenario Fixed h.entries
+  -- each nanosecond of a processor lies in one entry, and is billed to the partition that its thread inherited
+  pub tiled : IsTiled h.scenario.shape.tick h.entries
+  pub billed : IsBilledAsInherited h.scenario h.entries
+  -- each pick is of the greatest candidate
+  pub picks : EachPickIsGreatest h.scenario h.entries
+  -- while each budgeted partition has candidates, a window's usage keeps to the budget, but for one tick of each
+  -- processor and critical time; and critical time to the critical budget, but for one tick of each processor
+  pub bound : KeepsWindowBound h.scenario h.entries
+  pub critical_bound : KeepsCriticalBound h.scenario h.entries

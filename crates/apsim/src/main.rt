@@ -1,0 +1,40 @@
+//! The program: it reads a scenario from standard input, runs it, and writes what came of it to standard output.
+#![tactic(auto)]
+
+mod command;
+mod outcome;
+mod printing;
+mod run;
+mod status;
+#[cfg(test)]
+mod tests;
+mod top;
+
+use aps_io::{StdSink, StdSource};
+use status::Status;
+use std::alloc::AllocError;
+use std::env;
+use std::io::ErrorKind;
+use std::process::ExitCode;
+use top::calm_top;
+
+/// The words after the program's name, or none where one of them isn't UTF-8: no command has such a word.
+fn words_of(rt: &HostRuntime) -> Result<Vec<String>, AllocError> {
+    match env::args(rt) {
+        Ok(args) => args.skip(1).collect(rt.alloc()),
+        Err(error) if error.kind() == ErrorKind::OutOfMemory => Err(AllocError),
+        Err(_) => Ok(Vec::new(rt.alloc())),
+    }
+}
+
+fn main(rt: HostRuntime) -> ExitCode {
+    let alloc = rt.alloc();
+    let Ok(words) = words_of(&rt) else {
+        return ExitCode::from(Status::NoMemory.code());
+    };
+    let mut source = StdSource::new(rt.stdin());
+    // standard output takes each piece at once, so that no fault comes after the last answer
+    let mut sink = StdSink::new(rt.stdout());
+    let ended = calm_top(alloc, &words, &mut source, &mut sink);
+    ExitCode::from(ended.status)
+}

@@ -1,0 +1,68 @@
+//! The whole program as one call: the words, the reading, the run and the printing.
+ghost use Rattle.std.specs.Prelude.{◌≡◌, ℕ, List, map, string_bytes};
+ghost use Rattle.std.specs.Io.KnownBytes.{Consumes};
+ghost use Rattle.apsim.specs.declared.outcome.Outcome.{Outcome};
+ghost use Rattle.apsim.specs.Cause.{HasCause};
+ghost use Rattle.apsim.specs.Answers.{Tells, Answers};
+
+use crate::outcome::Outcome;
+use aps_io::{Sink, Source};
+use aps_model::History;
+use std::alloc::Global;
+
+/// How a call ended: the exit status, and the history where there was a run.
+#[derive(Drop)]
+pub struct Ended {
+    pub status: u8,
+    pub history: Option<History>,
+}
+
+/// Does what the words ask for, on the calling thread: reads a scenario from the source, runs it in
+/// fixed order up to 1,000,000 entries, and writes the summary of its history to the sink. It waits
+/// for nobody.
+///
+/// What comes to nothing is said in the sink too, and each status has its one cause: see `Status`.
+/// A fault of the sink leaves a prefix of the text there, and so does want of memory.
+pub fn calm_top<S: Source, K: Sink>(
+    alloc: Global,
+    words: &[String],
+    source: &mut S,
+    sink: &mut K,
+) -> Ended
+    // The call came to an outcome that its words and its input are the cause of, and told that.
+    ensures outcome { (bytes : List ℕ) × (outcome : Outcome) × Consumes (S.left source.old) (S.left source.new) bytes
+        × HasCause (record {
+          words = map string_bytes words.now;
+          bytes = bytes;
+          left = S.left source.new;
+          faults_before = S.faults source.old;
+          faults = S.faults source.new;
+        }) outcome
+        × Tells outcome (record {
+          before = K.written sink.old;
+          after = K.written sink.new;
+          faults_before = K.faults sink.old;
+          faults = K.faults sink.new;
+        }) result }
+    // So each status comes in its case.
+    ensures statuses { (bytes : List ℕ) × Consumes (S.left source.old) (S.left source.new) bytes
+        × Answers (record {
+          words = map string_bytes words.now;
+          bytes = bytes;
+          left = S.left source.new;
+          faults_before = S.faults source.old;
+          faults = S.faults source.new;
+        }) (record {
+          before = K.written sink.old;
+          after = K.written sink.new;
+          faults_before = K.faults sink.old;
+          faults = K.faults sink.new;
+        }) result }
+{
+    let outcome = Outcome::of(alloc, words, source);
+    let status = outcome.say(alloc, sink);
+    Ended {
+        status: status.code(),
+        history: outcome.into_history(),
+    }
+}
