@@ -2,15 +2,11 @@
 use Rattle.std.proofs.Common.{◌≡◌, ℕ, zero, suc, replicate, slice_index, refl}
 use Rattle.std.specs.Prelude.{[]}
 use Rattle.aps_bound.specs.Usage.{IsUsage}
-use Rattle.aps_bound.specs.declared.usage.Usage.{Usage}
 
 pub zeros_at : (n p : ℕ) → slice_index (replicate n 0) p ≡ 0
 zeros_at zero p = refl
 zeros_at (suc n) zero = refl
 zeros_at (suc n) (suc p) = zeros_at n p
-
-pub no_usage : Usage
-no_usage = record { used = replicate 32 0; critical = replicate 32 0 }
 
 pub nothing_used : (tick a b : ℕ) → IsUsage tick a b [] (record { used = replicate 32 0; critical = replicate 32 0 })
 nothing_used tick a b = record { used = λ p inside. zeros_at 32 p; critical = λ p inside. zeros_at 32 p }

@@ -100,7 +100,7 @@ module _ (scenario : Scenario) (order : Order) (h : List Entry) (r : IsScenario 
       let funded : AreFunded t = rw (held.0, held.1) w.funded in
       let some : 0 < t.shape.window = rw held.1 w.some in
       elim (steady_pick scenario order before e r front funded some (calm before later e same inside)) [
-        | inl pickless ↦ absurd (keeps_none scenario before e (p, false) pickless.nobody keeps)
+        | inl no_pick ↦ absurd (keeps_none scenario before e (p, false) no_pick.none keeps)
         | inr pick ↦
             let is = same_kept pick.partition p pick.mark false (sym pick.keeps ∙ keeps) in
             let less = pick.ordinary is.1 in

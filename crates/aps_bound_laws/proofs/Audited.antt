@@ -1,7 +1,8 @@
 -- What the numbers of an audit inherit from the bound.
 use Rattle.std.proofs.Common.{◌≡◌, ℕ, zero, suc, ◌+◌, ◌-◌, ◌*◌, ◌/◌, ◌<◌, ◌≤◌, List, [], ◌∷◌, length, refl, sym, ◌∙◌, ap, subst, Bool, true, false, cond, ◌&&◌, ◌||◌, nat_eq, nat_le, nat_lt, Option, Some, None, min, arith, ◌⊎◌, inl, inr}
 use Rattle.std.specs.Prelude.{IfSome, unwrap_or}
-use Rattle.std.specs.List.{fold, list_any, range_with_len}
+use Rattle.std.specs.List.{Contains, fold, list_any, range_with_len}
+use Rattle.std.proofs.lemmas.List.FromFn.{get_or-range_with_len, length-range_with_len}
 use Rattle.std.proofs.lemmas.Bool.{cases_lt}
 use Rattle.std.proofs.lemmas.Bool.Decides.{nat_tests}
 use Rattle.std.proofs.Math.Nat.{mul-le-mul_left, mul-add, mul_comm, le-div_iff_mul-le}
@@ -96,6 +97,23 @@ none_from changes s c a b low steady settled =
 
 -- ---- the loaded windows
 
+in_range : (s n a : ℕ) → s ≤ a → a < s + n → Contains (range_with_len s n) a
+in_range s n a from below =
+    let inside : a - s < n = omega (arith, from, below) in
+    let there : s + (a - s) ≡ a = omega (arith, from) in
+    (a - s, rw (length-range_with_len s n) inside, get_or-range_with_len s n (a - s) a inside ∙ there)
+
+-- a window among these begins at the first tick or later, and is finished
+record IsBetween (s count w a : ℕ) : Type 0 where
+  from : s ≤ a
+  finished : a + w ≤ count
+
+range_between : (s count w a : ℕ) → Contains (range_with_len s (count + 1 - (s + w))) a → IsBetween s count w a
+range_between s count w a (k, inside, is) =
+    let below : k < count + 1 - (s + w) = rw (← length-range_with_len s (count + 1 - (s + w))) inside in
+    let at : s + k ≡ a = sym (get_or-range_with_len s (count + 1 - (s + w)) k a below) ∙ is in
+    record { from = omega (arith, at); finished = omega (arith, at, below) }
+
 finished_same : (x y : Shape) (h : List Entry) → IsSameSizes x y → finished_ticks y h ≡ finished_ticks x h
 finished_same x y h sizes =
     ap (λ n. fold (λ least c. min least (last_end h c)) (last_end h 0) (range_with_len 0 n) / y.tick) sizes.cpus
@@ -177,8 +195,9 @@ over_allowance parts limit spent slack k pos above small = elim (cases_lt spent 
 
 module _ (scenario : Scenario) (order : Order) (h : List Entry) (limit : ℕ) (rooms : Rooms) (r : IsScenario scenario) (legal : IsLegal scenario order h) (settled : IsSettled (recorded scenario limit rooms h)) where
   pub loaded_keeps : (a : ℕ) → IsLoaded (recorded scenario limit rooms h) a → KeepsLast (recorded scenario limit rooms h) a
-  loaded_keeps a m =
+  loaded_keeps a loaded_window =
       let last = state_after scenario h in
+      let m = range_between (loaded_tick last.shape h last.changes) (finished_ticks last.shape h) last.shape.window a loaded_window in
       let s = state_of_tick scenario h a in
       let sizes = (in_order scenario order h r legal).sizes in
       let count = finished_ticks last.shape h in
@@ -204,16 +223,12 @@ module _ (scenario : Scenario) (order : Order) (h : List Entry) (limit : ℕ) (r
 
   -- ---- the numbers
 
-  loaded_from : (a : ℕ) → a < loaded_tick (state_after scenario h).shape h (state_after scenario h).changes + (finished_ticks (state_after scenario h).shape h + 1 - (loaded_tick (state_after scenario h).shape h (state_after scenario h).changes + (state_after scenario h).shape.window))
-      → loaded_tick (state_after scenario h).shape h (state_after scenario h).changes ≤ a → IsLoaded (recorded scenario limit rooms h) a
-  loaded_from a below from = record { from = from; finished = omega (arith, below, from) }
-
   pub critical_small : IfSome (audit_of (recorded scenario limit rooms h)).critical_worst (λ (w : Worst). w.amount ≤ (recorded scenario limit rooms h).shape.cpus * (recorded scenario limit rooms h).shape.tick)
   critical_small =
       let last = state_after scenario h in
       worst_small (critical_over_from (recorded scenario limit rooms h)) (loaded_tick last.shape h last.changes) _ (length last.rows) (last.shape.cpus * last.shape.tick)
       (λ a p from below inside.
-      let m = (loaded_keeps a (loaded_from a below from)).critical p inside in
+      let m = (loaded_keeps a (in_range (loaded_tick last.shape h last.changes) _ a from below)).critical p inside in
       let above = m.above in
       omega (arith, above))
 
@@ -224,7 +239,7 @@ module _ (scenario : Scenario) (order : Order) (h : List Entry) (limit : ℕ) (r
       let x = last.shape in
       worst_small (over_from (recorded scenario limit rooms h)) (loaded_tick x h last.changes) _ (length last.rows) (x.cpus * x.tick)
       (λ a p from below inside.
-      let loaded = loaded_from a below from in
+      let loaded = in_range (loaded_tick x h last.changes) _ a from below in
       let m = (loaded_keeps a loaded).budget p inside in
       over_allowance x.parts ((row_or_none last.rows p).budget * whole x) (used x.tick h p a (a + x.window)) (slack x last.rows h a p) (x.cpus * x.tick)
       (parts_pos x (in_order scenario order h r legal).shape) m.above (slack_small x last.rows h a p (uncritical a p loaded inside)))

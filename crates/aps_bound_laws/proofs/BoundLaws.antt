@@ -18,7 +18,8 @@ use Rattle.aps_laws.proofs.RowLaws.{in_order}
 use Rattle.aps_laws.proofs.Sound.{tick_pos}
 use Rattle.aps_laws.proofs.Words.{prefix_legal}
 use Rattle.aps_bound_laws.specs.Lanes.{in_window}
-use Rattle.aps_bound_laws.specs.Picks.{IsFundedPick, IsPickless}
+use Rattle.aps_laws.specs.Choices.{MadeNoPick}
+use Rattle.aps_bound_laws.specs.Picks.{IsFundedPick}
 use Rattle.aps_bound_laws.proofs.Above.{IsCalm, IsWindowOf, above, critical_above, critical_none}
 use Rattle.aps_bound_laws.proofs.Below.{below}
 use Rattle.aps_bound_laws.proofs.Funded as funded
@@ -129,7 +130,7 @@ critical_bound scenario order h r legal a p finished none inside =
 -- ---- a steady pick, of the rows that stand at it
 
 pub steady_pick : (scenario : Scenario) (order : Order) (h : List Entry) (e : Entry) → IsScenario scenario → IsLegal scenario order (h ++ e ∷ []) → e.starved ≡ None
-    → IsPickless (state_after scenario h) e (after scenario (h ++ e ∷ [])).reboot ⊎ IsFundedPick scenario h e (state_after scenario (h ++ e ∷ []))
+    → MadeNoPick (state_after scenario h) e (after scenario (h ++ e ∷ [])).reboot ⊎ IsFundedPick scenario h e (state_after scenario (h ++ e ∷ []))
 steady_pick scenario order h e r legal calm =
     let o = in_order scenario order (h ++ e ∷ []) r legal in
     let long = o.shape.window_long in

@@ -34,7 +34,7 @@ use Rattle.aps_laws.proofs.Channels.{names_channels}
 use Rattle.aps_laws.proofs.Mid.{test_mid, back_mid}
 use Rattle.aps_laws.proofs.Picked.{flag_running, flag_shape, flag_rows, cpu_same}
 use Rattle.aps_laws.proofs.Sound.{after-append, legal_last, sound}
-use Rattle.aps_bound_laws.specs.Picks.{IsPickless}
+use Rattle.aps_laws.specs.Choices.{MadeNoPick}
 use Rattle.aps_laws.proofs.StepOf.{bill_at, bill_says, horizon_same, mid_count, step_by, tested_at}
 
 -- the partitions as they stand at the pick of the entry that ends this history
@@ -135,7 +135,7 @@ complete_in s r now o sizes (inr z) = inr z
 
 -- a step makes no pick, or it picks the greatest of the ready threads
 step_chooses : (scenario : Scenario) (s : SchedulerState) (h : List Entry) (c : ℕ) → NamesChannels scenario → IsPlain scenario s → IsKept s → c < length s.cpus
-    → IsPickless s (step scenario s h c).entry (step scenario s h c).reboot ⊎ IsChosen h (step scenario s h c).entry (step scenario s h c).state
+    → MadeNoPick s (step scenario s h c).entry (step scenario s h c).reboot ⊎ IsChosen h (step scenario s h c).entry (step scenario s h c).state
 step_chooses scenario s h c names plain k below =
     let now = due s h c in
     let running = (cpu_at s c).running in
@@ -143,9 +143,9 @@ step_chooses scenario s h c names plain k below =
     let says = bill_says c (last_end h c) now running in
     let b = test_mid scenario s h c now e running plain k refl in
     let back = back_mid scenario s (tested_at scenario s h c).state c now running names k refl b in
-    step_by scenario s h c (λ (out : Step). IsPickless s out.entry out.reboot ⊎ IsChosen h out.entry out.state)
+    step_by scenario s h c (λ (out : Step). MadeNoPick s out.entry out.reboot ⊎ IsChosen h out.entry out.state)
     (λ o why. inl (record {
-      nobody = none_picked c (last_end h c) now running;
+      none = none_picked c (last_end h c) now running;
       complete = subst (λ n. IsComplete s n o) (sym says.to) (complete_in s (tested_at scenario s h c).state now o b.mid.sizes why);
     }))
     (λ early.
@@ -162,11 +162,11 @@ step_chooses scenario s h c names plain k below =
     (flag_shape q now other ∙ chosen_shape r ps c best) (flag_rows q now other ∙ chosen_rows r ps c best) refl refl refl (kept_running r ps c now best other e0.cpu says.cpu)))
 
 pub chosen_law : (scenario : Scenario) (order : Order) (h : List Entry) (e : Entry) → IsScenario scenario → IsLegal scenario order (h ++ e ∷ [])
-    → IsPickless (state_after scenario h) e (after scenario (h ++ e ∷ [])).reboot ⊎ IsChosen h e (state_after scenario (h ++ e ∷ []))
+    → MadeNoPick (state_after scenario h) e (after scenario (h ++ e ∷ [])).reboot ⊎ IsChosen h e (state_after scenario (h ++ e ∷ []))
 chosen_law scenario order h e r legal =
     let last = legal_last scenario order h e legal in
     let m = sound scenario order r h last.0 in
     let s = state_after scenario h in
     let said = step_chooses scenario s h e.cpu (names_channels scenario r) m.grounded.plain m.grounded.kept (subst (λ n. e.cpu < n) (sym m.grounded.cpu_count) last.1.turn.exists) in
-    subst (λ (a : After). IsPickless s e a.reboot ⊎ IsChosen h e a.state) (sym (after-append scenario h e))
-    (subst (λ (x : Entry). IsPickless s x (step scenario s h e.cpu).reboot ⊎ IsChosen h x (step scenario s h e.cpu).state) (sym last.1.same) said)
+    subst (λ (a : After). MadeNoPick s e a.reboot ⊎ IsChosen h e a.state) (sym (after-append scenario h e))
+    (subst (λ (x : Entry). MadeNoPick s x (step scenario s h e.cpu).reboot ⊎ IsChosen h x (step scenario s h e.cpu).state) (sym last.1.same) said)

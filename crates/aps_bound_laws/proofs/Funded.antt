@@ -30,7 +30,8 @@ use Rattle.aps_laws.specs.Window.{Kept, kept_if, lanes_at_start, pair_kept, stil
 use Rattle.aps_laws.proofs.Sound.{sound, tick_pos}
 use Rattle.aps_laws.proofs.Windows.{walks}
 use Rattle.aps_bound_laws.specs.Lanes.{paid_of}
-use Rattle.aps_bound_laws.specs.Picks.{IsFundedPick, IsPickless, tick_of, wide_at}
+use Rattle.aps_laws.specs.Choices.{MadeNoPick}
+use Rattle.aps_bound_laws.specs.Picks.{IsFundedPick, tick_of, wide_at}
 use Rattle.aps_bound_laws.specs.Sums.{sum_below}
 use Rattle.aps_bound_laws.proofs.Budget as budget
 use Rattle.aps_bound_laws.proofs.Late.{lanes_late}
@@ -152,9 +153,9 @@ funded_pick scenario h e q calm chosen in' =
 
 pub steady_pick : (scenario : Scenario) (order : Order) (h : List Entry) (e : Entry) → IsScenario scenario → IsLegal scenario order (h ++ e ∷ [])
     → AreFunded (state_after scenario (h ++ e ∷ [])) → 0 < (state_after scenario (h ++ e ∷ [])).shape.window → e.starved ≡ None
-    → IsPickless (state_after scenario h) e (after scenario (h ++ e ∷ [])).reboot ⊎ IsFundedPick scenario h e (state_after scenario (h ++ e ∷ []))
+    → MadeNoPick (state_after scenario h) e (after scenario (h ++ e ∷ [])).reboot ⊎ IsFundedPick scenario h e (state_after scenario (h ++ e ∷ []))
 steady_pick scenario order h e r legal funded some calm = elim (chosen_law scenario order h e r legal) [
-  | inl pickless ↦ inl pickless
+  | inl no_pick ↦ inl no_pick
   | inr chosen ↦
       let found = some_in_budget scenario order h e r legal funded some in
       inr (funded_pick scenario h e found.0 calm chosen found.1)
@@ -175,7 +176,7 @@ pub critical_pick : (scenario : Scenario) (order : Order) (h : List Entry) (e : 
     → (wide_at scenario h e).keeps ≡ Some (p, true)
     → window_critical (state_after scenario (h ++ e ∷ [])).shape (h ++ e ∷ []) (tick_of (state_after scenario (h ++ e ∷ [])) e) p < (row_or_none (state_after scenario (h ++ e ∷ [])).rows p).critical
 critical_pick scenario order h e p r legal keeps = elim (chosen_law scenario order h e r legal) [
-  | inl pickless ↦ absurd (nobody e.picked (pair_kept (cpu_at t e.cpu).running) pickless.nobody keeps)
+  | inl no_pick ↦ absurd (nobody e.picked (pair_kept (cpu_at t e.cpu).running) no_pick.none keeps)
   | inr chosen ↦ by_best (greatest t.shape.free ps chosen.ready) (sym chosen.keeps ∙ keeps)
 ]
   where

@@ -105,7 +105,7 @@ module _ (scenario : Scenario) (order : Order) (h : List Entry) (r : IsScenario 
           let funded : AreFunded t = rw (held.0, held.1) w.funded in
           let some : 0 < t.shape.window = rw held.1 w.some in
           elim (steady_pick scenario order g e r front funded some (calm g later e same inside)) [
-            | inl pickless ↦ elim pickless.complete [
+            | inl no_pick ↦ elim no_pick.complete [
               | inl at_end ↦ absurd (early (at_end ∙ horizon_same scenario.shape (state_after scenario g).shape (sound scenario order r g last.0).grounded.sizes ∙ sym (horizon_same scenario.shape s.shape w.sizes)))
               | inr reboot ↦ absurd (reboot unrebooted)
             ]

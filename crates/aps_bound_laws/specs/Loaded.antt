@@ -1,16 +1,15 @@
 -- The loaded windows of a history, and what the laws of its audit rest on.
-use Rattle.std.specs.Prelude.{◌≡◌, ℕ, ◌+◌, ◌<◌, ◌≤◌, length, nat_le, IsFalse}
-use Rattle.std.specs.List.{list_any}
+use Rattle.std.specs.Prelude.{◌≡◌, ℕ, ◌+◌, ◌<◌, length, nat_le, IsFalse}
+use Rattle.std.specs.List.{Contains, list_any}
 use Rattle.aps_model.specs.declared.command.Change.{Change}
 use Rattle.aps_model.specs.Bound.{IsWithinBudget, IsWithinCritical}
 use Rattle.aps_model.specs.History.{History}
-use Rattle.aps_model.specs.Loaded.{finished_ticks, loaded_tick}
+use Rattle.aps_model.specs.Loaded.{finished_ticks, loaded_windows}
 use Rattle.aps_model.specs.Usage.{critical_used}
 
 -- the window from tick a on is loaded
-pub record IsLoaded (h : History) (a : ℕ) : Type 0 where
-  pub from : loaded_tick h.shape h.entries h.changes ≤ a
-  pub finished : a + h.shape.window ≤ finished_ticks h.shape h.entries
+abbrev pub IsLoaded : History → ℕ → Type 0
+IsLoaded h a = Contains (loaded_windows h.shape h.entries h.changes) a
 
 -- no change stands at the tick that isn't finished, or later
 abbrev pub IsSettled : History → Type 0

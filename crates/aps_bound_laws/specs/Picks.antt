@@ -1,5 +1,5 @@
 -- What a pick tells of the budgets of its partition.
-use Rattle.std.specs.Prelude.{◌≡◌, ℕ, ◌*◌, ◌/◌, ◌<◌, ◌++◌, Bool, false, List, [], ◌∷◌, length, Option, Some, None}
+use Rattle.std.specs.Prelude.{◌≡◌, ℕ, ◌*◌, ◌/◌, ◌<◌, ◌++◌, Bool, false, List, [], ◌∷◌, length, Some}
 use Rattle.aps_model.specs.declared.entry.Entry.{Entry}
 use Rattle.aps_model.specs.After.{state_after}
 use Rattle.aps_model.specs.Partition.{row_or_none}
@@ -7,7 +7,6 @@ use Rattle.aps_model.specs.Scenario.{Scenario}
 use Rattle.aps_model.specs.SchedulerState.{SchedulerState}
 use Rattle.aps_model.specs.Shape.{whole}
 use Rattle.aps_model.specs.Usage.{window_used}
-use Rattle.aps_laws.specs.Untouched.{IsComplete}
 use Rattle.aps_laws.specs.Window.{Wide, wide_of}
 
 -- the entry after these, with what its pick fixed
@@ -17,11 +16,6 @@ wide_at scenario before e = wide_of e (state_after scenario (before ++ e ∷ [])
 -- the tick of the pick
 abbrev pub tick_of : SchedulerState → Entry → ℕ
 tick_of t e = e.to / t.shape.tick
-
--- the entry made no pick, since it stood at the horizon or ended the run
-pub record IsPickless (s : SchedulerState) (e : Entry) (reboot : Option ℕ) : Type 0 where
-  pub nobody : e.picked ≡ None
-  pub complete : IsComplete s e.to reboot
 
 -- the pick keeps a partition that there is, and one that isn't critical is in budget
 pub record IsFundedPick (scenario : Scenario) (h : List Entry) (e : Entry) (t : SchedulerState) : Type 0 where

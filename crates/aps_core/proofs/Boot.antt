@@ -16,7 +16,7 @@ use Rattle.aps_model.specs.Partition.{IsFundedRow, IsRow}
 use Rattle.aps_model.specs.Scenario.{Scenario}
 use Rattle.aps_model.specs.SchedulerState.{SchedulerState, idle, no_channel}
 use Rattle.aps_model.specs.Valid.{IsScenario, IsThreadRow, joinable}
-use Rattle.aps_core.specs.Plain.{IsAwake, IsBounded, IsEndless, IsPlain, IsPlainPick, IsPlainScenario}
+use Rattle.aps_core.specs.Plain.{IsAwake, IsEndless, IsPlain, IsPlainPick, IsPlainScenario}
 
 -- a program that runs forever, of a thread that isn't critical
 abbrev IsPlainRow : ThreadRow → Type 0
@@ -54,13 +54,9 @@ threads_endless shape number next n channels names (row ∷ rows) e v =
       threads_endless shape (number + 1) (stamp_after (first_state row) next) n channels names rows e.1 v.1,
     )
 
-pub threads_length : (shape : Shape) (number next : ℕ) (rows : List ThreadRow) → length (start_threads shape number next rows) ≡ length rows
+threads_length : (shape : Shape) (number next : ℕ) (rows : List ThreadRow) → length (start_threads shape number next rows) ≡ length rows
 threads_length shape number next [] = refl
 threads_length shape number next (row ∷ rows) = ap suc (threads_length shape (number + 1) (stamp_after (first_state row) next) rows)
-
-threads_fresh : (shape : Shape) (number next : ℕ) (rows : List ThreadRow) → AllByRecursion (λ (t : ThreadNow). t.since ≤ 0) (start_threads shape number next rows)
-threads_fresh shape number next [] = tt
-threads_fresh shape number next (row ∷ rows) = (omega arith, threads_fresh shape (number + 1) (stamp_after (first_state row) next) rows)
 
 -- ---- the other lists
 
@@ -103,12 +99,6 @@ plain_opening scenario valid plain =
 
 stamps_opening : (scenario : Scenario) → IsPlainScenario scenario → start_stamps 0 scenario.threads ≡ length scenario.threads
 stamps_opening scenario plain = stamps_endless 0 scenario.threads (plain_rows scenario plain) ∙ omega arith
-
-pub bounded_opening : (scenario : Scenario) → IsScenario scenario → IsPlainScenario scenario → IsBounded (opening scenario) 0
-bounded_opening scenario valid plain = record {
-  stamps = omega (arith, stamps_opening scenario plain, valid.few_threads);
-  since = All-from_recursion _ _ (threads_fresh scenario.shape 0 0 scenario.threads);
-}
 
 -- what the code makes of the parts of a scenario
 pub opening_by_parts : (scenario : Scenario) (rows : List PartitionRow) (shape : Shape) (threads : List ThreadNow) (stamps channels : ℕ) (cpus : List CpuNow)

@@ -1,6 +1,6 @@
 -- The scenarios of the tests are valid and plain.
 use lib.Chars.{codes}
-use Rattle.std.proofs.Common.{◌≡◌, ◌≢◌, ℕ, zero, suc, ◌+◌, ◌*◌, ◌/◌, ◌%◌, ◌<◌, ◌≤◌, List, [], ◌∷◌, length, map, refl, sym, ◌∙◌, ap, subst, All, Bool, true, false, cond, ◌&&◌, IsTrue, nat_eq, nat_lt, nat_le, arith, inl, take, get_or, add-one}
+use Rattle.std.proofs.Common.{◌≡◌, ◌≢◌, ℕ, zero, suc, ◌+◌, ◌/◌, ◌%◌, ◌<◌, ◌≤◌, List, [], ◌∷◌, length, map, refl, sym, ◌∙◌, ap, subst, All, Bool, true, false, cond, ◌&&◌, IsTrue, nat_eq, nat_lt, nat_le, arith, inl, take, get_or, add-one}
 use Rattle.std.specs.List.{AllByRecursion, IsDistinct, list_all, range_with_len, sum, sum_by}
 use Rattle.std.specs.Str.{bytes_eq}
 use Rattle.std.proofs.lemmas.Bool.Decides.{nat_tests}
@@ -15,8 +15,7 @@ use Rattle.aps_model.specs.declared.scenario.ThreadRow.{ThreadRow}
 use Rattle.aps_model.specs.declared.shape.Shape.{Shape}
 use Rattle.aps_model.specs.Name.{IsName, is_name_byte}
 use Rattle.aps_model.specs.Partition.{IsFundedRow, no_row, row_or_none}
-use Rattle.aps_model.specs.Program.{IsOp, IsProgram}
-use Rattle.aps_model.specs.Scenario.{Scenario}
+use Rattle.aps_model.specs.Program.{IsOp}
 use Rattle.aps_model.specs.Shape.{IsShape}
 use Rattle.aps_model.specs.Valid.{IsCommand, IsScenario, IsThreadRow, IsTree, is_within, joinable, subtree_budget}
 use Rattle.aps_core.specs.Given.{Endless, is_endless, is_given, is_shape, letters, row_of, rows_from, scenario_of, thread_of, threads_from}

@@ -8,9 +8,9 @@ use Rattle.aps_model.specs.declared.entry.End.TheVariants.{Limit}
 use Rattle.aps_model.specs.declared.entry.Entry.{Entry}
 use Rattle.aps_model.specs.declared.entry.Order.{Order}
 use Rattle.aps_model.specs.declared.merit.PartFacts.{PartFacts}
-use Rattle.aps_model.specs.After.{After, after, at_start, end_of, is_at_horizon, left_by, or_limit, over, over_by, stands_at}
+use Rattle.aps_model.specs.After.{After, after, at_start, end_of, left_by, or_limit, over, over_by, stands_at}
 use Rattle.aps_model.specs.declared.entry.Order.TheVariants.{Fixed, Free}
-use Rattle.aps_model.specs.Due.{HasTurn, due, first_due, last_end, last_to}
+use Rattle.aps_model.specs.Due.{HasTurn, due, first_due, last_to}
 use Rattle.aps_model.specs.History.{History, IsEntry}
 use Rattle.aps_model.specs.Opening.{opening}
 use Rattle.aps_model.specs.Recorded.{recorded_from}
@@ -19,13 +19,15 @@ use Rattle.aps_model.specs.SchedulerState.{SchedulerState}
 use Rattle.aps_model.specs.Shape.{horizon}
 use Rattle.aps_model.specs.Step.{Step, step}
 use Rattle.aps_model.proofs.AfterLaws.{IsLegal-append, after-append, after_none, legal_none}
+use Rattle.aps_laws.proofs.Counts.{counts_law}
+use Rattle.aps_laws.proofs.Turns.{any_turn, one_turn}
 use Rattle.aps_laws.proofs.WaitFacts.{test_eq, test_ne}
-use Rattle.aps_core.specs.Core.{IsCore, IsRun, IsSetup}
-use Rattle.aps_core.specs.Plain.{IsBounded, IsKept}
-use Rattle.aps_core.specs.Run.{IsFirstEnd, Run, Setup, end_of_run, history_of, rooms_of, state_of}
+use Rattle.aps_laws.specs.Runs.{EndsNoSooner}
+use Rattle.aps_core.specs.Core.{IsCore, IsSetup, IsUnderWay}
+use Rattle.aps_core.specs.Plain.{IsKept}
+use Rattle.aps_core.specs.Run.{Run, Setup, end_of_run, history_of, rooms_of, state_of, with_last}
 use Rattle.aps_core.specs.Turn.{HasTurnIn, with_entry}
-use Rattle.aps_core.proofs.Boot.{threads_length}
-use Rattle.aps_core.proofs.Turns.{IsDueNow, cpu_count, cpus_same, due_now, first_has_turn}
+use Rattle.aps_core.proofs.Turns.{AreStampsSmall, IsDueNow, due_now, stamps_small}
 
 -- ---- the end
 
@@ -40,7 +42,7 @@ goes_on_over None limit count e = (refl, λ same. absurd (at_limit (sym (ap (λ 
 pub not_over : (run : Run) → end_of_run run ≡ None → over (after run.setup.scenario run.entries) run.entries ≡ None
 not_over run e = (goes_on_over (over (after run.setup.scenario run.entries) run.entries) run.setup.limit (length run.entries) e).0
 
-pub below_limit : (run : Run) → IsRun run → end_of_run run ≡ None → length run.entries < run.setup.limit
+pub below_limit : (run : Run) → IsUnderWay run → end_of_run run ≡ None → length run.entries < run.setup.limit
 below_limit run r e =
     let ne = (goes_on_over (over (after run.setup.scenario run.entries) run.entries) run.setup.limit (length run.entries) e).1 in
     omega (arith, r.fits, ne)
@@ -62,9 +64,9 @@ nothing_before (x ∷ before) later e same = cc
 
 pub begun_core : (setup : Setup) (kept : History) (state : SchedulerState) (parts : List PartFacts) → IsSetup setup
     → kept ≡ record { scenario = setup.scenario; entries = []; replies = []; changes = []; rows = setup.scenario.partitions; shape = setup.scenario.shape; end = None; room = rooms_of setup }
-    → state ≡ opening setup.scenario → IsBounded state 0 → length parts ≡ length setup.scenario.partitions
+    → state ≡ opening setup.scenario → length parts ≡ length setup.scenario.partitions
     → IsCore (record { setup = setup; entries = [] }) kept state parts
-begun_core setup kept state parts s kept_is state_is bounded one_each =
+begun_core setup kept state parts s kept_is state_is one_each =
     let run : Run = record { setup = setup; entries = [] } in
     let start = after_none setup.scenario in
     let ended : or_limit (over (at_start setup.scenario) []) setup.limit 0 ≡ None = starts setup s in
@@ -72,7 +74,7 @@ begun_core setup kept state parts s kept_is state_is bounded one_each =
       keeps = record {
         setup = s;
         legal = legal_none setup.scenario setup.order;
-        first_end = λ before later e same. absurd (nothing_before before later e same);
+        no_sooner = λ before later e same. absurd (nothing_before before later e same);
         fits = omega arith;
         calm = ap (λ (a : After). a.reboot) start;
       };
@@ -81,8 +83,6 @@ begun_core setup kept state parts s kept_is state_is bounded one_each =
           ∙ ap (λ (o : Option End). record { scenario = setup.scenario; entries = []; replies = []; changes = []; rows = setup.scenario.partitions; shape = setup.scenario.shape; end = o; room = rooms_of setup }) (sym ended)
           ∙ ap (recorded_from setup.scenario setup.limit (rooms_of setup) []) (sym start);
       machine = state_is ∙ sym (ap (λ (a : After). a.state) start);
-      bounded = bounded;
-      threads = ap (λ (t : SchedulerState). length t.threads) state_is ∙ threads_length setup.scenario.shape 0 0 setup.scenario.threads;
       one_each = one_each ∙ sym (ap (λ (t : SchedulerState). length t.rows) state_is);
     }
 
@@ -90,12 +90,12 @@ begun_core setup kept state parts s kept_is state_is bounded one_each =
 
 pub cpu_exists : (run : Run) (kept : History) (state : SchedulerState) (parts : List PartFacts) (c : ℕ) → IsCore run kept state parts → c < run.setup.scenario.shape.cpus → c < length state.cpus
 cpu_exists run kept state parts c core lt =
-    omega (arith, lt, ap (λ (t : SchedulerState). length t.cpus) core.machine, cpu_count run.setup.scenario run.setup.order run.entries core.keeps.setup.valid core.keeps.legal)
+    omega (arith, lt, ap (λ (t : SchedulerState). length t.cpus) core.machine, (counts_law run.setup.scenario run.setup.order run.entries core.keeps.setup.valid core.keeps.legal).cpus)
 
 pub due_in : (run : Run) (kept : History) (state : SchedulerState) (parts : List PartFacts) (c : ℕ) → IsCore run kept state parts → end_of_run run ≡ None → HasTurnIn run c
-    → IsDueNow run.setup.scenario state run.entries c
+    → IsDueNow run.setup.scenario run.setup.order state run.entries c
 due_in run kept state parts c core goes_on turn =
-    subst (λ s. IsDueNow run.setup.scenario s run.entries c) (sym core.machine)
+    subst (λ s. IsDueNow run.setup.scenario run.setup.order s run.entries c) (sym core.machine)
     (due_now run.setup.scenario run.setup.order run.entries c core.keeps.setup.valid core.keeps.legal (not_over run goes_on) turn)
 
 -- ---- one entry more
@@ -123,8 +123,8 @@ last_or_before (y ∷ ys) (b ∷ before) later e x same = more (last_or_before y
     more (inl here) = inl (ap (λ z. z ∷ before) (sym (head_of same)) ∙ ap (λ zs. y ∷ zs) here)
     more (inr there) = inr (there.0, ap (λ z. z ∷ ys) (head_of same) ∙ ap (λ zs. b ∷ zs) there.1)
 
-first_end_more : (run : Run) (e : Entry) → IsFirstEnd run.setup.scenario run.setup.limit run.entries → end_of_run run ≡ None → IsFirstEnd run.setup.scenario run.setup.limit (run.entries ++ e ∷ [])
-first_end_more run e first goes_on before later x same =
+no_sooner_more : (run : Run) (e : Entry) → EndsNoSooner run.setup.scenario run.setup.limit run.entries → end_of_run run ≡ None → EndsNoSooner run.setup.scenario run.setup.limit (run.entries ++ e ∷ [])
+no_sooner_more run e first goes_on before later x same =
     elim (last_or_before run.entries before later e x same) [
       | inl here ↦ subst (λ g. end_of run.setup.scenario run.setup.limit g ≡ None) (sym here) goes_on
       | inr there ↦ first before there.0 x there.1
@@ -133,24 +133,10 @@ first_end_more run e first goes_on before later x same =
 pub length_more : (h : List Entry) (e : Entry) → length (h ++ e ∷ []) ≡ length h + 1
 length_more h e = length-append h (e ∷ [])
 
--- the history with one entry more, and with the end that it has where the entry leaves this state
-abbrev pub with_last : History → ℕ → SchedulerState → Entry → History
-with_last kept limit state e = record kept {
-  entries = kept.entries ++ e ∷ [];
-  end = or_limit (over_by None (is_at_horizon state (kept.entries ++ e ∷ []))) limit (length (kept.entries ++ e ∷ []));
-}
-
--- by the calls that make it
-pub added_last : (kept added last : History) (limit : ℕ) (state : SchedulerState) (e : Entry) (es : List Entry) (end : Option End)
-    → added ≡ record kept { entries = kept.entries ++ e ∷ [] } → es ≡ added.entries
-    → end ≡ or_limit (over_by None (is_at_horizon state es)) limit (length es) → last ≡ record added { end = end } → last ≡ with_last kept limit state e
-added_last kept added last limit state e es end e1 e2 e3 e4 = rw (e4, e3, e2, e1) refl
-
 -- the entry of the step, the state that it leaves, and the history with both
 pub record IsMore (run : Run) (kept : History) (state : SchedulerState) (c : ℕ) (e : Entry) (kept' : History) (state' : SchedulerState) : Type 0 where
   pub steps : step run.setup.scenario state run.entries c ≡ record { entry = e; state = state'; reboot = None }
   pub same : IsKept state state'
-  pub bounded : IsBounded state' (length run.entries + 1)
   pub added : kept' ≡ with_last kept run.setup.limit state' e
 
 left_more : (run : Run) (kept : History) (state : SchedulerState) (parts : List PartFacts) (c : ℕ) (e : Entry) (kept' : History) (state' : SchedulerState) → IsCore run kept state parts → e.cpu ≡ c
@@ -185,7 +171,7 @@ core_more run kept state parts c e kept' state' parts' core goes_on turn m count
       keeps = record {
         setup = core.keeps.setup;
         legal = IsLegal-append scenario run.setup.order run.entries e core.keeps.legal (not_over run goes_on) (subst (HasTurnIn run) (sym own) turn) (sym at);
-        first_end = first_end_more run e core.keeps.first_end goes_on;
+        no_sooner = no_sooner_more run e core.keeps.no_sooner goes_on;
         fits = omega (arith, length_more run.entries e, below_limit run core.keeps goes_on);
         calm = ap (λ (a : After). a.reboot) left;
       };
@@ -194,19 +180,17 @@ core_more run kept state parts c e kept' state' parts' core goes_on turn m count
           ∙ last_recorded run kept state parts state' e core m.same
           ∙ ap (recorded_from scenario run.setup.limit (rooms_of run.setup) (run.entries ++ e ∷ [])) (sym left);
       machine = sym (ap (λ (a : After). a.state) left);
-      bounded = subst (IsBounded state') (sym (length_more run.entries e)) m.bounded;
-      threads = m.same.threads ∙ core.threads;
       one_each = count ∙ core.one_each ∙ ap length (sym m.same.rows);
     }
 
 -- ---- turns
 
-pub cpus_of : (run : Run) → IsRun run → (state_of run).shape.cpus ≡ run.setup.scenario.shape.cpus
-cpus_of run r = cpus_same run.setup.scenario run.setup.order run.entries r.setup.valid r.legal
+pub cpus_of : (run : Run) → IsUnderWay run → (state_of run).shape.cpus ≡ run.setup.scenario.shape.cpus
+cpus_of run r = (counts_law run.setup.scenario run.setup.order run.entries r.setup.valid r.legal).sizes.cpus
 
 pub cpu_within : (run : Run) (kept : History) (state : SchedulerState) (parts : List PartFacts) (c : ℕ) → IsCore run kept state parts → c < length state.cpus → c < run.setup.scenario.shape.cpus
 cpu_within run kept state parts c core lt =
-    omega (arith, lt, ap (λ (t : SchedulerState). length t.cpus) core.machine, cpu_count run.setup.scenario run.setup.order run.entries core.keeps.setup.valid core.keeps.legal)
+    omega (arith, lt, ap (λ (t : SchedulerState). length t.cpus) core.machine, (counts_law run.setup.scenario run.setup.order run.entries core.keeps.setup.valid core.keeps.legal).cpus)
 
 pub first_lowest : (run : Run) (kept : History) (state : SchedulerState) (parts : List PartFacts) (order : Order) (c : ℕ) → IsCore run kept state parts → c ≡ first_due state run.entries state.shape.cpus
     → HasTurn order (state_of run) run.entries c
@@ -214,10 +198,10 @@ first_lowest run kept state parts order c core is =
     let s = state_of run in
     let there : c ≡ first_due s run.entries s.shape.cpus = is ∙ ap (λ (t : SchedulerState). first_due t run.entries t.shape.cpus) core.machine in
     subst (HasTurn order s run.entries) (sym there)
-    (first_has_turn order s run.entries s.shape.cpus refl (omega (arith, cpus_of run core.keeps, core.keeps.setup.valid.shape.some_cpu)))
+    (any_turn order s run.entries (first_due s run.entries s.shape.cpus) (one_turn s run.entries (omega (arith, cpus_of run core.keeps, core.keeps.setup.valid.shape.some_cpu))).has)
 
 -- in free order, who is due with the lowest that has the turn
-pub free_turn : (run : Run) (c first : ℕ) → IsRun run → run.setup.order ≡ Free → c < run.setup.scenario.shape.cpus → HasTurn Fixed (state_of run) run.entries first
+pub free_turn : (run : Run) (c first : ℕ) → IsUnderWay run → run.setup.order ≡ Free → c < run.setup.scenario.shape.cpus → HasTurn Fixed (state_of run) run.entries first
     → due (state_of run) run.entries c ≡ due (state_of run) run.entries first → HasTurnIn run c
 free_turn run c first r free lt lowest same = record {
   exists = omega (arith, lt, cpus_of run r);
@@ -232,14 +216,17 @@ free_turn run c first r free lt lowest same = record {
 pub entry_fits : (run : Run) (kept : History) (state : SchedulerState) (parts : List PartFacts) (c : ℕ) (e : Entry) (state' : SchedulerState) → IsCore run kept state parts → end_of_run run ≡ None → HasTurnIn run c
     → step run.setup.scenario state run.entries c ≡ record { entry = e; state = state'; reboot = None } → IsEntry e
 entry_fits run kept state parts c e state' core goes_on turn steps =
-    let d = due_in run kept state parts c core goes_on turn in
-    let from : e.from ≡ last_end run.entries c = sym (ap (λ (out : Step). out.entry.from) steps) ∙ d.from in
-    let to : e.to ≡ due state run.entries c = sym (ap (λ (out : Step). out.entry.to) steps) ∙ d.to in
-    record {
-      forward = omega (arith, from, to, d.forward);
-      to = omega (arith, to, d.soon);
-      short = omega (arith, from, to, d.short);
-    }
+    subst (λ (out : Step). IsEntry out.entry) steps (due_in run kept state parts c core goes_on turn).fits
+
+-- the stamps and the times that the machine adds to
+pub stamps_in : (run : Run) (kept : History) (state : SchedulerState) (parts : List PartFacts) → IsCore run kept state parts → AreStampsSmall state
+stamps_in run kept state parts core =
+    subst AreStampsSmall (sym core.machine)
+    (stamps_small run.setup.scenario run.setup.order run.entries core.keeps.setup.valid core.keeps.legal (omega (arith, core.keeps.fits, core.keeps.setup.few)))
+
+pub threads_in : (run : Run) (kept : History) (state : SchedulerState) (parts : List PartFacts) → IsCore run kept state parts → length run.setup.scenario.threads ≡ length state.threads
+threads_in run kept state parts core =
+    sym (ap (λ (t : SchedulerState). length t.threads) core.machine ∙ (counts_law run.setup.scenario run.setup.order run.entries core.keeps.setup.valid core.keeps.legal).threads)
 
 pub same_number : (a b : ℕ) → nat_eq a b ≡ true → a ≡ b
 same_number a b e = grind (arith, nat_tests)

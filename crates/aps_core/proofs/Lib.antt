@@ -2,9 +2,10 @@ pub mod Ranges
 pub mod Scan
 pub mod PlainStep
 pub mod PickStep
-pub mod Bounds
 pub mod Boot
 pub mod Turns
 pub mod Kept
 pub mod Finish
+pub mod Recent
+pub mod Rising
 pub mod Given

@@ -5,8 +5,9 @@ use Rattle.aps_model.specs.History.{History}
 use Rattle.aps_model.specs.Legal.{IsLegal}
 use Rattle.aps_model.specs.SchedulerState.{SchedulerState}
 use Rattle.aps_model.specs.Valid.{IsScenario}
-use Rattle.aps_core.specs.Plain.{IsBounded, IsPlainScenario}
-use Rattle.aps_core.specs.Run.{IsFirstEnd, Run, Setup, history_of, state_of}
+use Rattle.aps_core.specs.Plain.{IsPlainScenario}
+use Rattle.aps_laws.specs.Runs.{EndsNoSooner}
+use Rattle.aps_core.specs.Run.{Run, Setup, history_of, state_of}
 
 -- what a core can be set up with
 pub record IsSetup (setup : Setup) : Type 0 where
@@ -15,19 +16,17 @@ pub record IsSetup (setup : Setup) : Type 0 where
   pub some : 1 ≤ setup.limit
   pub few : setup.limit ≤ 4000000
 
--- what each run keeps
-pub record IsRun (run : Run) : Type 0 where
+-- what each run under way keeps
+pub record IsUnderWay (run : Run) : Type 0 where
   pub setup : IsSetup run.setup
   pub legal : IsLegal run.setup.scenario run.setup.order run.entries
-  pub first_end : IsFirstEnd run.setup.scenario run.setup.limit run.entries
+  pub no_sooner : EndsNoSooner run.setup.scenario run.setup.limit run.entries
   pub fits : length run.entries ≤ run.setup.limit
   pub calm : (after run.setup.scenario run.entries).reboot ≡ None
 
 -- what each core keeps, of its run and of the parts that stand for it
 pub record IsCore (run : Run) (kept : History) (state : SchedulerState) (parts : List PartFacts) : Type 0 where
-  pub keeps : IsRun run
+  pub keeps : IsUnderWay run
   pub recorded : kept ≡ history_of run
   pub machine : state ≡ state_of run
-  pub bounded : IsBounded state (length run.entries)
-  pub threads : length state.threads ≡ length run.setup.scenario.threads
   pub one_each : length parts ≡ length state.rows

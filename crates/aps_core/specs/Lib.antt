@@ -7,3 +7,4 @@ pub mod Turn
 pub mod Core
 pub mod CoreView
 pub mod Given
+pub mod Rising

@@ -1,4 +1,4 @@
-use Rattle.std.specs.Prelude.{◌≡◌, ℕ, ◌+◌, ◌*◌, ◌<◌, ◌≤◌, [], ◌∷◌, length, All, false, Option, Some, None, ⊤}
+use Rattle.std.specs.Prelude.{◌≡◌, ℕ, ◌<◌, ◌≤◌, [], ◌∷◌, length, All, false, Option, Some, None, ⊤}
 use Rattle.aps_model.specs.declared.program.Op.TheVariants.{Forever}
 use Rattle.aps_model.specs.declared.scenario.ThreadRow.{ThreadRow}
 use Rattle.aps_model.specs.declared.state.CpuNow.{CpuNow}
@@ -49,11 +49,6 @@ pub record IsPlain (s : SchedulerState) : Type 0 where
   pub cpus : length s.cpus ≡ s.shape.cpus
   pub picks : All (λ (cpu : CpuNow). IsPlainPick (length s.threads) (length s.rows) cpu.running) s.cpus
   pub triples : s.triples ≡ []
-
--- stamps and times after so many steps, each of which gives one stamp at most and lasts one tick at most
-pub record IsBounded (s : SchedulerState) (steps : ℕ) : Type 0 where
-  pub stamps : s.stamps ≤ 1024 + steps
-  pub since : All (λ (t : ThreadNow). t.since ≤ 10000000 * steps) s.threads
 
 -- what no step of a plain scenario changes
 pub record IsKept (s t : SchedulerState) : Type 0 where

@@ -1,15 +1,15 @@
-use Rattle.std.specs.Prelude.{◌≡◌, ℕ, ◌+◌, ◌-◌, ◌*◌, ◌++◌, List, ◌∷◌, length, nat_lt, Option, None}
+use Rattle.std.specs.Prelude.{◌≡◌, ℕ, ◌+◌, ◌*◌, ◌++◌, List, [], ◌∷◌, length, nat_lt, Option, None}
 use Rattle.std.specs.List.{count_by}
 use Rattle.aps_model.specs.declared.entry.End.{End}
 use Rattle.aps_model.specs.declared.entry.Entry.{Entry}
 use Rattle.aps_model.specs.declared.entry.Order.{Order}
 use Rattle.aps_model.specs.declared.partition.PartitionRow.{PartitionRow}
-use Rattle.aps_model.specs.After.{after, end_of, state_after}
+use Rattle.aps_model.specs.After.{end_of, is_at_horizon, or_limit, over_by, state_after}
 use Rattle.aps_model.specs.History.{History, Rooms}
-use Rattle.aps_model.specs.Legal.{fixed_steps}
 use Rattle.aps_model.specs.Recorded.{recorded}
 use Rattle.aps_model.specs.Scenario.{Scenario}
 use Rattle.aps_model.specs.SchedulerState.{SchedulerState}
+use Rattle.aps_laws.specs.Runs.{finished}
 
 -- what a run was set up with
 pub record Setup : Type 0 where
@@ -48,16 +48,17 @@ end_of_run run = end_of run.setup.scenario run.setup.limit run.entries
 abbrev pub history_of : Run → History
 history_of run = recorded run.setup.scenario run.setup.limit (rooms_of run.setup) run.entries
 
--- no shorter beginning of these entries has ended with the limit
-abbrev pub IsFirstEnd : Scenario → ℕ → List Entry → Type 0
-IsFirstEnd scenario limit h = (before later : List Entry) (e : Entry) → h ≡ before ++ e ∷ later → end_of scenario limit before ≡ None
-
 -- the run after the steps of the lowest processor that has the turn, until it has ended
-abbrev pub finished : Run → Run
-finished run = record run {
-  entries = fixed_steps run.setup.scenario (run.setup.limit - length run.entries) (after run.setup.scenario run.entries) run.entries;
-}
+abbrev pub finished_run : Run → Run
+finished_run run = record run { entries = finished run.setup.scenario run.setup.limit run.entries }
 
 -- the same run, further on
 abbrev pub IsLater : Run → Run → Type 0
 IsLater run later = (rest : List Entry) × (later ≡ record run { entries = run.entries ++ rest })
+
+-- the history with one entry more, which leaves this state, and with the end that comes by it
+abbrev pub with_last : History → ℕ → SchedulerState → Entry → History
+with_last kept limit state e = record kept {
+  entries = kept.entries ++ e ∷ [];
+  end = or_limit (over_by None (is_at_horizon state (kept.entries ++ e ∷ []))) limit (length (kept.entries ++ e ∷ []));
+}

@@ -8,8 +8,10 @@ ghost use Rattle.aps_model.specs.History.{IsEntry};
 ghost use Rattle.aps_model.specs.Tiled.{IsTiled, IsBilledAsInherited};
 ghost use Rattle.aps_model.specs.Bound.{KeepsWindowBound, KeepsCriticalBound};
 ghost use Rattle.aps_laws.specs.Choices.{EachPickIsGreatest};
+ghost use Rattle.aps_laws.specs.Runs.{EndsNoSooner};
+ghost use Rattle.aps_core.specs.Core.{IsUnderWay};
 ghost use Rattle.aps_core.specs.Plain.{IsPlainScenario};
-ghost use Rattle.aps_core.specs.Run.{IsFirstEnd, IsLater, end_of_run, finished, history_of, most_changes, state_of};
+ghost use Rattle.aps_core.specs.Run.{IsLater, end_of_run, finished_run, history_of, most_changes, state_of, with_last};
 ghost use Rattle.aps_core.specs.Turn.{HasTurnIn, IsOwn, IsTaken, IsTurn, after_turn, with_entry};
 
 use crate::machine::Machine;
@@ -85,11 +87,12 @@ impl Core {
         self.history.end()
     }
 
-    /// The history so far, with its end where it has ended.
+    /// The history so far, with its end where it has ended. It is legal in the core's order, and no shorter prefix of
+    /// it has ended; what follows for its entries stands beside.
     pub fn history(&self) -> &History
         ensures same { result.now ≡ history_of self.now }
         ensures legal { IsLegal self.now.setup.scenario self.now.setup.order self.now.entries }
-        ensures first_end { IsFirstEnd self.now.setup.scenario self.now.setup.limit self.now.entries }
+        ensures no_sooner { EndsNoSooner self.now.setup.scenario self.now.setup.limit self.now.entries }
         ensures tiled { IsTiled self.now.setup.scenario.shape.tick self.now.entries }
         ensures billed { IsBilledAsInherited self.now.setup.scenario self.now.entries }
         ensures picks { EachPickIsGreatest self.now.setup.scenario self.now.entries }
@@ -104,7 +107,7 @@ impl Core {
     pub fn into_history(self) -> History
         ensures same { result ≡ history_of self }
         ensures legal { IsLegal self.setup.scenario self.setup.order self.entries }
-        ensures first_end { IsFirstEnd self.setup.scenario self.setup.limit self.entries }
+        ensures no_sooner { EndsNoSooner self.setup.scenario self.setup.limit self.entries }
         ensures tiled { IsTiled self.setup.scenario.shape.tick self.entries }
         ensures billed { IsBilledAsInherited self.setup.scenario self.entries }
         ensures picks { EachPickIsGreatest self.setup.scenario self.entries }
@@ -115,7 +118,9 @@ impl Core {
         self.history
     }
 
-    /// One step of the processor, if the run goes on and the processor has the turn.
+    /// One step of the processor. The answer is the end of the run where it has ended, the lowest processor that has
+    /// the turn where this one hasn't, and else the entry of the step, which the history then has as its last one.
+    /// But for that entry nothing changes.
     pub fn step(&mut self, cpu: CpuId) -> Turn
         requires { cpu < self.old.setup.scenario.shape.cpus }
         ensures turn { IsTurn self.old cpu result }
@@ -133,10 +138,11 @@ impl Core {
         Turn::Took(self.take_turn(cpu))
     }
 
-    /// Steps the lowest processor that has the turn until the run has ended.
+    /// Steps the lowest processor that has the turn until the run has ended, and answers that end. From no entries
+    /// this makes the run in fixed order, in a core of either order.
     pub fn finish(&mut self) -> End
         ensures ended { end_of_run self.new ≡ Some result }
-        ensures run { self.new ≡ finished self.old }
+        ensures run { self.new ≡ finished_run self.old }
         ensures later { IsLater self.old self.new }
         ensures fixed { self.old.entries ≡ [] → self.new.entries ≡ fixed_run self.old.setup.scenario self.old.setup.limit }
     {
@@ -154,6 +160,7 @@ impl Core {
         ensures same { result ≡ first_due (state_of self.now) self.now.entries (state_of self.now).shape.cpus }
         ensures lowest { HasTurn Fixed (state_of self.now) self.now.entries result }
         ensures exists { result < self.now.setup.scenario.shape.cpus }
+        ensures keeps { IsUnderWay self.now }
     {
         self.machine.first_due(self.history.entries())
     }
@@ -187,11 +194,23 @@ impl Core {
             self.parts.as_mut_slice(),
             cpu,
         );
+        // the check wants a copy of its own of what is handed on and answered too
         let added = e;
-        self.history.add_entry(added);
-        let end = end_after(&self.machine, self.history.entries(), self.limit);
-        keep_end(&mut self.history, end);
+        append(&mut self.history, added, &self.machine, self.limit);
         e
+    }
+}
+
+/// The history has one entry more, which left this machine, and the end of the run if that has come.
+fn append(history: &mut History, e: Entry, machine: &Machine, limit: u32)
+    requires room { length history.old.entries < history.old.room.entries }
+    requires entry { IsEntry e }
+    requires goes_on { history.old.end ≡ None }
+    ensures { history.new ≡ with_last history.old limit machine.now e }
+{
+    history.add_entry(e);
+    if let Some(end) = end_after(machine, history.entries(), limit) {
+        history.set_end(end);
     }
 }
 
@@ -206,16 +225,6 @@ fn end_after(machine: &Machine, entries: &[Entry], limit: u32) -> Option<End>
         Some(End::Limit)
     } else {
         None
-    }
-}
-
-/// The end, if there is one, is kept in a history that had none.
-fn keep_end(history: &mut History, end: Option<End>)
-    requires { history.old.end ≡ None }
-    ensures { history.new ≡ record history.old { end = end } }
-{
-    if let Some(end) = end {
-        history.set_end(end);
     }
 }
 

@@ -26,7 +26,11 @@ const SMALL: Shape = Shape {
 };
 
 const S: Endless = (0, 10, Policy::Fifo);
+
 const A: Endless = (1, 10, Policy::Fifo);
+
+/// A core may go from thread to thread.
+fn needs_send<T: Send>(_: &T) {}
 
 /// The time that is billed to the partition.
 fn billed(history: &History, p: usize) -> Nanos
@@ -65,7 +69,11 @@ fn two_equal_partitions_take_turns(rt: HostRuntime) -> Result<(), Fail> {
     assert_eq!(rt; history.end(), Some(End::Horizon));
     assert_eq!(rt; history.entries().len(), 21);
     for (i, e) in history.entries().iter().enumerate() {
-        let picked = if i < 20 { Some(ThreadId::at(i % 2)) } else { None };
+        let picked = if i < 20 {
+            Some(ThreadId::at(i % 2))
+        } else {
+            None
+        };
         assert_eq!(rt; e.picked, picked, "entry {i}");
     }
     assert_eq!(rt; billed(&history, 0), 10_000_000);
@@ -77,6 +85,7 @@ fn two_equal_partitions_take_turns(rt: HostRuntime) -> Result<(), Fail> {
 fn the_limit_ends_a_run(rt: HostRuntime) -> Result<(), Fail> {
     let scenario = given(rt.alloc(), SMALL, 50, &[50], &[S, A])?;
     let mut core = Core::boot(rt.alloc(), scenario, Order::Fixed, 7)?;
+    needs_send(&core);
     assert_eq!(rt; core.finish(), End::Limit);
     assert_eq!(rt; core.ended(), Some(End::Limit));
     assert_eq!(rt; core.history().entries().len(), 7);
@@ -90,7 +99,11 @@ fn an_allowance_that_is_reached_stops_a_partition(rt: HostRuntime) -> Result<(),
     assert_eq!(rt; core.finish(), End::Horizon);
     let history = core.into_history();
     for (i, e) in history.entries().iter().enumerate() {
-        let picked = if i < 20 { Some(ThreadId::at(usize::from(i % 10 >= 7))) } else { None };
+        let picked = if i < 20 {
+            Some(ThreadId::at(usize::from(i % 10 >= 7)))
+        } else {
+            None
+        };
         assert_eq!(rt; e.picked, picked, "entry {i}");
     }
     assert_eq!(rt; billed(&history, 0), 14_000_000);
@@ -141,7 +154,10 @@ fn a_processor_flags_another(rt: HostRuntime) -> Result<(), Fail> {
 fn turns_go_by_the_order(rt: HostRuntime) -> Result<(), Fail> {
     let scenario = given(rt.alloc(), TWO_CPUS, 50, &[50], &PAIRS)?;
     let mut fixed = Core::boot(rt.alloc(), scenario, Order::Fixed, 1_000_000)?;
-    let not_yet = Turn::NotYet { cpu: CpuId::at(0), due: 0 };
+    let not_yet = Turn::NotYet {
+        cpu: CpuId::at(0),
+        due: 0,
+    };
     assert_eq!(rt; fixed.step(CpuId::at(1)), not_yet);
     assert_eq!(rt; fixed.history().entries().len(), 0);
     assert_eq!(rt; fixed.due(CpuId::at(1)), 0);
@@ -159,7 +175,10 @@ fn turns_go_by_the_order(rt: HostRuntime) -> Result<(), Fail> {
 #[test]
 fn round_robin_threads_share(rt: HostRuntime) -> Result<(), Fail> {
     let shape = Shape { ticks: 12, ..SMALL };
-    for (policy, first, second) in [(Policy::Rr, 8_000_000, 4_000_000), (Policy::Fifo, 12_000_000, 0)] {
+    for (policy, first, second) in [
+        (Policy::Rr, 8_000_000, 4_000_000),
+        (Policy::Fifo, 12_000_000, 0),
+    ] {
         let thread = (0, 10, policy);
         let scenario = given(rt.alloc(), shape, 100, &[], &[thread, thread])?;
         let mut core = Core::boot(rt.alloc(), scenario, Order::Fixed, 1_000_000)?;
@@ -183,10 +202,38 @@ fn the_greatest_shape_runs(rt: HostRuntime) -> Result<(), Fail> {
     };
     const T: Policy = Policy::Fifo;
     let threads = [
-        (0, 10, T), (1, 10, T), (2, 10, T), (3, 10, T), (4, 10, T), (5, 10, T), (6, 10, T), (7, 10, T),
-        (8, 10, T), (9, 10, T), (10, 10, T), (11, 10, T), (12, 10, T), (13, 10, T), (14, 10, T), (15, 10, T),
-        (16, 10, T), (17, 10, T), (18, 10, T), (19, 10, T), (20, 10, T), (21, 10, T), (22, 10, T), (23, 10, T),
-        (24, 10, T), (25, 10, T), (26, 10, T), (27, 10, T), (28, 10, T), (29, 10, T), (30, 10, T), (31, 10, T),
+        (0, 10, T),
+        (1, 10, T),
+        (2, 10, T),
+        (3, 10, T),
+        (4, 10, T),
+        (5, 10, T),
+        (6, 10, T),
+        (7, 10, T),
+        (8, 10, T),
+        (9, 10, T),
+        (10, 10, T),
+        (11, 10, T),
+        (12, 10, T),
+        (13, 10, T),
+        (14, 10, T),
+        (15, 10, T),
+        (16, 10, T),
+        (17, 10, T),
+        (18, 10, T),
+        (19, 10, T),
+        (20, 10, T),
+        (21, 10, T),
+        (22, 10, T),
+        (23, 10, T),
+        (24, 10, T),
+        (25, 10, T),
+        (26, 10, T),
+        (27, 10, T),
+        (28, 10, T),
+        (29, 10, T),
+        (30, 10, T),
+        (31, 10, T),
     ];
     let scenario = given(rt.alloc(), shape, 69, &[1; 31], &threads)?;
     let mut core = Core::boot(rt.alloc(), scenario, Order::Fixed, 1_000_000)?;
@@ -201,12 +248,26 @@ fn the_greatest_shape_runs(rt: HostRuntime) -> Result<(), Fail> {
 
 #[test]
 fn flags_go_from_processor_to_processor(rt: HostRuntime) -> Result<(), Fail> {
-    let shape = Shape { cpus: 4, window: 100, ticks: 200, ..SMALL };
+    let shape = Shape {
+        cpus: 4,
+        window: 100,
+        ticks: 200,
+        ..SMALL
+    };
     const F: Policy = Policy::Fifo;
     let threads = [
-        (0, 10, F), (0, 10, F), (0, 10, F), (0, 10, F),
-        (1, 20, F), (1, 20, F), (1, 20, F), (1, 20, F),
-        (2, 15, F), (2, 15, F), (2, 15, F), (2, 15, F),
+        (0, 10, F),
+        (0, 10, F),
+        (0, 10, F),
+        (0, 10, F),
+        (1, 20, F),
+        (1, 20, F),
+        (1, 20, F),
+        (1, 20, F),
+        (2, 15, F),
+        (2, 15, F),
+        (2, 15, F),
+        (2, 15, F),
     ];
     let scenario = given(rt.alloc(), shape, 50, &[20, 30], &threads)?;
     let mut core = Core::boot(rt.alloc(), scenario, Order::Fixed, 1_000_000)?;

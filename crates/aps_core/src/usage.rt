@@ -1,9 +1,10 @@
-ghost use Rattle.std.specs.Prelude.{◌≡◌, ◌+◌, ◌-◌, ◌*◌, ◌<◌, ◌≤◌, ◌^◌, ◌++◌, [], ◌∷◌, length, All, min, max};
+ghost use Rattle.std.specs.Prelude.{◌≡◌, ◌+◌, ◌-◌, ◌*◌, ◌<◌, ◌≤◌, ◌^◌, ◌++◌, [], ◌∷◌, length, take, All, min, max};
 ghost use Rattle.aps_model.specs.Usage.{used, critical_used};
 ghost use Rattle.aps_model.specs.Budget.{part_facts, all_parts};
 ghost use Rattle.aps_model.specs.History.{IsEntry};
 ghost use Rattle.aps_model.specs.Partition.{IsRow};
 ghost use Rattle.aps_model.specs.Shape.{IsShape};
+ghost use Rattle.aps_core.specs.Rising.{IsRising};
 ghost use Rattle.aps_core.specs.Small.{IsSmall};
 
 use aps_model::{Entry, Nanos, PartFacts, PartitionId, PartitionRow, Shape, has_allowance};
@@ -101,8 +102,8 @@ fn part_facts(
     }
 }
 
-/// Each partition in the window at tick `j`.
-pub fn fill_parts(
+/// Each partition in the window at tick `j`, over these entries and the last one.
+fn fill_by(
     shape: &Shape,
     rows: &[PartitionRow],
     entries: &[Entry],
@@ -124,4 +125,43 @@ pub fn fill_parts(
     for p in 0..rows.len() {
         parts[p] = part_facts(shape, rows, entries, last, j, p);
     }
+}
+
+/// How many entries, from the front, ended at or before this moment. It is found from the end of the history.
+fn past(entries: &[Entry], moment: Nanos) -> usize
+    requires { IsRising entries.now }
+    ensures within { result ≤ length entries.now }
+    ensures past { All (λ e. e.to ≤ moment) (take result entries.now) }
+{
+    let mut left = entries.len();
+    while left > 0 && entries[left - 1].to > moment {
+        left -= 1;
+    }
+    left
+}
+
+/// The same, over the entries that can matter: those that ended before the window are left out.
+pub fn fill_parts(
+    shape: &Shape,
+    rows: &[PartitionRow],
+    entries: &[Entry],
+    last: &Entry,
+    j: u64,
+    parts: &mut [PartFacts],
+)
+    requires shape { IsShape shape.now }
+    requires few_rows { length rows.now ≤ 32 }
+    requires rows { All IsRow rows.now }
+    requires one_each { length parts.old ≡ length rows.now }
+    requires entries { All IsEntry entries.now }
+    requires rising { IsRising entries.now }
+    requires few { length entries.now ≤ 4000000 }
+    requires last { IsEntry last.now }
+    requires j { j ≤ 1000000 }
+    ensures same { parts.new ≡ all_parts shape.now rows.now (entries.now ++ last.now ∷ []) j }
+    ensures small { All IsSmall parts.new }
+{
+    let first = (j + 1).saturating_sub(u64::from(shape.window));
+    let recent = &entries[past(entries, first * shape.tick)..];
+    fill_by(shape, rows, recent, last, j, parts);
 }

@@ -1,13 +1,13 @@
 //! The partitions of a generated scenario.
 ghost use Rattle.std.specs.Prelude.{◌≡◌, ◌≤◌, IfOk};
-ghost use Rattle.aps_gen.specs.Generated.{rows};
+ghost use Rattle.aps_gen.specs.Generated as spec;
 
 use crate::names::partition_name;
 use aps_model::{Name, NoMemory, PartitionId, PartitionRow};
 use std::alloc::Global;
 
 fn row(name: Name, budget: u16) -> PartitionRow
-    ensures { result ≡ Rattle.aps_gen.specs.Generated.row name budget }
+    ensures { result ≡ spec.row name budget }
 {
     PartitionRow {
         name,
@@ -22,7 +22,7 @@ fn row(name: Name, budget: u16) -> PartitionRow
 pub fn partition_rows(alloc: Global, count: u8) -> Result<Vec<PartitionRow>, NoMemory>
     requires some { 1 ≤ count }
     requires few { count ≤ 32 }
-    ensures { IfOk result (λ v. v.items ≡ rows count) }
+    ensures { IfOk result (λ v. v.items ≡ spec.rows count) }
 {
     let Ok(system) = Name::new(b"System") else {
         unreachable!()

@@ -6,6 +6,7 @@ pub mod Sums
 pub mod Cells
 pub mod Windowed
 pub mod Moved
+pub mod TwoEqual
 pub mod Ascii
 pub mod Rows
 pub mod Tables

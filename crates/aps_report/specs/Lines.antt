@@ -1,11 +1,14 @@
 use lib.Chars.{codes}
-use Rattle.std.specs.Prelude.{ℕ, List, [], ◌∷◌, ◌++◌, slice_index}
+use Rattle.std.specs.Prelude.{ℕ, List, [], ◌∷◌, ◌++◌, length, slice_index}
+use Rattle.std.specs.List.{flat_map, enumerate_from}
 use Rattle.std.specs.Fmt.{decimal}
 use Rattle.aps_model.specs.declared.partition.PartitionRow.{PartitionRow}
 use Rattle.aps_model.specs.declared.scenario.ThreadRow.{ThreadRow}
 use Rattle.aps_model.specs.declared.state.Facts.{Facts}
 use Rattle.aps_model.specs.declared.state.State.{State}
+use Rattle.aps_model.specs.History.{History}
 use Rattle.aps_model.specs.Journal.{line_of}
+use Rattle.aps_model.specs.Report.{end_line, shape_line}
 use Rattle.aps_model.specs.Replies.{yes_text, state_text}
 use Rattle.aps_report.specs.Totals.{Sums}
 
@@ -25,6 +28,19 @@ partition_with sums (p, row) = partition_text p row (slice_index sums.billed p) 
 
 abbrev pub thread_with : Sums → ℕ × ThreadRow → List ℕ
 thread_with sums (x, row) = thread_text x row.name (slice_index sums.ran x)
+
+-- a text with the lines of the summary before its tables
+abbrev pub with_head : List ℕ → History → List ℕ
+with_head text h =
+    text ++ codes "aps summary 1\n" ++ end_line h.end ++ shape_line h.shape
+    ++ line_of (codes "entries" ∷ decimal (length h.entries) ∷ [])
+
+-- the tables of the summary, with these sums
+abbrev pub tables_with : History → Sums → List ℕ
+tables_with h sums =
+    flat_map (partition_with sums) (enumerate_from 0 h.rows)
+    ++ line_of (codes "idle" ∷ decimal sums.idle ∷ [])
+    ++ flat_map (thread_with sums) (enumerate_from 0 h.scenario.threads)
 
 -- the line of the answer to a query of a partition: who it is, and what it may use and used
 abbrev pub row_words : ℕ → ℕ → PartitionRow → List ℕ

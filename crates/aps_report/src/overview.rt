@@ -3,7 +3,7 @@ ghost use Rattle.std.specs.Prelude.{◌≡◌, ◌≤◌, ◌++◌, length, stri
 ghost use Rattle.std.specs.List.{flat_map, enumerate_from};
 ghost use Rattle.aps_model.specs.Report.{usage_text, summary_text};
 ghost use Rattle.aps_model.specs.Replies.{reply_line};
-ghost use Rattle.aps_report.specs.Lines.{partition_with, thread_with};
+ghost use Rattle.aps_report.specs.Lines.{partition_with, thread_with, with_head, tables_with};
 
 use crate::audit::add_audit;
 use crate::lines::{add_count, add_end, add_idle, add_partition, add_shape, add_thread, add_title};
@@ -17,16 +17,10 @@ use std::alloc::Global;
 pub fn usage(alloc: Global, history: &History) -> Result<String, NoMemory>
     ensures { IfOk result (λ text. string_bytes text ≡ usage_text history.now) }
 {
-    let entries = history.entries();
-    let totals = Totals::of(alloc, entries)?;
+    let totals = Totals::of(alloc, history.entries())?;
     let mut out = String::new(alloc);
-    add_title(&mut out)?;
-    add_end(&mut out, &history.end())?;
-    add_shape(&mut out, history.shape())?;
-    add_count(&mut out, entries.len())?;
-    add_partitions(&mut out, history.rows(), &totals)?;
-    add_idle(&mut out, totals.idle())?;
-    add_threads(&mut out, history.scenario().threads(), &totals)?;
+    add_head(&mut out, history)?;
+    add_tables(&mut out, history, &totals)?;
     Ok(out)
 }
 
@@ -48,6 +42,28 @@ fn add_replies(out: &mut String, replies: &[Reply]) -> Result<(), NoMemory>
         add_reply(out, reply)?;
     }
     Ok(())
+}
+
+/// How the run ended, its sizes, and how many entries it has.
+fn add_head(out: &mut String, history: &History) -> Result<(), NoMemory>
+    ensures { OnOk result (string_bytes out.new ≡ with_head (string_bytes out.old) history.now) }
+{
+    add_title(out)?;
+    add_end(out, &history.end())?;
+    add_shape(out, history.shape())?;
+    add_count(out, history.entries().len())
+}
+
+/// Who used how much, by these sums.
+fn add_tables(out: &mut String, history: &History, totals: &Totals) -> Result<(), NoMemory>
+    ensures text { OnOk result (string_bytes out.new ≡ string_bytes out.old ++ tables_with history.now totals.now) }
+    ensures few_rows { length history.now.rows ≤ 32 }
+    ensures few_threads { length history.now.scenario.threads ≤ 1024 }
+{
+    let threads = history.scenario().threads();
+    add_partitions(out, history.rows(), totals)?;
+    add_idle(out, totals.idle())?;
+    add_threads(out, threads, totals)
 }
 
 fn add_partitions(out: &mut String, rows: &[PartitionRow], totals: &Totals) -> Result<(), NoMemory>

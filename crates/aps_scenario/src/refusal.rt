@@ -10,8 +10,10 @@ use thiserror::Error;
 /// Why a text gives no scenario.
 #[derive(Clone, Copy, Debug, PartialEq, Eq, Error)]
 pub enum ScenarioRefusal {
+    /// The text is none that is read: what is wrong, and where.
     #[error("scenario refused: {kind}")]
     Refused { kind: Kind, path: PathText },
+    /// Memory ran out, which tells nothing of the text.
     #[error("out of memory")]
     NoMemory,
 }

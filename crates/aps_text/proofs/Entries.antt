@@ -1,14 +1,13 @@
 -- A line is read field by field.
 use lib.Chars.{codes}
-use Rattle.std.proofs.Common.{◌≡◌, ℕ, ◌^◌, ◌<◌, ◌≤◌, Bool, true, false, List, [], ◌∷◌, ◌++◌, Option, Some, None, Ok, refl, sym, ap, ◌∙◌, append_assoc, arith}
+use Rattle.std.proofs.Common.{◌≡◌, ℕ, ◌^◌, ◌<◌, false, List, [], ◌∷◌, ◌++◌, None, refl, sym, ◌∙◌, append_assoc, arith}
 use Rattle.std.specs.Fmt.{decimal}
 use Rattle.std.specs.Char.{is_ascii_digit}
 use Rattle.std.proofs.lemmas.List.{append-nil}
 use Rattle.aps_model.specs.declared.entry.Entry.{Entry}
-use Rattle.aps_model.specs.declared.entry.Done.{Done}
 use Rattle.aps_model.specs.declared.entry.Done.TheVariants.{Nothing}
 use Rattle.aps_model.specs.Journal.{option_text, done_text, entry_line, IsLine}
-use Rattle.aps_text.specs.Reader.{◌>>=◌, Reading, number_at}
+use Rattle.aps_text.specs.Reader.{number_at}
 use Rattle.aps_text.specs.Fields.{option_at, mark_at}
 use Rattle.aps_text.specs.Operation.{done_at}
 use Rattle.aps_text.specs.Line.{line_at}
@@ -35,7 +34,7 @@ SpellsFields =
     SpellsBoth (SpellsNumber 15 32) (λ cpu. SpellsBoth (SpellsNumber 10000000000000 32) (λ from. SpellsBoth (SpellsNumber 10000000000000 32) (λ to.
     SpellsBoth (SpellsOption 1023 32) (λ ran. SpellsBoth (SpellsOption 31 32) (λ billed. SpellsBoth SpellsMark (λ critical. SpellsBoth SpellsDone (λ done.
     SpellsBoth (SpellsOption 1023 32) (λ picked. SpellsBoth (SpellsOption 31 32) (λ starved. SpellsBoth (SpellsOption 15 10) (λ flagged.
-      SpellsNothing (record { from = from; to = to; done = done; ran = ran; picked = picked; billed = billed; starved = starved; flagged = flagged; cpu = cpu; critical = critical })))))))))))
+    SpellsNothing (record { from = from; to = to; done = done; ran = ran; picked = picked; billed = billed; starved = starved; flagged = flagged; cpu = cpu; critical = critical })))))))))))
 
 fields : IsLive line_at SpellsFields
 unfolding line_at
@@ -43,7 +42,7 @@ fields =
     IsLive-both _ _ _ _ (number 15 (omega arith)) (λ cpu. IsLive-both _ _ _ _ (number 10000000000000 (omega arith)) (λ from. IsLive-both _ _ _ _ (number 10000000000000 (omega arith)) (λ to.
     IsLive-both _ _ _ _ (option 1023 32 (omega arith) refl) (λ ran. IsLive-both _ _ _ _ (option 31 32 (omega arith) refl) (λ billed. IsLive-both _ _ _ _ mark (λ critical. IsLive-both _ _ _ _ operation (λ done.
     IsLive-both _ _ _ _ (option 1023 32 (omega arith) refl) (λ picked. IsLive-both _ _ _ _ (option 31 32 (omega arith) refl) (λ starved. IsLive-both _ _ _ _ (option 15 10 (omega arith) refl) (λ flagged.
-      IsLive-value (record { from = from; to = to; done = done; ran = ran; picked = picked; billed = billed; starved = starved; flagged = flagged; cpu = cpu; critical = critical })))))))))))
+    IsLive-value (record { from = from; to = to; done = done; ran = ran; picked = picked; billed = billed; starved = starved; flagged = flagged; cpu = cpu; critical = critical })))))))))))
 
 -- ---- the fields of a line, and the line
 
@@ -85,25 +84,118 @@ abbrev pub SpellsLine : List ℕ → Entry → Type 0
 SpellsLine text e = IsLine e × (text ≡ entry_line e)
 
 fields_from : (text : List ℕ) (e : Entry) → SpellsLine text e → SpellsFields text e
-fields_from text e (h, same) =
-    (decimal e.cpu ++ 32 ∷ [], from_from e, e.cpu, same ∙ sym (from_cpu_is e), (refl, h.cpu),
-    (decimal e.from ++ 32 ∷ [], from_to e, e.from, refl, (refl, h.from),
-    (decimal e.to ++ 32 ∷ [], from_ran e, e.to, refl, (refl, h.to),
-    (option_text e.ran ++ 32 ∷ [], from_billed e, e.ran, refl, (refl, h.ran),
-    (option_text e.billed ++ 32 ∷ [], from_critical e, e.billed, refl, (refl, h.billed),
-    (mark_text e.critical ++ 32 ∷ [], from_done e, e.critical, refl, refl,
-    (done_text e.done ++ 32 ∷ [], from_picked e, e.done, refl, (refl, h.done),
-    (option_text e.picked ++ 32 ∷ [], from_starved e, e.picked, refl, (refl, h.picked),
-    (option_text e.starved ++ 32 ∷ [], from_flagged e, e.starved, refl, (refl, h.starved),
-    (option_text e.flagged ++ 10 ∷ [], [], e.flagged, refl, (refl, h.flagged),
-    (refl, refl)))))))))))
+fields_from text e (h, same) = (
+  decimal e.cpu ++ 32 ∷ [],
+  from_from e,
+  e.cpu,
+  same ∙ sym (from_cpu_is e),
+  (refl, h.cpu),
+  (
+    decimal e.from ++ 32 ∷ [],
+    from_to e,
+    e.from,
+    refl,
+    (refl, h.from),
+    (
+      decimal e.to ++ 32 ∷ [],
+      from_ran e,
+      e.to,
+      refl,
+      (refl, h.to),
+      (
+        option_text e.ran ++ 32 ∷ [],
+        from_billed e,
+        e.ran,
+        refl,
+        (refl, h.ran),
+        (
+          option_text e.billed ++ 32 ∷ [],
+          from_critical e,
+          e.billed,
+          refl,
+          (refl, h.billed),
+          (
+            mark_text e.critical ++ 32 ∷ [],
+            from_done e,
+            e.critical,
+            refl,
+            refl,
+            (
+              done_text e.done ++ 32 ∷ [],
+              from_picked e,
+              e.done,
+              refl,
+              (refl, h.done),
+              (
+                option_text e.picked ++ 32 ∷ [],
+                from_starved e,
+                e.picked,
+                refl,
+                (refl, h.picked),
+                (
+                  option_text e.starved ++ 32 ∷ [],
+                  from_flagged e,
+                  e.starved,
+                  refl,
+                  (refl, h.starved),
+                  (
+                    option_text e.flagged ++ 10 ∷ [],
+                    [],
+                    e.flagged,
+                    refl,
+                    (refl, h.flagged),
+                    (refl, refl),
+                  ),
+                ),
+              ),
+            ),
+          ),
+        ),
+      ),
+    ),
+  ),
+)
 
 joined : {text s u first rest : List ℕ} → text ≡ s ++ u → s ≡ first → u ≡ rest → text ≡ first ++ rest
 joined e f g = cc
 
 fields_to : (text : List ℕ) (e : Entry) → SpellsFields text e → SpellsLine text e
-fields_to text e (s0, u0, cpu, p0, h0, (s1, u1, from, p1, h1, (s2, u2, to, p2, h2, (s3, u3, ran, p3, h3, (s4, u4, billed, p4, h4,
-    (s5, u5, critical, p5, h5, (s6, u6, done, p6, h6, (s7, u7, picked, p7, h7, (s8, u8, starved, p8, h8, (s9, u9, flagged, p9, h9, (nothing, same))))))))))) =
+fields_to text e (
+  s0,
+  u0,
+  cpu,
+  p0,
+  h0,
+  (
+    s1,
+    u1,
+    from,
+    p1,
+    h1,
+    (
+      s2,
+      u2,
+      to,
+      p2,
+      h2,
+      (
+        s3,
+        u3,
+        ran,
+        p3,
+        h3,
+        (
+          s4,
+          u4,
+          billed,
+          p4,
+          h4,
+          (s5, u5, critical, p5, h5, (s6, u6, done, p6, h6, (s7, u7, picked, p7, h7, (s8, u8, starved, p8, h8, (s9, u9, flagged, p9, h9, (nothing, same)))))),
+        ),
+      ),
+    ),
+  ),
+) =
     let made : Entry = record { from = from; to = to; done = done; ran = ran; picked = picked; billed = billed; starved = starved; flagged = flagged; cpu = cpu; critical = critical } in
     let whole : text ≡ from_cpu made = joined p0 h0.0 (joined p1 h1.0 (joined p2 h2.0 (joined p3 h3.0 (joined p4 h4.0 (joined p5 h5 (joined p6 h6.0 (joined p7 h7.0 (joined p8 h8.0 (joined p9 h9.0 nothing))))))))) in
     let within : IsLine made = record { cpu = h0.1; from = h1.1; to = h2.1; ran = h3.1; billed = h4.1; done = h6.1; picked = h7.1; starved = h8.1; flagged = h9.1 } in

@@ -1,15 +1,15 @@
 -- Journals: each text is the journal of one list, and a text that is none is bad at one place.
-use Rattle.std.proofs.Common.{◌≡◌, ℕ, true, ◌+◌, ◌-◌, ◌<◌, ◌≤◌, List, [], ◌∷◌, ◌++◌, length, Result, Ok, Err, refl, sym, ap, subst, ◌∙◌, ◌⊎◌, inl, inr, append_assoc, arith, length-append}
+use Rattle.std.proofs.Common.{◌≡◌, ℕ, true, ◌+◌, ◌-◌, ◌<◌, ◌≤◌, List, [], ◌∷◌, ◌++◌, length, Ok, Err, refl, sym, ap, ◌∙◌, ◌⊎◌, inl, inr, append_assoc, arith, length-append}
 use Rattle.std.specs.List.{All}
 use Rattle.std.proofs.lemmas.List.{append-nil}
-use Rattle.std.proofs.lemmas.List.Elements.{All-nil, All-cons, All-head, All-tail, All-push, All-append}
+use Rattle.std.proofs.lemmas.List.Elements.{All-head, All-tail, All-push}
 use Rattle.aps_model.specs.declared.entry.Entry.{Entry}
 use Rattle.aps_model.specs.Journal.{entry_line, journal_text, IsLine, IsJournal}
 use Rattle.aps_text.specs.Reader.{Reading}
 use Rattle.aps_text.specs.Line.{line_at}
 use Rattle.aps_text.specs.Place.{Place, place_after}
 use Rattle.aps_text.specs.Refusal.{BeginsJournal, IsBadNext, IsFirstBad}
-use Rattle.aps_text.proofs.Readers.{IsStuck, IsBegun, ok_parts}
+use Rattle.aps_text.proofs.Readers.{IsBegun, ok_parts}
 use Rattle.aps_text.proofs.Lines.{journal_text-push}
 use Rattle.aps_text.proofs.Entries.{SpellsLine, IsReader-line}
 use Rattle.aps_text.proofs.Places.{is_one_line, one_line_front, line_body, one_line_body, line_is, place_behind}
@@ -106,11 +106,14 @@ one_line_begun bytes rest front e parts (inr b) =
 begins_behind : (es : List Entry) (front : List ℕ) → All IsLine es → (front ≡ []) ⊎ IsBegun SpellsLine front → BeginsJournal (journal_text es ++ front)
 begins_behind es front h (inl none) =
     (es, [], record { lines = h; text = append-nil (journal_text es ++ front) ∙ ap (λ (t : List ℕ). journal_text es ++ t) none ∙ append-nil (journal_text es) })
-begins_behind es front h (inr b) =
-    (es ++ b.value ∷ [], b.more, record {
-      lines = All-push IsLine es b.value h b.spells.0;
-      text = append_assoc (journal_text es) front b.more ∙ ap (λ (t : List ℕ). journal_text es ++ t) (sym b.parts ∙ b.spells.1) ∙ sym (journal_text-push es b.value);
-    })
+begins_behind es front h (inr b) = (
+  es ++ b.value ∷ [],
+  b.more,
+  record {
+    lines = All-push IsLine es b.value h b.spells.0;
+    text = append_assoc (journal_text es) front b.more ∙ ap (λ (t : List ℕ). journal_text es ++ t) (sym b.parts ∙ b.spells.1) ∙ sym (journal_text-push es b.value);
+  },
+)
 
 bad_behind : (es : List Entry) (bytes rest front : List ℕ) → All IsLine es → (bytes ≡ [] → ⊥) → line_at bytes ≡ Err rest → bytes ≡ front ++ rest
     → ((x : ℕ) (xs ys : List ℕ) → rest ≡ x ∷ xs → line_at (front ++ x ∷ ys) ≡ Err (x ∷ ys)) → IsBadNext (journal_text es ++ front) rest

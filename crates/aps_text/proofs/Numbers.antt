@@ -1,11 +1,11 @@
 -- A number is read digit by digit: what was read so far is the text of a number.
-use Rattle.std.proofs.Common.{◌≡◌, ℕ, zero, suc, ◌+◌, ◌-◌, ◌*◌, ◌/◌, ◌%◌, ◌^◌, ◌<◌, ◌≤◌, Bool, true, false, cond, eqb, leb, ◌&&◌, List, [], ◌∷◌, ◌++◌, Result, Ok, Err, refl, sym, ap, subst, ◌∙◌, ◌⊎◌, inl, inr, append_assoc, arith}
-use Rattle.std.proofs.lemmas.Bool.{cases_Bool, true≢false, cond-true, cond-false, eqb-true, eqb-false, eq-eqb, ne_eqb, and_parts, and_from, leb-true, le-leb}
+use Rattle.std.proofs.Common.{◌≡◌, ℕ, zero, suc, ◌+◌, ◌-◌, ◌*◌, ◌/◌, ◌%◌, ◌^◌, ◌<◌, ◌≤◌, Bool, true, false, eqb, leb, ◌&&◌, List, [], ◌∷◌, ◌++◌, Ok, Err, refl, sym, ap, ◌∙◌, ◌⊎◌, inl, inr, append_assoc, arith}
+use Rattle.std.proofs.lemmas.Bool.{cases_Bool, true≢false, cond-true, eqb-true, eqb-false, eq-eqb, ne_eqb, and_parts, and_from, leb-true, le-leb}
 use Rattle.std.proofs.lemmas.Bool.Decides.{nat_tests}
 use Rattle.std.proofs.lemmas.Fmt.{decimal_digit, decimal_step, decimal_by_steps}
 use Rattle.std.specs.Fmt.{decimal}
 use Rattle.std.specs.Char.{is_ascii_digit}
-use Rattle.aps_text.specs.Reader.{◌>>=◌, Reading, word_at, whole_word, after, digits_at, number_at}
+use Rattle.aps_text.specs.Reader.{Reading, whole_word, digits_at, number_at}
 use Rattle.aps_text.proofs.Readers.{IsReader, IsStuck, IsFront, IsBegun, ok_parts, IsReader-word, SpellsWord, BeginsOther}
 
 -- one digit more
@@ -69,12 +69,12 @@ digits_take most stop value (c ∷ cs) n rest fits some within e =
           let same = ok_parts value cs n rest (sym (cond-true (eqb c stop) _ _ here) ∙ e) in
           (omega arith, rw (eqb-true c stop here, same.0, same.1, append_assoc) refl)
       | inr not_here ↦ elim (cases_Bool (goes_on most value c)) [
-          | inl goes ↦
-              let more = more_is most value c fits some goes in
-              let inner = digits_take most stop (value * 10 + (c - 48)) cs n rest fits more.0 more.1 (sym (at_digit most stop value c cs not_here goes) ∙ e) in
-              (inner.0, regroup value c (value * 10 + (c - 48)) cs more.2 ∙ inner.1)
-          | inr stays ↦ absurd (err_apart (c ∷ cs) (n, rest) (sym (at_other most stop value c cs not_here stays) ∙ e))
-        ]
+        | inl goes ↦
+            let more = more_is most value c fits some goes in
+            let inner = digits_take most stop (value * 10 + (c - 48)) cs n rest fits more.0 more.1 (sym (at_digit most stop value c cs not_here goes) ∙ e) in
+            (inner.0, regroup value c (value * 10 + (c - 48)) cs more.2 ∙ inner.1)
+        | inr stays ↦ absurd (err_apart (c ∷ cs) (n, rest) (sym (at_other most stop value c cs not_here stays) ∙ e))
+      ]
     ]
 
 -- where no digit fits: the digits before are a number of the kind
@@ -98,20 +98,20 @@ digits_stuck most stop value (c ∷ cs) rest fits some within e =
     elim (cases_Bool (eqb c stop)) [
       | inl here ↦ absurd (err_apart rest (value, cs) (sym e ∙ cond-true (eqb c stop) _ _ here))
       | inr not_here ↦ elim (cases_Bool (goes_on most value c)) [
-          | inl goes ↦
-              let more = more_is most value c fits some goes in
-              let inner = digits_stuck most stop (value * 10 + (c - 48)) cs rest fits more.0 more.1 (sym (at_digit most stop value c cs not_here goes) ∙ e) in
-              record { n = inner.n; some = inner.some; within = inner.within; parts = regroup value c (value * 10 + (c - 48)) cs more.2 ∙ inner.parts; local = inner.local }
-          | inr stays ↦
-              let same : c ∷ cs ≡ rest = err_is (c ∷ cs) rest (sym (at_other most stop value c cs not_here stays) ∙ e) in
-              record {
-                n = value;
-                some = some;
-                within = within;
-                parts = ap (λ (t : List ℕ). decimal value ++ t) same;
-                local = λ x xs ys h. stays_stuck most stop value c cs not_here stays x xs ys (same ∙ h);
-              }
-        ]
+        | inl goes ↦
+            let more = more_is most value c fits some goes in
+            let inner = digits_stuck most stop (value * 10 + (c - 48)) cs rest fits more.0 more.1 (sym (at_digit most stop value c cs not_here goes) ∙ e) in
+            record { n = inner.n; some = inner.some; within = inner.within; parts = regroup value c (value * 10 + (c - 48)) cs more.2 ∙ inner.parts; local = inner.local }
+        | inr stays ↦
+            let same : c ∷ cs ≡ rest = err_is (c ∷ cs) rest (sym (at_other most stop value c cs not_here stays) ∙ e) in
+            record {
+              n = value;
+              some = some;
+              within = within;
+              parts = ap (λ (t : List ℕ). decimal value ++ t) same;
+              local = λ x xs ys h. stays_stuck most stop value c cs not_here stays x xs ys (same ∙ h);
+            }
+      ]
     ]
 
 -- ---- from the first digit on
@@ -150,11 +150,11 @@ digits_again : (most stop : ℕ) → most < 2 ^ 64 → is_ascii_digit stop ≡ f
 digits_again most stop fits plain n some within =
     let Leads : ℕ → List ℕ → Type 0 = λ n ds. 0 < n → n ≤ most → (bytes : List ℕ) → number_at most stop (ds ++ bytes) ≡ digits_at most stop n bytes in
     decimal_by_steps Leads
-      (λ n small some within bytes. one_digit most stop n bytes small some within)
-      (λ n ds large so_far some within bytes.
-        let grouped : (ds ++ (48 + n % 10) ∷ []) ++ bytes ≡ ds ++ (48 + n % 10) ∷ bytes = append_assoc ds ((48 + n % 10) ∷ []) bytes in
-        ap (number_at most stop) grouped ∙ so_far (omega arith) (omega arith) ((48 + n % 10) ∷ bytes) ∙ last_digit most stop n bytes plain within)
-      n (omega arith) some within
+    (λ n small some within bytes. one_digit most stop n bytes small some within)
+    (λ n ds large so_far some within bytes.
+    let grouped : (ds ++ (48 + n % 10) ∷ []) ++ bytes ≡ ds ++ (48 + n % 10) ∷ bytes = append_assoc ds ((48 + n % 10) ∷ []) bytes in
+    ap (number_at most stop) grouped ∙ so_far (omega arith) (omega arith) ((48 + n % 10) ∷ bytes) ∙ last_digit most stop n bytes plain within)
+    n (omega arith) some within
 
 -- ---- the reader
 
@@ -194,15 +194,15 @@ number_takes most stop fits (c ∷ cs) n rest e =
           let t = zero_takes most stop cs n rest (sym (cond-true (eqb c 48) _ _ zero_is) ∙ e) in
           record { text = t.text; spells = t.spells; parts = ap (λ (d : ℕ). d ∷ cs) same ∙ t.parts }
       | inr nonzero ↦ elim (cases_Bool (is_ascii_digit c && leb (c - 48) most)) [
-          | inl first ↦
-              let parts = and_parts (is_ascii_digit c) (leb (c - 48) most) first in
-              let bounds = digit_bounds c parts.0 in
-              let some : 0 < c - 48 = omega (arith, eqb-false c 48 nonzero) in
-              let within = leb-true (c - 48) most parts.1 in
-              let t = digits_take most stop (c - 48) cs n rest fits some within (sym (at_first most stop c cs some parts.0 within) ∙ e) in
-              record { text = decimal n ++ stop ∷ []; spells = (refl, t.0); parts = first_byte c cs bounds.0 bounds.1 ∙ t.1 }
-          | inr other ↦ absurd (err_apart (c ∷ cs) (n, rest) (sym (no_digit most stop c cs nonzero other) ∙ e))
-        ]
+        | inl first ↦
+            let parts = and_parts (is_ascii_digit c) (leb (c - 48) most) first in
+            let bounds = digit_bounds c parts.0 in
+            let some : 0 < c - 48 = omega (arith, eqb-false c 48 nonzero) in
+            let within = leb-true (c - 48) most parts.1 in
+            let t = digits_take most stop (c - 48) cs n rest fits some within (sym (at_first most stop c cs some parts.0 within) ∙ e) in
+            record { text = decimal n ++ stop ∷ []; spells = (refl, t.0); parts = first_byte c cs bounds.0 bounds.1 ∙ t.1 }
+        | inr other ↦ absurd (err_apart (c ∷ cs) (n, rest) (sym (no_digit most stop c cs nonzero other) ∙ e))
+      ]
     ]
 
 zero_begun : (most stop : ℕ) (front : List ℕ) → (front ≡ []) ⊎ IsBegun {A = ℕ} (SpellsWord (stop ∷ []) 0) front → IsBegun (SpellsNumber most stop) (48 ∷ front)
@@ -232,22 +232,22 @@ number_stuck most stop fits plain (c ∷ cs) rest e =
           let s = zero_stuck most stop cs rest (sym (cond-true (eqb c 48) _ _ zero_is) ∙ e) in
           record { front = s.front; parts = ap (λ (d : ℕ). d ∷ cs) same ∙ s.parts; begun = s.begun; local = s.local }
       | inr nonzero ↦ elim (cases_Bool (is_ascii_digit c && leb (c - 48) most)) [
-          | inl first ↦
-              let parts = and_parts (is_ascii_digit c) (leb (c - 48) most) first in
-              let bounds = digit_bounds c parts.0 in
-              let some : 0 < c - 48 = omega (arith, eqb-false c 48 nonzero) in
-              let within = leb-true (c - 48) most parts.1 in
-              let s = digits_stuck most stop (c - 48) cs rest fits some within (sym (at_first most stop c cs some parts.0 within) ∙ e) in
-              record {
-                front = decimal s.n;
-                parts = first_byte c cs bounds.0 bounds.1 ∙ s.parts;
-                begun = inr (record { text = decimal s.n ++ stop ∷ []; value = s.n; more = stop ∷ []; spells = (refl, s.within); parts = refl });
-                local = λ x xs ys h. digits_again most stop fits plain s.n s.some s.within (x ∷ ys) ∙ s.local x xs ys h;
-              }
-          | inr other ↦
-              let same : c ∷ cs ≡ rest = err_is (c ∷ cs) rest (sym (no_digit most stop c cs nonzero other) ∙ e) in
-              record { front = []; parts = same; begun = inl refl; local = λ x xs ys h. no_digit_there most stop c cs nonzero other x xs ys (same ∙ h) }
-        ]
+        | inl first ↦
+            let parts = and_parts (is_ascii_digit c) (leb (c - 48) most) first in
+            let bounds = digit_bounds c parts.0 in
+            let some : 0 < c - 48 = omega (arith, eqb-false c 48 nonzero) in
+            let within = leb-true (c - 48) most parts.1 in
+            let s = digits_stuck most stop (c - 48) cs rest fits some within (sym (at_first most stop c cs some parts.0 within) ∙ e) in
+            record {
+              front = decimal s.n;
+              parts = first_byte c cs bounds.0 bounds.1 ∙ s.parts;
+              begun = inr (record { text = decimal s.n ++ stop ∷ []; value = s.n; more = stop ∷ []; spells = (refl, s.within); parts = refl });
+              local = λ x xs ys h. digits_again most stop fits plain s.n s.some s.within (x ∷ ys) ∙ s.local x xs ys h;
+            }
+        | inr other ↦
+            let same : c ∷ cs ≡ rest = err_is (c ∷ cs) rest (sym (no_digit most stop c cs nonzero other) ∙ e) in
+            record { front = []; parts = same; begun = inl refl; local = λ x xs ys h. no_digit_there most stop c cs nonzero other x xs ys (same ∙ h) }
+      ]
     ]
 
 pub IsReader-number : (most stop : ℕ) → most < 2 ^ 64 → is_ascii_digit stop ≡ false → IsReader (number_at most stop) (SpellsNumber most stop)
@@ -270,9 +270,9 @@ pub first_digit : (n : ℕ) → n < 2 ^ 64 → BeginsWithDigit (decimal n)
 first_digit n fits =
     let Begins : ℕ → List ℕ → Type 0 = λ n ds. BeginsWithDigit ds in
     decimal_by_steps Begins
-      (λ n small. record { digit = 48 + n; others = []; low = omega arith; high = omega arith; parts = refl })
-      (λ n ds large h. record { digit = h.digit; others = h.others ++ (48 + n % 10) ∷ []; low = h.low; high = h.high; parts = ap (λ (t : List ℕ). t ++ (48 + n % 10) ∷ []) h.parts })
-      n fits
+    (λ n small. record { digit = 48 + n; others = []; low = omega arith; high = omega arith; parts = refl })
+    (λ n ds large h. record { digit = h.digit; others = h.others ++ (48 + n % 10) ∷ []; low = h.low; high = h.high; parts = ap (λ (t : List ℕ). t ++ (48 + n % 10) ∷ []) h.parts })
+    n fits
 
 pub number_begins_other : (byte most stop : ℕ) → most < 2 ^ 64 → (byte < 48) ⊎ (57 < byte) → BeginsOther byte (SpellsNumber most stop)
 number_begins_other byte most stop fits (inl low) text n h =

@@ -1,6 +1,6 @@
 -- What an operation did is read byte by byte, along the tree of its words.
 use lib.Chars.{codes}
-use Rattle.std.proofs.Common.{◌≡◌, ℕ, ◌+◌, ◌/◌, ◌%◌, ◌^◌, ◌<◌, ◌≤◌, Bool, true, false, List, [], ◌∷◌, ◌++◌, Option, Some, None, Result, Ok, Err, refl, sym, ap, subst, ◌∙◌, ◌⊎◌, inl, inr, append_assoc, arith}
+use Rattle.std.proofs.Common.{◌≡◌, ℕ, ◌<◌, ◌≤◌, List, [], ◌∷◌, ◌++◌, Some, refl, sym, ap, subst, ◌∙◌, inl, inr, append_assoc, arith}
 use Rattle.std.specs.Prelude.{IfSome}
 use Rattle.std.specs.Fmt.{decimal}
 use Rattle.aps_model.specs.declared.entry.Done.{Done}
@@ -97,8 +97,8 @@ SpellsCritical = SpellsBehind (codes "ritical:o") (SpellsAfter 110 (SpellsWord (
 part_critical : IsPart (codes "c") critical_at SpellsCritical
 part_critical =
     part_behind (codes "c") (codes "ritical:o") _ _
-      (part_after (codes "critical:o") 110 _ _ _ _ (part_word (codes "critical:on") (codes " ") CriticalOn refl tt) (part_word (codes "critical:o") (codes "ff ") CriticalOff refl tt)
-        (word_begins_other 110 102 (codes "f ") CriticalOff (λ e. omega arith)))
+    (part_after (codes "critical:o") 110 _ _ _ _ (part_word (codes "critical:on") (codes " ") CriticalOn refl tt) (part_word (codes "critical:o") (codes "ff ") CriticalOff refl tt)
+    (word_begins_other 110 102 (codes "f ") CriticalOff (λ e. omega arith)))
 
 abbrev SpellsJoin : List ℕ → Done → Type 0
 SpellsJoin = SpellsBehind (codes "oin") (SpellsAfter 58 (SpellsWord (codes "none ") JoinNone) (SpellsWord (codes " ") Join))
@@ -106,8 +106,8 @@ SpellsJoin = SpellsBehind (codes "oin") (SpellsAfter 58 (SpellsWord (codes "none
 part_join : IsPart (codes "j") join_at SpellsJoin
 part_join =
     part_behind (codes "j") (codes "oin") _ _
-      (part_after (codes "join") 58 _ _ _ _ (part_word (codes "join:") (codes "none ") JoinNone refl tt) (part_word (codes "join") (codes " ") Join refl tt)
-        (word_begins_other 58 32 [] Join (λ e. omega arith)))
+    (part_after (codes "join") 58 _ _ _ _ (part_word (codes "join:") (codes "none ") JoinNone refl tt) (part_word (codes "join") (codes " ") Join refl tt)
+    (word_begins_other 58 32 [] Join (λ e. omega arith)))
 
 abbrev SpellsSend : List ℕ → Done → Type 0
 SpellsSend = SpellsBehind (codes "end:") (SpellsAfter 98 (SpellsWord (codes "locked ") SendBlocked) (SpellsNamed SendTo))
@@ -115,8 +115,8 @@ SpellsSend = SpellsBehind (codes "end:") (SpellsAfter 98 (SpellsWord (codes "loc
 part_send : IsPart (codes "s") send_at SpellsSend
 part_send =
     part_behind (codes "s") (codes "end:") _ _
-      (part_after (codes "send:") 98 _ _ _ _ (part_word (codes "send:b") (codes "locked ") SendBlocked refl tt)
-        (part_named (codes "send:") SendTo (record { text = λ n. refl; thread = λ n. refl })) (named_begins_other 98 SendTo (omega arith)))
+    (part_after (codes "send:") 98 _ _ _ _ (part_word (codes "send:b") (codes "locked ") SendBlocked refl tt)
+    (part_named (codes "send:") SendTo (record { text = λ n. refl; thread = λ n. refl })) (named_begins_other 98 SendTo (omega arith)))
 
 abbrev SpellsHeld : List ℕ → Done → Type 0
 SpellsHeld = SpellsAfter 104 (SpellsBehind (codes "olding:") (SpellsNamed ReceiveHolding)) (SpellsNamed ReceiveGot)
@@ -127,11 +127,11 @@ SpellsReceive = SpellsBehind (codes "eive:") (SpellsAfter 98 (SpellsWord (codes 
 part_receive : IsPart (codes "rec") receive_at SpellsReceive
 part_receive =
     part_behind (codes "rec") (codes "eive:") _ _
-      (part_after (codes "receive:") 98 _ _ _ SpellsHeld (part_word (codes "receive:b") (codes "locked ") ReceiveBlocked refl tt)
-        (part_after (codes "receive:") 104 _ _ _ _
-          (part_behind (codes "receive:h") (codes "olding:") _ _ (part_named (codes "receive:holding:") ReceiveHolding (record { text = λ n. refl; thread = λ n. refl })))
-          (part_named (codes "receive:") ReceiveGot (record { text = λ n. refl; thread = λ n. refl })) (named_begins_other 104 ReceiveGot (omega arith)))
-        (after_begins_other 98 104 _ _ (λ e. omega arith) (named_begins_other 98 ReceiveGot (omega arith))))
+    (part_after (codes "receive:") 98 _ _ _ SpellsHeld (part_word (codes "receive:b") (codes "locked ") ReceiveBlocked refl tt)
+    (part_after (codes "receive:") 104 _ _ _ _
+    (part_behind (codes "receive:h") (codes "olding:") _ _ (part_named (codes "receive:holding:") ReceiveHolding (record { text = λ n. refl; thread = λ n. refl })))
+    (part_named (codes "receive:") ReceiveGot (record { text = λ n. refl; thread = λ n. refl })) (named_begins_other 104 ReceiveGot (omega arith)))
+    (after_begins_other 98 104 _ _ (λ e. omega arith) (named_begins_other 98 ReceiveGot (omega arith))))
 
 abbrev SpellsRepeat : List ℕ → Done → Type 0
 SpellsRepeat = SpellsAfter 108 (SpellsBehind (codes "y:") (SpellsAfter 110 (SpellsWord (codes "one ") ReplyNoClient) (SpellsNamed ReplyFreed))) (SpellsWord (codes "eat ") Repeat)
@@ -139,11 +139,11 @@ SpellsRepeat = SpellsAfter 108 (SpellsBehind (codes "y:") (SpellsAfter 110 (Spel
 part_repeat : IsPart (codes "rep") repeat_at SpellsRepeat
 part_repeat =
     part_after (codes "rep") 108 _ _ _ _
-      (part_behind (codes "repl") (codes "y:") _ _
-        (part_after (codes "reply:") 110 _ _ _ _ (part_word (codes "reply:n") (codes "one ") ReplyNoClient refl tt)
-          (part_named (codes "reply:") ReplyFreed (record { text = λ n. refl; thread = λ n. refl })) (named_begins_other 110 ReplyFreed (omega arith))))
-      (part_word (codes "rep") (codes "eat ") Repeat refl tt)
-      (word_begins_other 108 101 (codes "at ") Repeat (λ e. omega arith))
+    (part_behind (codes "repl") (codes "y:") _ _
+    (part_after (codes "reply:") 110 _ _ _ _ (part_word (codes "reply:n") (codes "one ") ReplyNoClient refl tt)
+    (part_named (codes "reply:") ReplyFreed (record { text = λ n. refl; thread = λ n. refl })) (named_begins_other 110 ReplyFreed (omega arith))))
+    (part_word (codes "rep") (codes "eat ") Repeat refl tt)
+    (word_begins_other 108 101 (codes "at ") Repeat (λ e. omega arith))
 
 abbrev SpellsRun : List ℕ → Done → Type 0
 SpellsRun = SpellsAfter 117 (SpellsWord (codes "n ") Run) (SpellsBehind (codes "e") (SpellsAfter 99 SpellsReceive (SpellsBehind (codes "p") SpellsRepeat)))
@@ -151,10 +151,10 @@ SpellsRun = SpellsAfter 117 (SpellsWord (codes "n ") Run) (SpellsBehind (codes "
 part_run : IsPart (codes "r") run_at SpellsRun
 part_run =
     part_after (codes "r") 117 _ _ _ _ (part_word (codes "ru") (codes "n ") Run refl tt)
-      (part_behind (codes "r") (codes "e") _ _
-        (part_after (codes "re") 99 _ _ SpellsReceive _ part_receive (part_behind (codes "re") (codes "p") _ SpellsRepeat part_repeat)
-          (behind_begins_other 99 112 [] SpellsRepeat (λ e. omega arith))))
-      (behind_begins_other 117 101 [] _ (λ e. omega arith))
+    (part_behind (codes "r") (codes "e") _ _
+    (part_after (codes "re") 99 _ _ SpellsReceive _ part_receive (part_behind (codes "re") (codes "p") _ SpellsRepeat part_repeat)
+    (behind_begins_other 99 112 [] SpellsRepeat (λ e. omega arith))))
+    (behind_begins_other 117 101 [] _ (λ e. omega arith))
 
 abbrev SpellsFromY : List ℕ → Done → Type 0
 SpellsFromY = SpellsAfter 121 (SpellsWord (codes "ield ") Yield) (λ text done. ⊥)
@@ -204,20 +204,20 @@ c_other byte low = after_begins_other byte 99 SpellsCritical SpellsFromE (λ e. 
 part_done : IsPart [] done_at SpellsTree
 part_done =
     part_after [] 45 _ _ _ SpellsFromC (part_word (codes "-") (codes " ") Nothing refl tt)
-      (part_after [] 99 _ _ SpellsCritical SpellsFromE part_critical
-        (part_after [] 101 _ _ _ SpellsFromJ (part_word (codes "e") (codes "xit ") Exit refl tt)
-          (part_after [] 106 _ _ SpellsJoin SpellsFromP part_join
-            (part_after [] 112 _ _ _ SpellsFromR (part_word (codes "p") (codes "riority ") Priority refl tt)
-              (part_after [] 114 _ _ SpellsRun SpellsFromS part_run
-                (part_after [] 115 _ _ SpellsSend SpellsFromY part_send
-                  (part_last [] 121 _ _ (part_word (codes "y") (codes "ield ") Yield refl tt))
-                  (y_other 115 (omega arith)))
-                (s_other 114 (omega arith)))
-              (r_other 112 (omega arith)))
-            (p_other 106 (omega arith)))
-          (j_other 101 (omega arith)))
-        (e_other 99 (omega arith)))
-      (c_other 45 (omega arith))
+    (part_after [] 99 _ _ SpellsCritical SpellsFromE part_critical
+    (part_after [] 101 _ _ _ SpellsFromJ (part_word (codes "e") (codes "xit ") Exit refl tt)
+    (part_after [] 106 _ _ SpellsJoin SpellsFromP part_join
+    (part_after [] 112 _ _ _ SpellsFromR (part_word (codes "p") (codes "riority ") Priority refl tt)
+    (part_after [] 114 _ _ SpellsRun SpellsFromS part_run
+    (part_after [] 115 _ _ SpellsSend SpellsFromY part_send
+    (part_last [] 121 _ _ (part_word (codes "y") (codes "ield ") Yield refl tt))
+    (y_other 115 (omega arith)))
+    (s_other 114 (omega arith)))
+    (r_other 112 (omega arith)))
+    (p_other 106 (omega arith)))
+    (j_other 101 (omega arith)))
+    (e_other 99 (omega arith)))
+    (c_other 45 (omega arith))
 
 -- where each operation's text stands in the tree
 in_run : (text s : List ℕ) (done : Done) → text ≡ 114 ∷ s → SpellsRun s done → SpellsTree text done

@@ -1,11 +1,10 @@
 -- A number or '-', and the mark of critical time.
 use lib.Chars.{codes}
-use Rattle.std.proofs.Common.{◌≡◌, ℕ, ◌^◌, ◌<◌, ◌≤◌, Bool, true, false, cond, List, [], ◌∷◌, ◌++◌, Option, Some, None, Ok, refl, ap, ◌∙◌, ◌⊎◌, inl, inr, arith}
+use Rattle.std.proofs.Common.{◌≡◌, ℕ, ◌^◌, ◌<◌, ◌≤◌, Bool, true, false, List, [], ◌∷◌, ◌++◌, Option, Some, None, Ok, refl, inl, inr, arith}
 use Rattle.std.specs.Prelude.{IfSome, if◌then◌else◌}
-use Rattle.std.specs.Fmt.{decimal}
 use Rattle.std.specs.Char.{is_ascii_digit}
 use Rattle.aps_model.specs.Journal.{option_text}
-use Rattle.aps_text.specs.Reader.{◌>>=◌, Reading, whole_word, after, number_at}
+use Rattle.aps_text.specs.Reader.{◌>>=◌, whole_word, number_at}
 use Rattle.aps_text.specs.Fields.{option_at, mark_at}
 use Rattle.aps_text.proofs.Readers.{IsReader, SpellsAfter, SpellsWord, SpellsMade, IsReader-after, IsReader-word, IsReader-made, IsReader-restated, made_begins_other, word_begins_other}
 use Rattle.aps_text.proofs.Numbers.{SpellsNumber, IsReader-number, number_begins_other}
@@ -40,8 +39,8 @@ IsReader-option most stop fits plain =
     let some = IsReader-made Some (number_at most stop) (SpellsNumber most stop) (IsReader-number most stop fits plain) in
     let apart = made_begins_other 45 Some (SpellsNumber most stop) (number_begins_other 45 most stop fits (inl (omega arith))) in
     IsReader-restated (option_at most stop) (SpellsEither most stop) (SpellsOption most stop) (option_to most stop) (option_from most stop)
-      (IsReader-after 45 (whole_word (stop ∷ []) None) (λ (bytes : List ℕ). number_at most stop bytes >>= λ n. Ok (Some n.0, n.1)) (SpellsWord (stop ∷ []) None) (SpellsSome most stop)
-        (IsReader-word (stop ∷ []) None) (stop ∷ [], None, (refl, refl)) some apart)
+    (IsReader-after 45 (whole_word (stop ∷ []) None) (λ (bytes : List ℕ). number_at most stop bytes >>= λ n. Ok (Some n.0, n.1)) (SpellsWord (stop ∷ []) None) (SpellsSome most stop)
+    (IsReader-word (stop ∷ []) None) (stop ∷ [], None, (refl, refl)) some apart)
 
 -- ---- the mark
 
@@ -71,5 +70,5 @@ mark_from text false h = inr (h, refl)
 pub IsReader-mark : IsReader mark_at SpellsMark
 IsReader-mark =
     IsReader-restated mark_at SpellsEitherMark SpellsMark mark_to mark_from
-      (IsReader-after 99 (whole_word (codes " ") true) (whole_word (codes "- ") false) (SpellsWord (codes " ") true) (SpellsWord (codes "- ") false)
-        (IsReader-word (codes " ") true) (codes " ", true, (refl, refl)) (IsReader-word (codes "- ") false) (word_begins_other 99 45 (codes " ") false (λ e. omega arith)))
+    (IsReader-after 99 (whole_word (codes " ") true) (whole_word (codes "- ") false) (SpellsWord (codes " ") true) (SpellsWord (codes "- ") false)
+    (IsReader-word (codes " ") true) (codes " ", true, (refl, refl)) (IsReader-word (codes "- ") false) (word_begins_other 99 45 (codes " ") false (λ e. omega arith)))

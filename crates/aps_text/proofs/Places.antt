@@ -1,6 +1,6 @@
 -- A line has one newline, at its end: so lines count the entries, and columns start again behind each.
 use lib.Chars.{codes}
-use Rattle.std.proofs.Common.{◌≡◌, ℕ, suc, ◌+◌, ◌/◌, ◌%◌, ◌^◌, ◌<◌, ◌≤◌, Bool, true, false, not, cond, eqb, ◌&&◌, List, [], ◌∷◌, ◌++◌, length, Option, Some, None, fold, refl, sym, ap, ◌∙◌, arith, length-append}
+use Rattle.std.proofs.Common.{◌≡◌, ℕ, suc, ◌+◌, ◌%◌, ◌^◌, ◌<◌, ◌≤◌, Bool, true, false, not, eqb, List, [], ◌∷◌, ◌++◌, length, Option, Some, None, fold, refl, sym, ap, ◌∙◌, arith}
 use Rattle.std.specs.Prelude.{IfSome}
 use Rattle.std.specs.Fmt.{decimal}
 use Rattle.std.specs.List.{All, list_all, join_with_byte}
@@ -33,7 +33,7 @@ one_line_digit d = rw (ne_eqb (48 + d) 10 (λ e. omega arith)) refl
 one_line_number : (n : ℕ) → n < 2 ^ 64 → is_one_line (decimal n) ≡ true
 one_line_number n fits =
     decimal_by_steps (λ (n : ℕ) (ds : List ℕ). is_one_line ds ≡ true) (λ n small. one_line_digit n)
-      (λ n ds large h. one_line_both ds ((48 + n % 10) ∷ []) h (one_line_digit (n % 10))) n fits
+    (λ n ds large h. one_line_both ds ((48 + n % 10) ∷ []) h (one_line_digit (n % 10))) n fits
 
 one_line_option : (o : Option ℕ) → IfSome o (λ n. n < 2 ^ 64) → is_one_line (option_text o) ≡ true
 one_line_option None h = refl
@@ -120,7 +120,7 @@ over_lines [] line h = same_line line (line + 0) (omega arith)
 over_lines (e ∷ es) line h =
     let start : Place = record { line = line; column = 1 } in
     fold-append next_place start (entry_line e) (journal_text es) ∙ ap (λ (p : Place). fold next_place p (journal_text es)) (over_line e line (All-head IsLine e es h))
-      ∙ over_lines es (line + 1) (All-tail IsLine e es h) ∙ same_line (line + 1 + length es) (line + suc (length es)) (omega arith)
+    ∙ over_lines es (line + 1) (All-tail IsLine e es h) ∙ same_line (line + 1 + length es) (line + suc (length es)) (omega arith)
 
 -- behind these lines and a part of the next
 pub place_behind : (es : List Entry) (front : List ℕ) → All IsLine es → is_one_line front ≡ true → place_after (journal_text es ++ front) ≡ record { line = 1 + length es; column = 1 + length front }

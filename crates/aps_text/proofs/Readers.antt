@@ -1,5 +1,5 @@
 -- What a reader reads: the texts of its kind, each of them, and as far as a text of the kind goes.
-use Rattle.std.proofs.Common.{◌≡◌, ℕ, Bool, true, false, cond, eqb, List, [], ◌∷◌, ◌++◌, Result, Ok, Err, refl, sym, ap, subst, ◌∙◌, ◌⊎◌, inl, inr, append_assoc, arith}
+use Rattle.std.proofs.Common.{◌≡◌, ℕ, Bool, true, false, cond, eqb, List, [], ◌∷◌, ◌++◌, Result, Ok, Err, refl, sym, ap, subst, ◌∙◌, ◌⊎◌, inl, inr, append_assoc}
 use Rattle.std.proofs.lemmas.Bool.{cases_Bool, cond-true, cond-false, eqb-true, eqb-false, eq-eqb, ne_eqb}
 use Rattle.std.proofs.lemmas.List.{append-nil}
 use Rattle.aps_text.specs.Reader.{◌>>=◌, Reading, word_at, whole_word, after, nothing_at}
@@ -41,8 +41,8 @@ IsReader-same read twin Spells same r = record {
   again = λ text value rest h. sym (same (text ++ rest)) ∙ r.again text value rest h;
   takes = λ bytes value rest e. r.takes bytes value rest (same bytes ∙ e);
   stuck = λ bytes rest e.
-    let s = r.stuck bytes rest (same bytes ∙ e) in
-    record { front = s.front; parts = s.parts; begun = s.begun; local = λ x xs ys h. sym (same (s.front ++ x ∷ ys)) ∙ s.local x xs ys h };
+      let s = r.stuck bytes rest (same bytes ∙ e) in
+      record { front = s.front; parts = s.parts; begun = s.begun; local = λ x xs ys h. sym (same (s.front ++ x ∷ ys)) ∙ s.local x xs ys h };
 }
 
 IsBegun-restated : {A : Type 0} (Spells Says : List ℕ → A → Type 0) (front : List ℕ) → ((text : List ℕ) (value : A) → Spells text value → Says text value) → (front ≡ []) ⊎ IsBegun Spells front → (front ≡ []) ⊎ IsBegun Says front
@@ -54,11 +54,11 @@ pub IsReader-restated : {A : Type 0} (read : List ℕ → Reading A) (Spells Say
 IsReader-restated read Spells Says to from r = record {
   again = λ text value rest h. r.again text value rest (from text value h);
   takes = λ bytes value rest e.
-    let t = r.takes bytes value rest e in
-    record { text = t.text; spells = to t.text value t.spells; parts = t.parts };
+      let t = r.takes bytes value rest e in
+      record { text = t.text; spells = to t.text value t.spells; parts = t.parts };
   stuck = λ bytes rest e.
-    let s = r.stuck bytes rest e in
-    record { front = s.front; parts = s.parts; begun = IsBegun-restated Spells Says s.front to s.begun; local = s.local };
+      let s = r.stuck bytes rest e in
+      record { front = s.front; parts = s.parts; begun = IsBegun-restated Spells Says s.front to s.begun; local = s.local };
 }
 
 -- ---- what an answer says
@@ -111,8 +111,8 @@ pub IsReader-value : {A : Type 0} (v : A) → IsReader (λ (rest : List ℕ). Ok
 IsReader-value v = record {
   again = λ text value rest h. rw (h.0, h.1) refl;
   takes = λ bytes value rest e.
-    let same = ok_parts v bytes value rest e in
-    record { text = []; spells = (refl, sym same.0); parts = same.1 };
+      let same = ok_parts v bytes value rest e in
+      record { text = []; spells = (refl, sym same.0); parts = same.1 };
   stuck = λ bytes rest e. absurd cc;
 }
 
@@ -234,7 +234,7 @@ IsReader-behind {A} (w ∷ word) read Spells r some =
     let alive : IsInhabited (SpellsBehind word Spells) = (word ++ some.0, some.1, (some.0, refl, some.2)) in
     let by_byte = IsReader-after w (λ (bytes : List ℕ). word_at word bytes >>= read) nothing_at (SpellsBehind word Spells) (λ t v. ⊥) inner alive IsReader-nothing (λ text value h. absurd h) in
     IsReader-same _ _ _ (word_is w word read)
-      (IsReader-restated _ _ (SpellsBehind (w ∷ word) Spells) (behind_to w word Spells) (λ text value h. inl (word ++ h.0, h.1, (h.0, refl, h.2))) by_byte)
+    (IsReader-restated _ _ (SpellsBehind (w ∷ word) Spells) (behind_to w word Spells) (λ text value h. inl (word ++ h.0, h.1, (h.0, refl, h.2))) by_byte)
 
 -- ---- a word that stands for a value
 
@@ -244,9 +244,9 @@ SpellsWord word v text value = (text ≡ word) × (value ≡ v)
 pub IsReader-word : {A : Type 0} (word : List ℕ) (v : A) → IsReader (whole_word word v) (SpellsWord word v)
 IsReader-word word v =
     IsReader-restated (whole_word word v) (SpellsBehind word (SpellsNothing v)) (SpellsWord word v)
-      (λ text value h. (h.1 ∙ ap (λ (t : List ℕ). word ++ t) h.2.0 ∙ append-nil word, h.2.1))
-      (λ text value h. ([], h.0 ∙ sym (append-nil word), (refl, h.1)))
-      (IsReader-behind word (λ (rest : List ℕ). Ok (v, rest)) (SpellsNothing v) (IsReader-value v) ([], v, (refl, refl)))
+    (λ text value h. (h.1 ∙ ap (λ (t : List ℕ). word ++ t) h.2.0 ∙ append-nil word, h.2.1))
+    (λ text value h. ([], h.0 ∙ sym (append-nil word), (refl, h.1)))
+    (IsReader-behind word (λ (rest : List ℕ). Ok (v, rest)) (SpellsNothing v) (IsReader-value v) ([], v, (refl, refl)))
 
 -- ---- one reader after the other
 
@@ -309,8 +309,8 @@ stuck_both {A = A} first second First Second r q some bytes rest e =
             parts = t.parts ∙ ap (λ (u : List ℕ). t.text ++ u) s.parts ∙ sym (append_assoc t.text s.front rest);
             begun = inr (begun_second First Second t.text s.front x.0 t.spells (some x.0) s.begun);
             local = λ y xs ys h.
-              let grouped : (t.text ++ s.front) ++ y ∷ ys ≡ t.text ++ (s.front ++ y ∷ ys) = append_assoc t.text s.front (y ∷ ys) in
-              ap (λ (u : List ℕ). first u >>= second) grouped ∙ ap (λ (x : Reading A). x >>= second) (r.again t.text x.0 (s.front ++ y ∷ ys) t.spells) ∙ s.local y xs ys h;
+                let grouped : (t.text ++ s.front) ++ y ∷ ys ≡ t.text ++ (s.front ++ y ∷ ys) = append_assoc t.text s.front (y ∷ ys) in
+                ap (λ (u : List ℕ). first u >>= second) grouped ∙ ap (λ (x : Reading A). x >>= second) (r.again t.text x.0 (s.front ++ y ∷ ys) t.spells) ∙ s.local y xs ys h;
           }
     ]
 
@@ -349,9 +349,9 @@ IsReader-made {A = A} {B = B} make read Spells r =
     let second : A × List ℕ → Reading B = λ x. Ok (make x.0, x.1) in
     let Second : A → List ℕ → B → Type 0 = λ a. SpellsNothing (make a) in
     IsReader-restated (λ (bytes : List ℕ). read bytes >>= second) (SpellsBoth Spells Second) (SpellsMade make Spells)
-      (λ text value h. (h.2, subst (λ (t : List ℕ). Spells t h.2) (sym (h.3 ∙ ap (λ (u : List ℕ). h.0 ++ u) h.5.0 ∙ append-nil h.0)) h.4, h.5.1))
-      (λ text value h. (text, [], h.0, sym (append-nil text), h.1, (refl, h.2)))
-      (IsReader-both read second Spells Second r (λ a. IsReader-value (make a)) (λ a. ([], make a, (refl, refl))))
+    (λ text value h. (h.2, subst (λ (t : List ℕ). Spells t h.2) (sym (h.3 ∙ ap (λ (u : List ℕ). h.0 ++ u) h.5.0 ∙ append-nil h.0)) h.4, h.5.1))
+    (λ text value h. (text, [], h.0, sym (append-nil text), h.1, (refl, h.2)))
+    (IsReader-both read second Spells Second r (λ a. IsReader-value (make a)) (λ a. ([], make a, (refl, refl))))
 
 -- ---- other first bytes
 

@@ -1,6 +1,6 @@
 -- Where texts written by hand are bad, as the definitions compute it.
 use lib.Chars.{codes}
-use Rattle.std.proofs.Common.{◌≡◌, ℕ, Bool, true, false, List, ◌++◌, Option, Some, None, refl}
+use Rattle.std.proofs.Common.{◌≡◌, ℕ, true, false, Option, Some, None, refl}
 use Rattle.aps_text.specs.Line.{line_at}
 use Rattle.aps_text.specs.Place.{Place}
 use Rattle.aps_text.specs.Whole.{begins_journal, first_bad_place}

@@ -1,5 +1,5 @@
 -- What reading a whole text computes, in the words of the grammar.
-use Rattle.std.proofs.Common.{◌≡◌, ℕ, zero, suc, ◌+◌, ◌-◌, ◌<◌, ◌≤◌, Bool, true, false, List, [], ◌∷◌, ◌++◌, length, take, Option, Some, None, Result, Ok, Err, refl, sym, ap, subst, ◌∙◌, ◌⊎◌, inl, inr, append_assoc, arith, length-append}
+use Rattle.std.proofs.Common.{◌≡◌, ℕ, zero, suc, ◌+◌, ◌-◌, ◌≤◌, true, List, [], ◌∷◌, ◌++◌, length, take, Option, Some, None, Result, Ok, Err, refl, sym, ap, subst, ◌∙◌, ◌⊎◌, inl, inr, append_assoc, arith, length-append}
 use Rattle.std.specs.Prelude.{◌↔◌, IsTrue}
 use Rattle.std.specs.List.{All}
 use Rattle.std.proofs.lemmas.Bool.{false≢true}
@@ -7,7 +7,7 @@ use Rattle.std.proofs.lemmas.List.{append-nil, take_at}
 use Rattle.std.proofs.lemmas.List.Elements.{All-nil, All-cons}
 use Rattle.aps_model.specs.declared.entry.Entry.{Entry}
 use Rattle.aps_model.specs.Journal.{entry_line, journal_text, IsLine, IsJournal}
-use Rattle.aps_text.specs.Reader.{◌>>=◌, Reading}
+use Rattle.aps_text.specs.Reader.{◌>>=◌}
 use Rattle.aps_text.specs.Line.{line_at}
 use Rattle.aps_text.specs.Place.{Place, place_after}
 use Rattle.aps_text.specs.Refusal.{BeginsJournal, IsBadNext, IsFirstBad}
@@ -166,16 +166,19 @@ begins_is bytes = (to, from) where
   reads : (rest : List ℕ) (p : Place) → IsBadFrom bytes rest p → reads_on (Err rest) ≡ true → BeginsJournal bytes
   reads [] p b e = subst (λ (t : List ℕ). BeginsJournal t) (sym (append-nil b.front) ∙ sym b.parts) b.begun
   reads (x ∷ rest) p b e = absurd (false≢true e)
+
   stops : (rest : List ℕ) (p : Place) → IsBadFrom bytes rest p → BeginsJournal bytes → reads_on (Err rest) ≡ true
   stops [] p b begun = refl
   stops (x ∷ rest) p b begun =
       absurd (b.bad (begins_down (b.front ++ x ∷ []) rest (subst (λ (t : List ℕ). BeginsJournal t) (b.parts ∙ sym (append_assoc b.front (x ∷ []) rest)) begun)))
+
   to : IsTrue (begins_journal bytes) → BeginsJournal bytes
   to e =
       elim (read_whole bytes (journal_at bytes) refl) [
         | inl (es, j, was) ↦ (es, [], record { lines = j.lines; text = append-nil bytes ∙ j.text })
         | inr (rest, p, b, was) ↦ reads rest p b (sym (ap reads_on was) ∙ e)
       ]
+
   from : BeginsJournal bytes → IsTrue (begins_journal bytes)
   from begun =
       elim (read_whole bytes (journal_at bytes) refl) [
@@ -200,6 +203,7 @@ first_bad_is bytes p = (to, from) where
             let same = some_is (place_after (take (length bytes - length rest) bytes)) p (sym (ap (place_of bytes) was) ∙ e) in
             subst (λ (t : Place). IsFirstBad bytes t) (sym (computed_place bytes rest q b) ∙ same) (first_bad bytes rest q b)
       ]
+
   from : IsFirstBad bytes p → first_bad_place bytes ≡ Some p
   from bad =
       elim (read_whole bytes (journal_at bytes) refl) [
@@ -216,6 +220,7 @@ none_bad_is bytes = (to, from) where
         | inl (es, j, was) ↦ (es, j)
         | inr (rest, q, b, was) ↦ absurd (none_apart (place_after (take (length bytes - length rest) bytes)) (sym e ∙ ap (place_of bytes) was))
       ]
+
   from : (es : List Entry) × IsJournal es bytes → first_bad_place bytes ≡ None
   from (fs, k) =
       elim (read_whole bytes (journal_at bytes) refl) [

@@ -1,5 +1,5 @@
 -- A word that is read byte by byte, as far as the text goes.
-use Rattle.std.proofs.Common.{◌≡◌, ℕ, suc, ◌+◌, ◌<◌, List, [], ◌∷◌, length, get_or, drop, Err, refl, sym, ap, ◌∙◌, arith, add-one, drop-cons}
+use Rattle.std.proofs.Common.{◌≡◌, ℕ, ◌<◌, List, [], length, drop, Err, refl, arith, drop-cons}
 use Rattle.std.proofs.lemmas.List.{nil_from_length}
 use Rattle.aps_text.specs.Reader.{word_at}
 

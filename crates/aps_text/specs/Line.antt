@@ -18,15 +18,18 @@ line_at bytes = do
   picked ← option_at 1023 32 done.1
   starved ← option_at 31 32 picked.1
   flagged ← option_at 15 10 starved.1
-  Ok (record {
-    from = from.0;
-    to = to.0;
-    done = done.0;
-    ran = ran.0;
-    picked = picked.0;
-    billed = billed.0;
-    starved = starved.0;
-    flagged = flagged.0;
-    cpu = cpu.0;
-    critical = critical.0;
-  }, flagged.1)
+  Ok (
+    record {
+      from = from.0;
+      to = to.0;
+      done = done.0;
+      ran = ran.0;
+      picked = picked.0;
+      billed = billed.0;
+      starved = starved.0;
+      flagged = flagged.0;
+      cpu = cpu.0;
+      critical = critical.0;
+    },
+    flagged.1,
+  )

@@ -13,11 +13,13 @@ use aps_model::{CpuId, Entry, PartitionId, ThreadId};
 use std::alloc::Global;
 
 const LAST_CPU: u64 = 15;
+
 const LAST_PARTITION: u64 = 31;
+
 const LAST_MOMENT: u64 = 10_000_000_000_000;
 
-/// The entries whose journal the bytes are. The answer is `BadLine` exactly where they are no
-/// journal, unless memory runs out.
+/// The entries whose journal the bytes are, of which there is one list at most. `BadLine` is the
+/// answer exactly where the bytes are no journal, unless memory runs out.
 pub fn read_journal(alloc: Global, bytes: &[u8]) -> Result<Vec<Entry>, JournalRefusal>
     requires { length bytes.now ≤ 4000000000 }
     ensures journal { IfOk result (λ entries. IsJournal entries.items bytes.now) }
@@ -55,6 +57,7 @@ fn line(bytes: &[u8]) -> Reading<Entry>
     let (ran, rest) = number_or_none(rest, LAST_THREAD, b' ')?;
     let (billed, rest) = number_or_none(rest, LAST_PARTITION, b' ')?;
     let (critical, rest) = mark(rest)?;
+    // No `?` here: the check doesn't follow one on a value that holds a thread's id.
     let (done, rest) = match done(rest) {
         Ok(read) => read,
         Err(rest) => return Err(rest),

@@ -1,9 +1,8 @@
 -- A critical thread: a window of 8 ticks exceeds its budget by its critical time and 96 hundredths of a tick, and its
 -- critical budget by 96 hundredths of a tick.
 use lib.Chars.{codes}
-use Rattle.std.proofs.Common.{◌≡◌, ◌*◌, ℕ, [], ◌∷◌, refl, true, false}
+use Rattle.std.proofs.Common.{◌≡◌, ◌*◌, [], ◌∷◌, refl, true, false}
 use Rattle.std.specs.Prelude.{Some}
-use Rattle.aps_model.specs.declared.audit.Worst.{Worst}
 use Rattle.aps_model.specs.declared.program.Op.TheVariants.{Forever}
 use Rattle.aps_model.specs.declared.scenario.Policy.TheVariants.{Fifo}
 use Rattle.aps_model.specs.declared.shape.Bankruptcy.TheVariants.{Basic}

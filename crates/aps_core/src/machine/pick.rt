@@ -1,4 +1,4 @@
-ghost use Rattle.std.specs.Prelude.{◌≡◌, ℕ, ◌<◌, ◌≤◌, length, All, IfSome, IfNone, IsTrue, false, nat_eq, nat_lt, ◌&&◌, not};
+ghost use Rattle.std.specs.Prelude.{◌≡◌, ◌<◌, ◌≤◌, length, All, IfSome, IfNone, IsTrue, false, nat_eq, nat_lt, ◌&&◌, not};
 ghost use Rattle.std.specs.List.{list_any};
 ghost use Rattle.aps_model.specs.Budget.{part_at};
 ghost use Rattle.aps_model.specs.Pick.{contender_of, contenders, candidates, is_ready, greatest, missing};
@@ -89,8 +89,7 @@ impl Machine {
         requires one_each { length parts.now ≡ length self.old.rows }
         requires cpu { cpu < length self.old.cpus }
         requires best { IfSome best (λ b. (b.thread < length self.old.threads) × (b.facts.partition < length self.old.rows) × (b.facts.critical ≡ false)) }
-        ensures same { self.new ≡ chosen self.old parts.now cpu best }
-        ensures since { (n : ℕ) → All (λ t. t.since ≤ n) self.old.threads → All (λ t. t.since ≤ n) self.new.threads }
+        ensures { self.new ≡ chosen self.old parts.now cpu best }
     {
         let running = match best {
             None => None,

@@ -5,9 +5,7 @@ ghost use lib.Chars.{codes};
 ghost use Rattle.aps_core.specs.Given.{Endless as EndlessOf, is_given, letters, rows_from, row_of, threads_from};
 ghost use Rattle.aps_core.specs.Plain.{IsPlainScenario};
 
-use aps_model::{
-    Name, Op, PartitionId, PartitionRow, Policy, Program, Scenario, Shape, ThreadRow,
-};
+use aps_model::{Name, Op, PartitionId, PartitionRow, Policy, Program, Scenario, Shape, ThreadRow};
 use std::alloc::Global;
 use std::test::Fail;
 
@@ -29,13 +27,7 @@ pub fn given(
 {
     let partitions = partitions(alloc, root, budgets)?;
     let threads = threads_of(alloc, threads)?;
-    Ok(Scenario::new(
-        shape,
-        partitions,
-        Vec::new(alloc),
-        threads,
-        Vec::new(alloc),
-    ))
+    Ok(Scenario::new(shape, partitions, Vec::new(alloc), threads, Vec::new(alloc)))
 }
 
 /// The root and the partitions below it.

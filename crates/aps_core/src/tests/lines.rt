@@ -19,5 +19,10 @@ pub fn line(alloc: Global, e: &Entry) -> Result<String, AllocError> {
     let picked = or_dash(alloc, e.picked.map(|x| x.index()))?;
     let starved = or_dash(alloc, e.starved.map(|p| p.index()))?;
     let flagged = or_dash(alloc, e.flagged.map(|c| c.index()))?;
-    format!(in alloc; "{} {} {} {ran} {billed} {critical} {done} {picked} {starved} {flagged}", e.cpu.index(), e.from, e.to)
+    format!(in alloc;
+        "{} {} {} {ran} {billed} {critical} {done} {picked} {starved} {flagged}",
+        e.cpu.index(),
+        e.from,
+        e.to
+    )
 }

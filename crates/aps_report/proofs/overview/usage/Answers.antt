@@ -1,19 +1,12 @@
-use Rattle.std.proofs.Common.{string_bytes}
-use Rattle.aps_report.proofs.Tables.{usage-by}
+use Rattle.std.proofs.Common.{List, ℕ, string_bytes, ap, ◌∙◌, ◌++◌}
+use Rattle.aps_report.specs.Lines.{with_head, tables_with}
+use Rattle.aps_report.proofs.Tables.{usage_by}
 use Rattle.aps_report.proofs.overview.usage.Goals as goal
 
 pub returns : goal.returns
 returns c =
-    usage-by c.args.history.now c.in_ok-totals.totals
-    (string_bytes c.add_title.new.out) (string_bytes c.add_end.new.out) (string_bytes c.add_shape.new.out) (string_bytes c.add_count.new.out)
-    (string_bytes c.add_partitions.new.out) (string_bytes c.add_idle.new.out) (string_bytes c.add_threads.new.out)
-    (rw (← c.entries-entries.ensures.same) c.in_ok-totals.ensures)
-    c.rows.ensures.keeps.few_rows
-    (rw (← c.scenario.ensures) c.threads.ensures.valid.few_threads)
-    (rw c.new-out.ensures.bytes at c.in_ok-add_title.ensures)
-    (rw (← c.end.ensures) c.in_ok-add_end.ensures)
-    (rw (← c.shape.ensures.same) c.in_ok-add_shape.ensures)
-    (rw (← c.entries-entries.ensures.same) c.in_ok-add_count.ensures)
-    (rw (← c.rows.ensures.same) c.in_ok-add_partitions.ensures)
-    (rw (← c.idle.ensures) c.in_ok-add_idle.ensures)
-    (rw (← c.scenario.ensures, ← c.threads.ensures.same) c.in_ok-add_threads.ensures)
+    let tables = c.in_ok-add_tables.ensures in
+    usage_by c.args.history.now c.in_ok-totals.totals (string_bytes c.add_tables.new.out)
+    (rw (← c.entries.ensures.same) c.in_ok-totals.ensures) tables.few_rows tables.few_threads
+    (tables.text ∙ ap (λ t. t ++ tables_with c.args.history.now c.in_ok-totals.totals)
+    (c.in_ok-add_head.ensures ∙ ap (λ (t : List ℕ). with_head t c.args.history.now) c.new-out.ensures.bytes))

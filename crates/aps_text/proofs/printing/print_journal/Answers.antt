@@ -1,8 +1,7 @@
-use Rattle.std.proofs.Common.{◌≡◌, List, take, subst, ap, arith, rules, take_all}
+use Rattle.std.proofs.Common.{◌≡◌, List, take, subst, rules, take_all}
 use Rattle.std.specs.List.{All}
-use Rattle.std.proofs.lemmas.Grind.{common_steps}
 use Rattle.aps_model.specs.declared.entry.Entry.{Entry}
-use Rattle.aps_model.specs.Journal.{journal_text, IsLine}
+use Rattle.aps_model.specs.Journal.{IsLine}
 use Rattle.std.proofs.lemmas.Str.{IsAscii-append, IsUtf8-from_ascii}
 use Rattle.aps_text.proofs.Lines.{journal_text-take, lines-more}
 use Rattle.aps_text.proofs.printing.print_journal.Goals as goal

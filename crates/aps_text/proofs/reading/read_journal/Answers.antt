@@ -1,4 +1,4 @@
-use Rattle.std.proofs.Common.{◌≡◌, ◌+◌, ◌-◌, ◌∷◌, ◌++◌, [], List, length, ℕ, sym, ap, subst, ◌∙◌, arith}
+use Rattle.std.proofs.Common.{◌≡◌, ◌+◌, ◌-◌, ◌∷◌, ◌++◌, [], length, ℕ, sym, ap, subst, ◌∙◌, arith}
 use Rattle.std.proofs.lemmas.Bool.{eqb-false, eqb-true}
 use Rattle.std.proofs.lemmas.List.{append-nil, nil_from_length}
 use Rattle.aps_model.specs.Journal.{journal_text, IsJournal}
@@ -23,7 +23,7 @@ loop-rest-preserved c =
 bad : (c : goal.After-drop-entries-in-Err) → IsBadFrom c.args.bytes.now c.in-Err.bad.now (record { line = 1 + length c.loop-rest.entries.items; column = 1 + (length c.loop-rest.rest.now - length c.in-Err.bad.now) })
 bad c =
     bad_from c.loop-rest.entries.items c.args.bytes.now c.loop-rest.rest.now c.in-Err.bad.now c.loop-rest.invariant.lines c.loop-rest.invariant.parts
-      (λ none. eqb-false (length c.loop-rest.rest.now) 0 (sym c.is_empty.ensures ∙ c.loop-rest-test.true) (ap length none)) c.in-Err.ensures
+    (λ none. eqb-false (length c.loop-rest.rest.now) 0 (sym c.is_empty.ensures ∙ c.loop-rest-test.true) (ap length none)) c.in-Err.ensures
 
 pub overflow_sub-result : goal.overflow_sub-result
 overflow_sub-result c = not_longer c.loop-rest.rest.now c.in-Err.bad.now c.in-Err.ensures

@@ -1,10 +1,10 @@
 use Rattle.std.proofs.Common.{◌∙◌, refl, rules, subst, sym}
-use Rattle.aps_core.specs.Plain.{IsBounded, IsPlain}
-use Rattle.aps_core.proofs.Boot.{bounded_opening, opening_by_parts, plain_opening}
+use Rattle.aps_core.specs.Plain.{IsPlain}
+use Rattle.aps_core.proofs.Boot.{opening_by_parts, plain_opening}
 use Rattle.aps_core.proofs.machine.Machine.boot.Goals as goal
 
-pub returns-clause-same : goal.returns-clause-same
-returns-clause-same c =
+pub returns : goal.returns
+returns c =
     opening_by_parts c.args.scenario.now _ _ _ _ _ _ c.requires
     (c.in_ok-extend_from_slice.ensures.items ∙ rw (c.in_ok-rows.ensures.items, c.partitions.ensures.same) refl)
     c.shape-shape.ensures.same
@@ -15,8 +15,4 @@ returns-clause-same c =
 
 pub invariant_of-result : goal.invariant_of-result
 invariant_of-result c =
-    subst IsPlain (sym (returns-clause-same c)) (plain_opening c.args.scenario.now c.partitions.ensures.valid c.requires)
-
-pub returns-clause-bounded : goal.returns-clause-bounded
-returns-clause-bounded c =
-    subst (λ s. IsBounded s 0) (sym (returns-clause-same c)) (bounded_opening c.args.scenario.now c.partitions.ensures.valid c.requires)
+    subst IsPlain (sym (returns c)) (plain_opening c.args.scenario.now c.partitions.ensures.valid c.requires)

@@ -1,5 +1,4 @@
-use Rattle.std.proofs.Common.{◌*◌, ◌-◌, sym, ◌∙◌, length, arith}
-use Rattle.aps_core.proofs.Bounds.{bounded_more, within_more}
+use Rattle.std.proofs.Common.{sym, ◌∙◌}
 use Rattle.aps_core.proofs.PlainStep.{billed_by, step_at_end, step_below}
 use Rattle.aps_core.proofs.machine.Machine.step.Goals as goal
 
@@ -23,15 +22,4 @@ returns-clause-same c =
     c.pick.ensures.same
 
 pub bill-requires-clause-since : goal.bill-requires-clause-since
-bill-requires-clause-since c =
-    rw c.begin-running.ensures.threads (within_more (10000000 * length c.args.entries.now) _ c.args.self.now.threads (omega arith) c.requires.bounded.since)
-
-pub returns-clause-bounded : goal.returns-clause-bounded
-returns-clause-bounded c =
-    bounded_more c.args.self.now c.pick.new.self (length c.args.entries.now) (c.bill_of-e.result.to - c.bill_of-e.result.from) c.requires.bounded
-    (omega (arith, c.pick.ensures.stamps, c.settle-done.ensures.stamps, c.bill.ensures.stamps, c.begin-running.ensures.stamps))
-    (omega (arith, c.requires.short, c.bill_of-e.ensures.from, c.bill_of-e.ensures.to, c.due-now.ensures, c.last_end-from.ensures.same))
-    (λ w. c.pick.ensures.since _ (c.settle-done.ensures.since _ (c.bill.ensures.since _ (rw c.begin-running.ensures.threads w))))
-
-pub settle-done-requires-clause-stamps : goal.settle-done-requires-clause-stamps
-settle-done-requires-clause-stamps c = omega (arith, c.bill.ensures.stamps, c.begin-running.ensures.stamps, c.requires.bounded.stamps, c.requires.few)
+bill-requires-clause-since c = rw c.begin-running.ensures.threads c.requires.since

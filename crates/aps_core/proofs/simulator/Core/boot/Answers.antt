@@ -10,5 +10,5 @@ invariant_of-result c =
     (begun_core setup _ c.in_ok-machine.machine c.in_ok-parts.parts.items
     (record { valid = c.partitions.ensures.valid; plain = c.requires.plain; some = c.requires.some; few = c.requires.few })
     (rw (c.commands.ensures.same, c.most_changes-changes.ensures) refl)
-    c.in_ok-machine.ensures.same c.in_ok-machine.ensures.bounded
+    c.in_ok-machine.ensures
     (c.in_ok-parts.ensures ∙ ap length c.partitions.ensures.same))

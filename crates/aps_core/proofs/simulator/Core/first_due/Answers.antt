@@ -1,6 +1,7 @@
 use Rattle.std.proofs.Common.{◌<◌, ◌∙◌, ap, subst}
 use Rattle.aps_model.specs.declared.entry.Order.TheVariants.{Fixed}
 use Rattle.aps_model.specs.Due.{HasTurn, first_due}
+use Rattle.aps_core.specs.Core.{IsUnderWay}
 use Rattle.aps_core.specs.CoreView.{run_of}
 use Rattle.aps_core.specs.Run.{Run, state_of}
 use Rattle.aps_core.proofs.Kept.{cpu_within, first_lowest}
@@ -16,3 +17,6 @@ pub returns-clause-exists : goal.returns-clause-exists
 returns-clause-exists c =
     subst (λ (run : Run). c.first_due.result < run.setup.scenario.shape.cpus) c.self.view_is
     (cpu_within (run_of c.self.inside) c.self.inside.history c.self.inside.machine c.self.inside.parts.items c.first_due.result c.self.invariant c.first_due.ensures.within)
+
+pub returns-clause-keeps : goal.returns-clause-keeps
+returns-clause-keeps c = subst IsUnderWay c.self.view_is c.self.invariant.keeps

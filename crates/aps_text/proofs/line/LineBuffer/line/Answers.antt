@@ -1,4 +1,4 @@
-use Rattle.std.proofs.Common.{◌≡◌, ◌-◌, ◌∷◌, ◌++◌, List, ℕ, length, drop, ap, subst, arith, append_assoc, take_all, length-drop}
+use Rattle.std.proofs.Common.{◌≡◌, ◌-◌, List, ℕ, length, drop, ap, subst, arith, append_assoc, take_all, length-drop}
 use Rattle.std.specs.Str.{IsAscii}
 use Rattle.aps_text.proofs.line.LineBuffer.line.Goals as goal
 

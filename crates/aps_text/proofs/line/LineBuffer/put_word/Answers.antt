@@ -1,4 +1,4 @@
-use Rattle.std.proofs.Common.{rules, arith}
+use Rattle.std.proofs.Common.{arith}
 use Rattle.std.proofs.lemmas.Grind.{common_steps}
 use Rattle.aps_text.proofs.Ascii.{IsAscii-from_test, IsAscii-before}
 use Rattle.aps_text.proofs.line.LineBuffer.put_word.Goals as goal
