@@ -1,16 +1,21 @@
-use Rattle.std.proofs.Common.{rules}
+use Rattle.std.proofs.Common.{rules, sym, subst}
+use Rattle.aps_model.specs.Bound.{KeepsWindowBound, KeepsCriticalBound}
+use Rattle.aps_model.specs.History.{History}
+use Rattle.aps_laws.specs.Choices.{EachPickIsGreatest}
 use Rattle.apsim.proofs.run.run.Goals as goal
 
 pub returns-clause-fixed : goal.returns-clause-fixed
-returns-clause-fixed c = record {
-  entries = search rules;
-  kept = search rules;
-  ended = search rules;
-  no_sooner = search rules;
-  legal = search rules;
-  tiled = search rules;
-  billed = search rules;
-  picks = search rules;
-  bound = search rules;
-  critical_bound = search rules;
-}
+returns-clause-fixed c =
+    let known = c.into_history.ensures in
+    record {
+      entries = search rules;
+      kept = search rules;
+      ended = search rules;
+      no_sooner = search rules;
+      legal = search rules;
+      tiled = search rules;
+      billed = search rules;
+      picks = subst (λ (h : History). EachPickIsGreatest h.scenario h.entries) (sym known.same) known.picks;
+      bound = subst (λ (h : History). KeepsWindowBound h.scenario h.entries) (sym known.same) known.bound;
+      critical_bound = subst (λ (h : History). KeepsCriticalBound h.scenario h.entries) (sym known.same) known.critical_bound;
+    }
