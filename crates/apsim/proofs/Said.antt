@@ -1,5 +1,5 @@
 -- How a text goes to a sink, under other names of the text and of its status.
-use Rattle.std.proofs.Common.{◌≡◌, ℕ, List, subst, sym}
+use Rattle.std.proofs.Common.{◌≡◌, ℕ, List, subst}
 use Rattle.apsim.specs.declared.status.Status.{Status}
 use Rattle.apsim.specs.Printing.{Output, Prints}
 

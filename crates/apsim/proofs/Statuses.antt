@@ -1,19 +1,16 @@
 -- The case of each status, from what the call came to.
-use Rattle.std.proofs.Common.{rules, ◌≡◌, ◌≢◌, ℕ, List, [], length, ◌<◌, ◌≤◌, ◌+◌, ◌⊎◌, inl, inr, Option, Some, None, refl, sym, ap, ◌∙◌, subst, arith, Ok, Err, IsSome, IsErr}
-use Rattle.aps_model.specs.declared.entry.End.{End}
+use Rattle.std.proofs.Common.{rules, ◌≡◌, ℕ, List, ◌⊎◌, inl, inr, Some, None, refl, ap, ◌∙◌}
 use Rattle.aps_model.specs.declared.entry.End.TheVariants.{Horizon, Limit, Reboot}
 use Rattle.aps_model.specs.History.{History}
 use Rattle.aps_scenario.specs.declared.kind.Kind.{Kind}
 use Rattle.aps_model.specs.Report.{usage_text}
 use Rattle.apsim.specs.declared.status.Status.{Status}
-use Rattle.apsim.specs.declared.status.Status.TheVariants.{Done, WordsRefused, ScenarioRefused, Rebooted, ReadFault, WriteFault, Limited, NoMemory, TooLong}
+use Rattle.apsim.specs.declared.status.Status.TheVariants.{Done, WordsRefused, ScenarioRefused, Rebooted, ReadFault, Limited, NoMemory, TooLong}
 use Rattle.apsim.specs.declared.outcome.Outcome.{Outcome}
 use Rattle.apsim.specs.declared.outcome.Outcome.TheVariants as outcome
 use Rattle.apsim.specs.declared.top.Ended.{Ended}
-use Rattle.apsim.specs.Command.{command}
 use Rattle.apsim.specs.Status.{code, or_write_fault}
-use Rattle.apsim.specs.Outcome.{status_of, text_of, history_of}
-use Rattle.apsim.specs.Cause.{Input, HasCause, RanAsRead, most_bytes}
+use Rattle.apsim.specs.Cause.{Input, HasCause, RanAsRead}
 use Rattle.apsim.specs.Printing.{Output, Prints}
 use Rattle.apsim.specs.Answers.{Tells, Answers, OrNoMemory, end_told}
 
@@ -37,7 +34,7 @@ words_refused input output ended cause told none = record {
   read_fault = search rules;
   too_long = search rules;
   refused = search rules;
-  refused_so = search rules;
+  refused_always = search rules;
   limited = search rules;
   rebooted = search rules;
   write_fault = search rules;
@@ -55,7 +52,7 @@ read_fault input output ended cause told none = record {
   read_fault = search rules;
   too_long = search rules;
   refused = search rules;
-  refused_so = search rules;
+  refused_always = search rules;
   limited = search rules;
   rebooted = search rules;
   write_fault = search rules;
@@ -73,7 +70,7 @@ too_long input output ended cause told none = record {
   read_fault = search rules;
   too_long = search rules;
   refused = search rules;
-  refused_so = search rules;
+  refused_always = search rules;
   limited = search rules;
   rebooted = search rules;
   write_fault = search rules;
@@ -92,7 +89,7 @@ refused input output ended kind path cause told none = record {
   read_fault = search rules;
   too_long = search rules;
   refused = search rules;
-  refused_so = search rules;
+  refused_always = search rules;
   limited = search rules;
   rebooted = search rules;
   write_fault = search rules;
@@ -110,7 +107,7 @@ no_memory input output ended told none = record {
   read_fault = search rules;
   too_long = search rules;
   refused = search rules;
-  refused_so = search rules;
+  refused_always = search rules;
   limited = search rules;
   rebooted = search rules;
   write_fault = search rules;
@@ -128,7 +125,7 @@ limited input output ended h cause told some = record {
   read_fault = search rules;
   too_long = search rules;
   refused = search rules;
-  refused_so = search rules;
+  refused_always = search rules;
   limited = search rules;
   rebooted = search rules;
   write_fault = search rules;
@@ -146,7 +143,7 @@ rebooted input output ended h p cause told some = record {
   read_fault = search rules;
   too_long = search rules;
   refused = search rules;
-  refused_so = search rules;
+  refused_always = search rules;
   limited = search rules;
   rebooted = (λ _. (p, ap end_told some ∙ cause.run.ended), λ _. told);
   write_fault = search rules;
@@ -164,7 +161,7 @@ reached input output ended h status cause told printed some = record {
   read_fault = search rules;
   too_long = search rules;
   refused = search rules;
-  refused_so = search rules;
+  refused_always = search rules;
   limited = search rules;
   rebooted = search rules;
   write_fault = search rules;

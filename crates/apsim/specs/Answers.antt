@@ -1,5 +1,5 @@
 -- What the answer of a call tells.
-use Rattle.std.specs.Prelude.{◌≡◌, ◌≢◌, ℕ, ◌<◌, ◌≤◌, ◌⊎◌, List, length, Option, Some, None, IsSome, IfSome, IsErr, Ok}
+use Rattle.std.specs.Prelude.{◌≡◌, ◌≢◌, ℕ, ◌<◌, ◌≤◌, ◌⊎◌, length, Option, Some, None, IsSome, IfSome, IsErr, Ok}
 use Rattle.aps_io.specs.Causes.{Rose}
 use Rattle.aps_model.specs.declared.entry.End.{End}
 use Rattle.aps_model.specs.declared.entry.End.TheVariants.{Horizon, Limit, Reboot}
@@ -59,7 +59,7 @@ pub record Answers (input : Input) (output : Output) (ended : Ended) : Type 0 wh
   pub read_fault : ended.status ≡ code ReadFault → Rose input.faults_before input.faults
   pub too_long : Exactly ended TooLong (most_bytes < length input.bytes)
   pub refused : ended.status ≡ code ScenarioRefused → IsReadWhole input × IsErr (reads input.bytes)
-  pub refused_so : IsSome (command input.words) → length input.bytes ≤ most_bytes → IsErr (reads input.bytes)
+  pub refused_always : IsSome (command input.words) → length input.bytes ≤ most_bytes → IsErr (reads input.bytes)
       → ended.status ≢ code ReadFault → OrNoMemory ended ScenarioRefused
   pub limited : Exactly ended Limited (end_told ended.history ≡ Some Limit)
   pub rebooted : Exactly ended Rebooted ((p : ℕ) × (end_told ended.history ≡ Some (Reboot p)))

@@ -8,7 +8,7 @@ use Rattle.aps_model.specs.Recorded.{recorded}
 use Rattle.aps_model.specs.Tiled.{IsTiled, IsBilledAsInherited}
 use Rattle.aps_model.specs.Bound.{KeepsWindowBound, KeepsCriticalBound}
 use Rattle.aps_laws.specs.Choices.{EachPickIsGreatest}
-use Rattle.aps_core.specs.Run.{IsFirstEnd}
+use Rattle.aps_laws.specs.Runs.{EndsNoSooner}
 
 -- the history of the run of its scenario in fixed order, which ended so, or else by this many entries
 pub record IsFixedRun (limit : ℕ) (end : End) (h : History) : Type 0 where
@@ -16,7 +16,7 @@ pub record IsFixedRun (limit : ℕ) (end : End) (h : History) : Type 0 where
   -- its replies, changes, rows, shape and end are those that its entries leave
   pub kept : h ≡ recorded h.scenario limit h.room h.entries
   pub ended : h.end ≡ Some end
-  pub no_sooner : IsFirstEnd h.scenario limit h.entries
+  pub no_sooner : EndsNoSooner h.scenario limit h.entries
   -- each entry is the step of the processor that had the turn
   pub legal : IsLegal h.scenario Fixed h.entries
   -- each nanosecond of a processor lies in one entry, and is billed to the partition that its thread inherited

@@ -1,9 +1,9 @@
 //! Whole calls of the program in memory: what they write, and the statuses.
 use crate::run::run;
 use crate::top::{Ended, calm_top};
-use aps_io::{CalmSink, CalmSource, MemSink, MemSource};
+use aps_io::{CalmSink, CalmSource, MemSink, MemSource, Sink, Source};
 use aps_model::{End, History};
-use aps_scenario::scenario_of;
+use aps_scenario::{ScenarioRefusal, scenario_of};
 use std::alloc::{AllocError, Global};
 use std::test::Fail;
 
@@ -73,19 +73,41 @@ thread 0 s ran 14000000
 thread 1 a ran 6000000
 ";
 
-fn one_word(alloc: Global, text: &str) -> Result<Vec<String>, AllocError> {
-    let mut words = Vec::new(alloc);
-    words.push(text.to_string(alloc)?)?;
-    Ok(words)
+// The helpers have no clauses, so that the checks of the tests below are about what a run gives.
+
+fn bytes_of(alloc: Global, text: &str) -> Result<Vec<u8>, AllocError> {
+    text.as_bytes().to_vec(alloc)
 }
 
-/// What `solo` says of an input, and how the call ended.
-fn solo(alloc: Global, input: Vec<u8>) -> Result<(Ended, CalmSink), AllocError> {
-    let words = one_word(alloc, "solo")?;
+fn call<S: Source, K: Sink>(
+    alloc: Global,
+    words: &[&str],
+    source: &mut S,
+    sink: &mut K,
+) -> Result<Ended, AllocError> {
+    let mut owned = Vec::new(alloc);
+    for word in words {
+        owned.push(word.to_string(alloc)?)?;
+    }
+    Ok(calm_top(alloc, &owned, source, sink))
+}
+
+/// How a call with these words and this input ended, and what it wrote.
+fn calm(alloc: Global, words: &[&str], input: Vec<u8>) -> Result<(Ended, CalmSink), AllocError> {
     let mut source = CalmSource::new(input);
     let mut sink = CalmSink::new(Vec::new(alloc));
-    let ended = calm_top(alloc, &words, &mut source, &mut sink);
+    let ended = call(alloc, words, &mut source, &mut sink)?;
     Ok((ended, sink))
+}
+
+fn solo(alloc: Global, text: &str) -> Result<(Ended, CalmSink), AllocError> {
+    calm(alloc, &["solo"], bytes_of(alloc, text)?)
+}
+
+/// So many signs that begin a comment, in one line.
+fn comment(alloc: Global, length: usize) -> Result<Vec<u8>, AllocError> {
+    let bytes = vec![in alloc; b'#'; length]?;
+    Ok(bytes)
 }
 
 fn entries_of(history: &Option<History>) -> Option<usize> {
@@ -95,7 +117,7 @@ fn entries_of(history: &Option<History>) -> Option<usize> {
 #[test]
 fn two_partitions_share_one_processor(rt: HostRuntime) -> Result<(), Fail> {
     let alloc = rt.alloc();
-    let (ended, sink) = solo(alloc, TWO_EQUAL.as_bytes().to_vec(alloc)?)?;
+    let (ended, sink) = solo(alloc, TWO_EQUAL)?;
     assert_eq!(rt; sink.written(), TWO_EQUAL_SUMMARY.as_bytes());
     assert_eq!(rt; ended.status, 0);
     assert_eq!(rt; entries_of(&ended.history), Some(21));
@@ -105,34 +127,39 @@ fn two_partitions_share_one_processor(rt: HostRuntime) -> Result<(), Fail> {
 #[test]
 fn shares_follow_the_budgets(rt: HostRuntime) -> Result<(), Fail> {
     let alloc = rt.alloc();
-    let (ended, sink) = solo(alloc, SEVENTY_THIRTY.as_bytes().to_vec(alloc)?)?;
+    let (ended, sink) = solo(alloc, SEVENTY_THIRTY)?;
     assert_eq!(rt; sink.written(), SEVENTY_THIRTY_SUMMARY.as_bytes());
     assert_eq!(rt; ended.status, 0);
-    let (ended, sink) = solo(alloc, TWO_THIRDS.as_bytes().to_vec(alloc)?)?;
+    let (ended, sink) = solo(alloc, TWO_THIRDS)?;
     assert_eq!(rt; sink.written(), TWO_THIRDS_SUMMARY.as_bytes());
     assert_eq!(rt; ended.status, 0);
     Ok(())
 }
 
+fn run_up_to(alloc: Global, text: &str, limit: u32) -> Result<(End, usize), ScenarioRefusal> {
+    let scenario = scenario_of(alloc, text.as_bytes())?;
+    match run(alloc, scenario, limit) {
+        Ok((end, history)) => Ok((end, history.entries().len())),
+        Err(_) => Err(ScenarioRefusal::NoMemory),
+    }
+}
+
 #[test]
 fn a_run_stops_at_its_limit(rt: HostRuntime) -> Result<(), Fail> {
     let alloc = rt.alloc();
-    let scenario = scenario_of(alloc, TWO_EQUAL.as_bytes())?;
-    let (end, history) = run(alloc, scenario, 7)?;
-    assert_eq!(rt; end, End::Limit);
-    assert_eq!(rt; history.entries().len(), 7);
+    let limited = run_up_to(alloc, TWO_EQUAL, 7);
+    assert_eq!(rt; limited, Ok((End::Limit, 7)));
+    let whole = run_up_to(alloc, TWO_EQUAL, 100);
+    assert_eq!(rt; whole, Ok((End::Horizon, 21)));
     Ok(())
 }
 
 #[test]
 fn other_words_are_refused(rt: HostRuntime) -> Result<(), Fail> {
     let alloc = rt.alloc();
-    let mut twice = one_word(alloc, "solo")?;
-    twice.push("solo".to_string(alloc)?)?;
-    for words in [one_word(alloc, "fly")?, Vec::new(alloc), twice] {
-        let mut source = CalmSource::new(TWO_EQUAL.as_bytes().to_vec(alloc)?);
-        let mut sink = CalmSink::new(Vec::new(alloc));
-        let ended = calm_top(alloc, &words, &mut source, &mut sink);
+    let lists: [&[&str]; 3] = [&["fly"], &[], &["solo", "solo"]];
+    for words in lists {
+        let (ended, sink) = calm(alloc, words, bytes_of(alloc, TWO_EQUAL)?)?;
         assert_eq!(rt; ended.status, 1);
         assert_eq!(rt; sink.written(), b"aps: words refused\n".as_slice());
         assert_eq!(rt; entries_of(&ended.history), None);
@@ -140,28 +167,22 @@ fn other_words_are_refused(rt: HostRuntime) -> Result<(), Fail> {
     Ok(())
 }
 
-/// So many signs that begin a comment, in one line.
-fn comment(alloc: Global, length: usize) -> Result<Vec<u8>, AllocError> {
-    let bytes = vec![in alloc; b'#'; length]?;
-    Ok(bytes)
-}
-
 #[test]
 fn an_input_that_is_no_scenario_is_refused(rt: HostRuntime) -> Result<(), Fail> {
     let alloc = rt.alloc();
-    let (ended, sink) = solo(alloc, Vec::new(alloc))?;
+    let (ended, sink) = solo(alloc, "")?;
     assert_eq!(rt; ended.status, 2);
     assert_eq!(rt;
         sink.written(),
         b"aps: scenario refused: not-built -\n".as_slice()
     );
-    let (ended, sink) = solo(alloc, b"version = \"1".to_vec(alloc)?)?;
+    let (ended, sink) = solo(alloc, "version = \"1")?;
     assert_eq!(rt; ended.status, 2);
     assert_eq!(rt;
         sink.written(),
         b"aps: scenario refused: not-toml -\n".as_slice()
     );
-    let (ended, _) = solo(alloc, comment(alloc, 1_048_576)?)?;
+    let (ended, _) = calm(alloc, &["solo"], comment(alloc, 1_048_576)?)?;
     assert_eq!(rt; ended.status, 2);
     assert_eq!(rt; entries_of(&ended.history), None);
     Ok(())
@@ -170,7 +191,7 @@ fn an_input_that_is_no_scenario_is_refused(rt: HostRuntime) -> Result<(), Fail> 
 #[test]
 fn a_longer_input_is_not_read(rt: HostRuntime) -> Result<(), Fail> {
     let alloc = rt.alloc();
-    let (ended, sink) = solo(alloc, comment(alloc, 1_048_577)?)?;
+    let (ended, sink) = calm(alloc, &["solo"], comment(alloc, 1_048_577)?)?;
     assert_eq!(rt; ended.status, 8);
     assert_eq!(rt; sink.written(), b"aps: input too long\n".as_slice());
     assert_eq!(rt; entries_of(&ended.history), None);
@@ -180,11 +201,9 @@ fn a_longer_input_is_not_read(rt: HostRuntime) -> Result<(), Fail> {
 #[test]
 fn the_second_read_fails(rt: HostRuntime) -> Result<(), Fail> {
     let alloc = rt.alloc();
-    let words = one_word(alloc, "solo")?;
-    let fails = vec![in alloc; 1]?;
-    let mut source = MemSource::new(TWO_EQUAL.as_bytes().to_vec(alloc)?, fails);
+    let mut source = MemSource::new(bytes_of(alloc, TWO_EQUAL)?, vec![in alloc; 1]?);
     let mut sink = CalmSink::new(Vec::new(alloc));
-    let ended = calm_top(alloc, &words, &mut source, &mut sink);
+    let ended = call(alloc, &["solo"], &mut source, &mut sink)?;
     assert_eq!(rt; ended.status, 4);
     assert_eq!(rt; sink.written(), b"aps: read fault\n".as_slice());
     assert_eq!(rt; entries_of(&ended.history), None);
@@ -194,11 +213,9 @@ fn the_second_read_fails(rt: HostRuntime) -> Result<(), Fail> {
 #[test]
 fn the_first_write_fails(rt: HostRuntime) -> Result<(), Fail> {
     let alloc = rt.alloc();
-    let words = one_word(alloc, "solo")?;
-    let fails = vec![in alloc; 0]?;
-    let mut source = CalmSource::new(TWO_EQUAL.as_bytes().to_vec(alloc)?);
-    let mut sink = MemSink::new(Vec::new(alloc), fails);
-    let ended = calm_top(alloc, &words, &mut source, &mut sink);
+    let mut source = CalmSource::new(bytes_of(alloc, TWO_EQUAL)?);
+    let mut sink = MemSink::new(Vec::new(alloc), vec![in alloc; 0]?);
+    let ended = call(alloc, &["solo"], &mut source, &mut sink)?;
     assert_eq!(rt; ended.status, 5);
     assert_eq!(rt; sink.written().len(), 0);
     assert_eq!(rt; entries_of(&ended.history), Some(21));
