@@ -1,4 +1,6 @@
 //! Whole calls of the program in memory: what they write, and the statuses.
+ghost use Rattle.std.specs.Prelude.{◌≤◌};
+
 use crate::run::run;
 use crate::top::{Ended, calm_top};
 use aps_io::{CalmSink, CalmSource, MemSink, MemSource, Sink, Source};
@@ -136,7 +138,10 @@ fn shares_follow_the_budgets(rt: HostRuntime) -> Result<(), Fail> {
     Ok(())
 }
 
-fn run_up_to(alloc: Global, text: &str, limit: u32) -> Result<(End, usize), ScenarioRefusal> {
+fn run_up_to(alloc: Global, text: &str, limit: u32) -> Result<(End, usize), ScenarioRefusal>
+    requires some { 1 ≤ limit }
+    requires few { limit ≤ 4000000 }
+{
     let scenario = scenario_of(alloc, text.as_bytes())?;
     match run(alloc, scenario, limit) {
         Ok((end, history)) => Ok((end, history.entries().len())),
