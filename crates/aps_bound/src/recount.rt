@@ -18,7 +18,6 @@ use aps_model::{Audit, History, PartitionId, Shape};
 /// none exactly where no window is loaded. It takes no memory; the cost is that of one pass over the entries for each
 /// loaded window.
 pub fn audit(history: &History) -> Audit
-    requires few { length history.now.entries ≤ 4294967295 }
     ensures { result ≡ audit_of history.now }
 {
     let shape = history.shape();
@@ -48,7 +47,6 @@ fn first_unfinished(shape: &Shape, count: u64) -> u64
 
 /// The audit so far, with the window from tick `a` on.
 fn with_window(history: &History, audit: &Audit, a: u64) -> Audit
-    requires few { length history.now.entries ≤ 4294967295 }
     requires a { a ≤ 100000000 }
     ensures { result ≡ with_window history.now audit.now a }
 {
