@@ -7,10 +7,8 @@ ghost use Rattle.aps_model.specs.Pick.{merit_among};
 ghost use Rattle.aps_core.specs.Scan.{better_candidate};
 ghost use Rattle.aps_core.specs.Small.{IsSmall};
 
-use aps_model::{
-    Contender, CpuId, Free, Merit, PartFacts, PartitionId, is_candidate, is_critical_pick,
-    is_greater, merit_of,
-};
+use aps_merit::{is_candidate, is_critical_pick, is_greater, merit_of};
+use aps_model::{Contender, CpuId, Free, Merit, PartFacts, PartitionId};
 
 /// The merit of a ready thread.
 pub fn merit_among(parts: &[PartFacts], c: &Contender) -> Merit

@@ -23,10 +23,7 @@ pub use command::{
 pub use entry::{Done, End, Entry, Order};
 pub use history::History;
 pub use ids::{ChannelId, CpuId, Nanos, NoMemory, OutOfRange, PartitionId, ThreadId};
-pub use merit::{
-    Contender, Merit, PartFacts, has_allowance, is_below, is_candidate, is_critical_pick,
-    is_greater, less_fraction, merit_of,
-};
+pub use merit::{Contender, Merit, PartFacts, has_allowance, less_fraction};
 pub use name::{Name, NameBad};
 pub use partition::{PartitionRow, TreeRefusal};
 pub use program::{Op, Program};

@@ -6,7 +6,8 @@ ghost use Rattle.aps_core.specs.Small.{IsSmall};
 
 use super::Machine;
 use crate::merit;
-use aps_model::{Contender, CpuId, CpuNow, Entry, Nanos, PartFacts, Pick, is_below, merit_of};
+use aps_merit::{is_below, merit_of};
+use aps_model::{Contender, CpuId, CpuNow, Entry, Nanos, PartFacts, Pick};
 
 impl Machine {
     /// The rank of a processor that keeps this, if it is idle or its thread is below the greatest candidate left.
