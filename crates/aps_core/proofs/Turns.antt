@@ -32,22 +32,6 @@ cpus_exist scenario order h valid legal =
     let small = moments_small scenario order h valid legal in
     λ k d lt. let cpu = (small.entries k d lt).cpu in omega (arith, cpu, sizes.cpus)
 
--- stamps and the times since them fit
-pub record AreStampsSmall (s : SchedulerState) : Type 0 where
-  pub stamps : s.stamps ≤ 5000000000
-  pub since : All (λ (t : ThreadNow). t.since ≤ 10000000000000) s.threads
-
-pub stamps_small : (scenario : Scenario) (order : Order) (h : List Entry) → IsScenario scenario → IsLegal scenario order h → length h ≤ 4000000 → AreStampsSmall (state_after scenario h)
-stamps_small scenario order h valid legal few =
-    let s = state_after scenario h in
-    record {
-      stamps = omega (arith, (few_stamps scenario order h valid legal).small, few);
-      since = λ k d lt.
-          let timed = (fits_law scenario order h valid legal k lt).1 in
-          let same = ap (λ (t : ThreadNow). t.since) (get_or_default s.threads k d no_thread lt) in
-          omega (arith, timed.since, same, (moments_small scenario order h valid legal).last);
-    }
-
 -- ---- the step of who has the turn
 
 -- its entry is the processor's, and its moments fit; the history with it is legal
