@@ -1,4 +1,4 @@
-pub mod Plain
+pub mod Kept
 pub mod Short
 pub mod Room
 pub mod Ready
