@@ -26,7 +26,7 @@ use Rattle.aps_laws.proofs.Turns.{any_turn, one_turn}
 use Rattle.aps_laws.proofs.WaitFacts.{test_eq, test_ne}
 use Rattle.aps_laws.specs.Runs.{EndsNoSooner}
 use Rattle.aps_core.specs.Core.{IsCore, IsSetup, IsUnderWay}
-use Rattle.aps_core.specs.Plain.{IsKept}
+use Rattle.aps_core.specs.Kept.{IsKept}
 use Rattle.aps_core.specs.Run.{Run, Setup, end_of_run, history_of, rooms_of, state_of, with_last}
 use Rattle.aps_core.specs.Turn.{HasTurnIn, with_entry}
 use Rattle.aps_core.specs.Ready.{IsReady}

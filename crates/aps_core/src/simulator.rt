@@ -192,7 +192,7 @@ impl Core {
         ensures own { result.cpu ≡ cpu }
         ensures room { length self.old.entries < self.old.setup.limit }
     {
-        let e = self.machine.step(
+        let (e, _reboot) = self.machine.step(
             self.history.scenario(),
             self.history.entries(),
             self.parts.as_mut_slice(),
