@@ -1,5 +1,5 @@
 -- What the work of a tick without commands, the bill and the operation leave as it was.
-use Rattle.std.proofs.Common.{◌≡◌, ℕ, zero, suc, ◌-◌, ◌/◌, List, [], ◌∷◌, length, refl, sym, ◌∙◌, ap, cond, Bool, true, false, Option, Some, None, length-set, slice_set, subst}
+use Rattle.std.proofs.Common.{◌≡◌, ℕ, zero, suc, ◌-◌, ◌/◌, List, [], ◌∷◌, refl, sym, ◌∙◌, ap, cond, Bool, true, false, Option, Some, None, length-set, subst}
 use Rattle.std.specs.List.{enumerate_from, filter, fold}
 use Rattle.std.specs.Prelude.{nat_eq}
 use Rattle.aps_model.specs.declared.command.CommandRow.{CommandRow}

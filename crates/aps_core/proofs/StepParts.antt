@@ -1,8 +1,7 @@
 -- The parts of a step in which nothing is commanded and no bankruptcy has an effect.
-use Rattle.std.proofs.Common.{◌≡◌, ◌≢◌, ℕ, ◌-◌, ◌/◌, ◌++◌, ◌&&◌, List, [], ◌∷◌, refl, sym, ◌∙◌, ap, false, true, Bool, Option, Some, None, subst}
+use Rattle.std.proofs.Common.{◌≡◌, ◌≢◌, ℕ, ◌/◌, ◌++◌, List, [], ◌∷◌, refl, sym, ◌∙◌, ap, false, true, Option, Some, None, subst}
 use Rattle.std.specs.Prelude.{IsSome}
 use Rattle.aps_model.specs.declared.entry.Entry.{Entry}
-use Rattle.aps_model.specs.declared.shape.Bankruptcy.{Bankruptcy}
 use Rattle.aps_model.specs.declared.shape.Bankruptcy.TheVariants.{Basic}
 use Rattle.aps_model.specs.declared.shape.Shape.{Shape}
 use Rattle.aps_model.specs.declared.state.Pick.{Pick}
