@@ -1,17 +1,16 @@
 -- What a step rests on holds of the step of a processor that has the turn.
-use Rattle.std.proofs.Common.{◌≡◌, ℕ, ◌+◌, ◌-◌, ◌<◌, ◌≤◌, List, length, sym, ◌∙◌, ap, subst, Some, None, slice_index_or, arith, inl, inr}
+use Rattle.std.proofs.Common.{◌≡◌, ℕ, ◌≤◌, List, length, ap, None, slice_index_or, arith, inl, inr}
 use Rattle.std.proofs.lemmas.Bool.{cases_lt}
 use Rattle.std.proofs.lemmas.List.{get_or_past}
 use Rattle.aps_model.specs.declared.entry.Entry.{Entry}
 use Rattle.aps_model.specs.declared.entry.Order.{Order}
-use Rattle.aps_model.specs.declared.state.Pick.{Pick}
 use Rattle.aps_model.specs.declared.state.State.TheVariants.{Running}
 use Rattle.aps_model.specs.declared.state.ThreadNow.{ThreadNow}
 use Rattle.aps_model.specs.After.{after, over, state_after}
 use Rattle.aps_model.specs.Due.{HasTurn, due}
 use Rattle.aps_model.specs.Legal.{IsLegal}
 use Rattle.aps_model.specs.Scenario.{Scenario}
-use Rattle.aps_model.specs.SchedulerState.{SchedulerState, cpu_at, no_thread, thread_at}
+use Rattle.aps_model.specs.SchedulerState.{SchedulerState, no_thread}
 use Rattle.aps_model.specs.Valid.{IsScenario}
 use Rattle.aps_laws.specs.Between.{IsWellFormed, after_bill, after_tick}
 use Rattle.aps_laws.specs.ThreadFits.{Each, IsThreadFit}
@@ -23,7 +22,7 @@ use Rattle.aps_laws.proofs.StampCounts.{few_stamps}
 use Rattle.aps_laws.proofs.ThreadFacts.{running_within}
 use Rattle.aps_laws.proofs.ThreadFit.{fits_law}
 use Rattle.aps_core.specs.Ready.{IsReady}
-use Rattle.aps_core.specs.Room.{HasRoom, HasRoomToWake}
+use Rattle.aps_core.specs.Room.{HasRoom}
 use Rattle.aps_core.proofs.Turns.{due_now}
 use Rattle.aps_core.proofs.Waiters.{few_waiters}
 

@@ -1,4 +1,4 @@
-use Rattle.std.proofs.Common.{ℕ, ◌≡◌, ◌≤◌, sym, ◌∙◌, ap, refl, subst, length, arith}
+use Rattle.std.proofs.Common.{ℕ, ◌≤◌, sym, ◌∙◌, refl, subst, length, arith}
 use Rattle.aps_model.specs.SchedulerState.{SchedulerState, thread_at}
 use Rattle.aps_model.specs.Shape.{horizon}
 use Rattle.aps_core.specs.Room.{HasRoom, HasRoomToWake}

@@ -1,8 +1,6 @@
 use Rattle.std.proofs.Common.{◌≡◌, None, arith, subst, sym}
 use Rattle.std.proofs.lemmas.Grind.{common_steps}
-use Rattle.aps_model.specs.declared.entry.Entry.{Entry}
 use Rattle.aps_core.specs.CoreView.{run_of}
-use Rattle.aps_core.specs.Ready.{IsReady}
 use Rattle.aps_core.specs.Rising.{IsRising}
 use Rattle.aps_core.specs.Run.{end_of_run}
 use Rattle.aps_core.specs.Turn.{HasTurnIn}
