@@ -25,7 +25,7 @@ use Rattle.aps_model.specs.Step.{begun, billed, chosen, enter_next, finish_op, g
 use Rattle.aps_model.specs.TickWork.{do_command, do_commands, has_tick_work, tick_work, wake_all, waking}
 use Rattle.aps_core.specs.Kept.{IsKept}
 
-kept_self : (s : SchedulerState) → IsKept s s
+pub kept_self : (s : SchedulerState) → IsKept s s
 kept_self s = record { rows = refl; shape = refl; threads = refl; cpus = refl; replies = refl; changes = refl }
 
 pub kept_then : {s t u : SchedulerState} → IsKept s t → IsKept t u → IsKept s u

@@ -12,6 +12,7 @@ pub mod Waking
 pub mod Turns
 pub mod Waiters
 pub mod Ready
+pub mod Taken
 pub mod Kept
 pub mod Finish
 pub mod Recent
