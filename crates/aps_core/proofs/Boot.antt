@@ -1,5 +1,5 @@
 -- The state at the start of a scenario.
-use Rattle.std.proofs.Common.{◌≡◌, ◌⊎◌, ℕ, zero, suc, ◌+◌, ◌≤◌, List, [], ◌∷◌, length, map, refl, sym, ◌∙◌, ap, replicate, inl, inr, arith}
+use Rattle.std.proofs.Common.{◌≡◌, ℕ, zero, suc, ◌+◌, ◌≤◌, List, [], ◌∷◌, length, map, refl, ◌∙◌, ap, replicate, arith}
 use Rattle.aps_model.specs.declared.command.Change.{Change}
 use Rattle.aps_model.specs.declared.command.Reply.{Reply}
 use Rattle.aps_model.specs.declared.partition.PartitionRow.{PartitionRow}
@@ -8,7 +8,6 @@ use Rattle.aps_model.specs.declared.shape.Shape.{Shape}
 use Rattle.aps_model.specs.declared.state.CpuNow.{CpuNow}
 use Rattle.aps_model.specs.declared.state.ThreadNow.{ThreadNow}
 use Rattle.aps_model.specs.Opening.{first_state, opening, stamp_after, start_stamps, start_threads}
-use Rattle.aps_laws.specs.Rows.{IsNamedTree}
 use Rattle.aps_model.specs.Scenario.{Scenario}
 use Rattle.aps_model.specs.SchedulerState.{ChannelNow, SchedulerState, Triple, idle, no_channel}
 use Rattle.aps_model.specs.Valid.{IsScenario}
@@ -36,17 +35,6 @@ machine_opening scenario parts replies changes valid same room more = record {
   parts = same;
   reply_room = room;
   change_room = more;
-}
-
--- the rows of a scenario are a tree
-pub named_rows : (scenario : Scenario) → IsScenario scenario → IsNamedTree scenario.partitions
-named_rows scenario valid = record {
-  some = valid.tree.some;
-  few = valid.tree.few;
-  root_name = valid.tree.root.name;
-  root_parent = valid.tree.root.parent;
-  parents = valid.tree.parents;
-  names = valid.tree.names;
 }
 
 -- what the code makes of the parts of a scenario

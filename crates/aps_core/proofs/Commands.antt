@@ -1,10 +1,10 @@
 -- What a command leaves, and the commands of a tick that are still to be done.
-use Rattle.std.proofs.Common.{◌≡◌, ◌≢◌, ℕ, zero, suc, ◌+◌, ◌<◌, ◌≤◌, List, [], ◌∷◌, ◌++◌, length, drop, get_or, map, refl, sym, ◌∙◌, ap, subst, cond, Bool, true, false, nat_eq, Option, Some, None, IfSome, slice_set, slice_index_or, arith}
+use Rattle.std.proofs.Common.{◌≡◌, ℕ, zero, suc, ◌+◌, ◌<◌, ◌≤◌, List, [], ◌∷◌, ◌++◌, length, drop, get_or, map, refl, sym, ◌∙◌, ap, subst, cond, Bool, nat_eq, Option, Some, None, IfSome, arith}
 use Rattle.std.specs.List.{enumerate_from, filter, fold}
 use Rattle.std.proofs.Math.ListN.{get_or-map}
 use Rattle.std.proofs.Math.Seq.{map-set_same}
 use Rattle.std.proofs.lemmas.List.Elements.{All-get_or}
-use Rattle.std.proofs.lemmas.List.{drop_all, length-append}
+use Rattle.std.proofs.lemmas.List.{length-append}
 use Rattle.aps_model.specs.declared.command.Answer.{Answer}
 use Rattle.aps_model.specs.declared.command.Call.{Call}
 use Rattle.aps_model.specs.declared.command.Change.{Change}
@@ -20,12 +20,12 @@ use Rattle.aps_model.specs.declared.shape.Shape.{Shape}
 use Rattle.aps_model.specs.declared.state.ThreadNow.{ThreadNow}
 use Rattle.aps_model.specs.Command.{Performed, perform, shape_set}
 use Rattle.aps_model.specs.Scenario.{Scenario}
-use Rattle.aps_model.specs.SchedulerState.{SchedulerState, no_thread, thread_at, with_own}
+use Rattle.aps_model.specs.SchedulerState.{SchedulerState, no_thread, thread_at}
 use Rattle.aps_model.specs.Shape.{IsShape}
-use Rattle.aps_model.specs.TickWork.{changes_with, do_command, do_commands, thread_named, view_of, with_mark}
+use Rattle.aps_model.specs.TickWork.{changes_with, do_command, thread_named, view_of, with_mark}
 use Rattle.aps_model.specs.Valid.{IsCall, IsCommand, IsScenario, IsWindow}
-use Rattle.aps_laws.proofs.Performed.{Leaves, performed_by}
-use Rattle.aps_laws.proofs.WaitFacts.{test_eq, test_ne}
+use Rattle.aps_laws.proofs.Performed.{performed_by}
+use Rattle.aps_laws.proofs.WaitFacts.{test_eq}
 use Rattle.aps_core.specs.Calls.{IsInRange}
 use Rattle.aps_core.specs.Machine.{IsMachine}
 use Rattle.aps_core.specs.Room.{HasRoomToWake}
@@ -188,16 +188,6 @@ pub left_at : (h : List Entry) (j : ℕ) (commands : List CommandRow) (i : ℕ) 
 left_at h j commands i row s below is at =
     next_left h j commands i row s below is
     ∙ ap (λ b. fold (do_command h j) s (cond b ((i, row) ∷ filter (λ (c : ℕ × CommandRow). nat_eq c.1.tick j) (enumerate_from (i + 1) (drop (i + 1) commands))) (filter (λ (c : ℕ × CommandRow). nat_eq c.1.tick j) (enumerate_from (i + 1) (drop (i + 1) commands))))) (test_eq row.tick j at)
-
--- a command of another tick
-pub left_other : (h : List Entry) (j : ℕ) (commands : List CommandRow) (i : ℕ) (row : CommandRow) (s : SchedulerState) → i < length commands → row ≡ get_or commands i row → row.tick ≢ j
-    → left_from h j commands i s ≡ left_from h j commands (i + 1) s
-left_other h j commands i row s below is other =
-    next_left h j commands i row s below is
-    ∙ ap (λ b. fold (do_command h j) s (cond b ((i, row) ∷ filter (λ (c : ℕ × CommandRow). nat_eq c.1.tick j) (enumerate_from (i + 1) (drop (i + 1) commands))) (filter (λ (c : ℕ × CommandRow). nat_eq c.1.tick j) (enumerate_from (i + 1) (drop (i + 1) commands))))) (test_ne row.tick j other)
-
-pub none_left : (h : List Entry) (j : ℕ) (commands : List CommandRow) (i : ℕ) (s : SchedulerState) → length commands ≤ i → left_from h j commands i s ≡ s
-none_left h j commands i s past = ap (λ l. fold (do_command h j) s (filter (λ (c : ℕ × CommandRow). nat_eq c.1.tick j) (enumerate_from i l))) (drop_all i commands past)
 
 -- ---- places and stamps
 

@@ -1,8 +1,6 @@
 -- What the wakes, the bill and the operation leave as it was.
-use Rattle.std.proofs.Common.{◌≡◌, ℕ, zero, suc, ◌-◌, ◌/◌, List, [], ◌∷◌, length, refl, sym, ◌∙◌, ap, cond, Bool, true, false, Option, Some, None, length-set, slice_set, subst}
-use Rattle.std.specs.List.{enumerate_from, filter, fold}
-use Rattle.std.specs.Prelude.{nat_eq}
-use Rattle.aps_model.specs.declared.command.CommandRow.{CommandRow}
+use Rattle.std.proofs.Common.{◌≡◌, ℕ, zero, suc, ◌/◌, List, [], ◌∷◌, length, refl, sym, ◌∙◌, ap, cond, Bool, true, false, Option, Some, None, length-set}
+use Rattle.std.specs.List.{fold}
 use Rattle.aps_model.specs.declared.entry.Entry.{Entry}
 use Rattle.aps_model.specs.declared.merit.Contender.{Contender}
 use Rattle.aps_model.specs.declared.merit.PartFacts.{PartFacts}
@@ -20,9 +18,9 @@ use Rattle.aps_model.specs.Messages.{first_message, received, received_message, 
 use Rattle.aps_model.specs.Operation.{go_on, is_slice_over, with_ready, with_stamped}
 use Rattle.aps_model.specs.Partition.{partition_named}
 use Rattle.aps_model.specs.Scenario.{Scenario, op_at, thread_row}
-use Rattle.aps_model.specs.SchedulerState.{Message, SchedulerState, channel_at, cpu_at, thread_at, with_cpu, with_state, with_thread}
-use Rattle.aps_model.specs.Step.{begun, billed, chosen, enter_next, finish_op, give_back, settled}
-use Rattle.aps_model.specs.TickWork.{do_command, do_commands, has_tick_work, tick_work, wake_all, waking}
+use Rattle.aps_model.specs.SchedulerState.{Message, SchedulerState, channel_at, thread_at, with_state, with_thread}
+use Rattle.aps_model.specs.Step.{chosen, enter_next, finish_op, give_back, settled}
+use Rattle.aps_model.specs.TickWork.{do_commands, has_tick_work, tick_work, wake_all, waking}
 use Rattle.aps_core.specs.Kept.{IsKept}
 
 pub kept_self : (s : SchedulerState) → IsKept s s
@@ -69,10 +67,6 @@ wake_kept scenario now s = all_woken_kept scenario now (waking s now) s
 pub ticked : (scenario : Scenario) (s : SchedulerState) (h : List Entry) (now : ℕ) → has_tick_work s h now ≡ true → tick_work scenario s h now ≡ wake_all scenario now (do_commands scenario h (now / s.shape.tick) s)
 ticked scenario s h now works =
     ap (λ t. elim t as (λ _. SchedulerState) [ true ↦ wake_all scenario now (do_commands scenario h (now / s.shape.tick) s) | false ↦ s ]) works
-
-pub unticked : (scenario : Scenario) (s : SchedulerState) (h : List Entry) (now : ℕ) → has_tick_work s h now ≡ false → tick_work scenario s h now ≡ s
-unticked scenario s h now idle =
-    ap (λ t. elim t as (λ _. SchedulerState) [ true ↦ wake_all scenario now (do_commands scenario h (now / s.shape.tick) s) | false ↦ s ]) idle
 
 -- ---- the bill
 

@@ -5,7 +5,6 @@ pub mod Numbers
 pub mod Frame
 pub mod Commands
 pub mod Rows
-pub mod Bankrupt
 pub mod StepParts
 pub mod Boot
 pub mod Waking

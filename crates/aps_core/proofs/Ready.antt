@@ -1,5 +1,5 @@
 -- What a step rests on holds of the step of a processor that has the turn.
-use Rattle.std.proofs.Common.{◌≡◌, ℕ, ◌+◌, ◌-◌, ◌/◌, ◌<◌, ◌≤◌, List, [], ◌∷◌, ◌++◌, length, sym, ◌∙◌, ap, subst, cond, Bool, true, false, nat_eq, Option, Some, None, slice_index_or, arith, inl, inr}
+use Rattle.std.proofs.Common.{◌≡◌, ℕ, ◌-◌, ◌/◌, ◌≤◌, List, [], ◌∷◌, ◌++◌, length, ◌∙◌, ap, cond, Bool, true, false, nat_eq, Option, Some, None, slice_index_or, arith, inl, inr}
 use Rattle.std.proofs.lemmas.Bool.{cases_lt}
 use Rattle.std.proofs.lemmas.List.{get_or_past, length-append}
 use Rattle.aps_model.specs.declared.entry.Entry.{Entry}
@@ -16,7 +16,7 @@ use Rattle.aps_model.specs.Scenario.{Scenario}
 use Rattle.aps_model.specs.Shape.{horizon}
 use Rattle.aps_model.specs.Step.{Step, billed, pick, settled, step, tested, unless_rebooted}
 use Rattle.aps_model.specs.Tree.{rows_cancelled}
-use Rattle.aps_model.specs.SchedulerState.{SchedulerState, cpu_at, no_thread, row_at, thread_at}
+use Rattle.aps_model.specs.SchedulerState.{SchedulerState, cpu_at, no_thread, row_at}
 use Rattle.aps_model.specs.Valid.{IsScenario}
 use Rattle.aps_model.proofs.AfterLaws.{after-append}
 use Rattle.aps_laws.specs.Between.{IsWellFormed, after_bill, after_tick, before_pick, bill_in}
@@ -34,7 +34,7 @@ use Rattle.aps_laws.proofs.ThreadFacts.{running_within}
 use Rattle.aps_laws.proofs.ThreadFit.{fits_law}
 use Rattle.aps_core.specs.Kept.{IsKept}
 use Rattle.aps_core.specs.Ready.{IsReady}
-use Rattle.aps_core.specs.Room.{HasRoom, HasRoomToWake}
+use Rattle.aps_core.specs.Room.{HasRoom}
 use Rattle.aps_core.proofs.Frame.{chosen_kept, flagged_kept, kept_self, kept_then, settled_kept, spent_kept}
 use Rattle.aps_core.proofs.Turns.{due_now}
 use Rattle.aps_core.proofs.Waiters.{few_waiters}

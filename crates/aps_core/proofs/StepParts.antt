@@ -1,21 +1,18 @@
 -- The parts of a step, as the code makes them.
-use Rattle.std.proofs.Common.{◌≡◌, ◌≢◌, ℕ, ◌-◌, ◌/◌, ◌++◌, ◌&&◌, List, [], ◌∷◌, refl, sym, ◌∙◌, ap, false, true, Bool, Option, Some, None, subst}
-use Rattle.std.specs.Prelude.{IsSome, is_some}
+use Rattle.std.proofs.Common.{◌≡◌, ◌≢◌, ℕ, List, refl, sym, ◌∙◌, ap, false, true, Option, Some, None}
+use Rattle.std.specs.Prelude.{is_some}
 use Rattle.aps_model.specs.declared.entry.Entry.{Entry}
-use Rattle.aps_model.specs.declared.shape.Bankruptcy.{Bankruptcy}
-use Rattle.aps_model.specs.declared.shape.Bankruptcy.TheVariants.{Basic}
-use Rattle.aps_model.specs.declared.shape.Shape.{Shape}
 use Rattle.aps_model.specs.declared.state.Pick.{Pick}
-use Rattle.aps_model.specs.Bill.{Tested, after_test, bankrupt, bill_of}
+use Rattle.aps_model.specs.Bill.{Tested, bill_of}
 use Rattle.aps_model.specs.Due.{due, last_end}
 use Rattle.aps_model.specs.Messages.{Effect}
 use Rattle.aps_model.specs.Scenario.{Scenario}
 use Rattle.aps_model.specs.SchedulerState.{SchedulerState, cpu_at, with_cpu}
 use Rattle.aps_model.specs.Shape.{horizon}
-use Rattle.aps_model.specs.Step.{Step, begun, billed, complete, pick, settled, step, tested, unless_rebooted}
+use Rattle.aps_model.specs.Step.{Step, begun, billed, pick, settled, step, tested, unless_rebooted}
 use Rattle.aps_model.specs.TickWork.{tick_work}
-use Rattle.aps_laws.proofs.WaitFacts.{test_eq, test_ne}
-use Rattle.aps_laws.specs.Between.{after_bill, after_tick, before_pick}
+use Rattle.aps_laws.proofs.WaitFacts.{test_ne}
+use Rattle.aps_laws.specs.Between.{after_tick}
 
 -- what the parts of a step before the operation leave, with the test of bankruptcy
 pub record IsTested (scenario : Scenario) (s : SchedulerState) (h : List Entry) (c now : ℕ) (running : Option Pick) (e : Entry) (t : SchedulerState) (reboot : Option ℕ) : Type 0 where
@@ -36,12 +33,6 @@ tested_by scenario s h c now from running s1 s2 e t0 t reboot e1 e2 e3 e4 e5 e6 
   test = sym (ap (λ m. tested m h e) (e7 ∙ ap (λ m. billed m e running) (e5 ∙ ap (λ m. tick_work scenario m h now) e4))) ∙ e8;
 }
 
--- the state after the test
-pub tested_state : (scenario : Scenario) (s : SchedulerState) (h : List Entry) (c now : ℕ) (running : Option Pick) (e : Entry) (t : SchedulerState) (reboot : Option ℕ)
-    → IsTested scenario s h c now running e t reboot → t ≡ after_bill scenario s h c
-tested_state scenario s h c now running e t reboot b =
-    sym (ap (λ (test : Tested). test.state) b.test) ∙ rw (b.entry, b.ran, b.at_due) refl
-
 step_goes_on : (scenario : Scenario) (s : SchedulerState) (h : List Entry) (c now : ℕ) (running : Option Pick) (e : Entry) (t : SchedulerState) (reboot : Option ℕ)
     → IsTested scenario s h c now running e t reboot → step scenario s h c ≡ unless_rebooted scenario (record { state = t; reboot = reboot }) h c now e running reboot
 step_goes_on scenario s h c now running e t reboot b =
@@ -51,15 +42,6 @@ step_goes_on scenario s h c now running e t reboot b =
 
 below : Scenario → SchedulerState → List Entry → ℕ → ℕ → Entry → Option Pick → Step
 below scenario s h c now e running = pick (settled scenario s now running).state h c now (record e { done = (settled scenario s now running).done })
-
--- a reboot, or the horizon, completes the entry
-pub step_ends : (scenario : Scenario) (s : SchedulerState) (h : List Entry) (c now : ℕ) (running : Option Pick) (e : Entry) (t : SchedulerState) (reboot : Option ℕ)
-    → IsTested scenario s h c now running e t reboot → (is_some reboot ≡ false → now ≡ horizon t.shape) → step scenario s h c ≡ record { entry = e; state = t; reboot = reboot }
-unfolding below
-step_ends scenario s h c now running e t (Some p) b there = step_goes_on scenario s h c now running e t (Some p) b
-step_ends scenario s h c now running e t None b there =
-    step_goes_on scenario s h c now running e t None b
-    ∙ ap (λ v. elim v as (λ _. Step) [ true ↦ record { entry = e; state = t; reboot = None } | false ↦ below scenario t h c now e running ]) (test_eq now (horizon t.shape) (there refl))
 
 -- else the operation is settled, and the pick comes
 pub step_below : (scenario : Scenario) (s : SchedulerState) (h : List Entry) (c now : ℕ) (running : Option Pick) (e : Entry) (t : SchedulerState) (reboot : Option ℕ) (did : Effect) (out : Step)
@@ -74,22 +56,11 @@ step_below scenario s h c now running e t reboot did out b goes_on early did_is 
     ∙ ap (λ z. pick did.state h c z (record e { done = did.done })) (sym to)
     ∙ picks
 
--- the state before the pick
-pub settled_state : (scenario : Scenario) (s : SchedulerState) (h : List Entry) (c now : ℕ) (running : Option Pick) (e : Entry) (t : SchedulerState) (reboot : Option ℕ) (did : Effect)
-    → IsTested scenario s h c now running e t reboot → settled scenario t now running ≡ did → did.state ≡ before_pick scenario s h c
-settled_state scenario s h c now running e t reboot did b did_is =
-    sym (ap (λ (r : Effect). r.state) did_is)
-    ∙ (λ k. (settled scenario (tested_state scenario s h c now running e t reboot b k) (b.at_due k) (b.ran k)).state)
-
 -- the state in which the bill is made
 pub ticked_by : (scenario : Scenario) (s : SchedulerState) (h : List Entry) (c now : ℕ) (s1 s2 : SchedulerState)
     → now ≡ due s h c → s1 ≡ with_cpu s c (record (cpu_at s c) { flag = None }) → s2 ≡ tick_work scenario s1 h now → s2 ≡ after_tick scenario s h c
 ticked_by scenario s h c now s1 s2 e1 e2 e3 =
     e3 ∙ ap (λ m. tick_work scenario m h now) e2 ∙ ap (λ z. begun scenario s h c z) e1
-
-pub if_runs : (running : Option Pick) (P : Type 0) → ((p : Pick) → running ≡ Some p → P) → IsSome running → P
-if_runs (Some p) P known some = known p refl
-if_runs None P known some = absurd cc
 
 pub none_is : (o : Option ℕ) → is_some o ≡ false → o ≡ None
 none_is None e = refl

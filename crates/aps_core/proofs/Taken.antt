@@ -2,7 +2,7 @@
 use Rattle.std.proofs.Common.{◌≡◌, ℕ, suc, ◌+◌, ◌<◌, ◌≤◌, List, [], ◌∷◌, ◌++◌, length, take, drop, get_or, sym, ◌∙◌, ap, cond, append_assoc, drop-cons, length-drop, slice_set, arith, inl, inr}
 use Rattle.std.proofs.Math.Seq.{set-append_seam}
 use Rattle.std.proofs.lemmas.Bool.{cases_lt}
-use Rattle.std.proofs.lemmas.List.{append-nil, drop_all, length-append, length-take-le, take_all, take_more}
+use Rattle.std.proofs.lemmas.List.{append-nil, drop_all, length-append, length-take-le, take_more}
 use Rattle.aps_model.specs.declared.partition.PartitionRow.{PartitionRow}
 use Rattle.aps_model.specs.Partition.{rows_with}
 use Rattle.aps_laws.proofs.WaitFacts.{test_eq, test_ne}
@@ -53,10 +53,3 @@ rows_more old rows p d lt =
         ∙ sym one
         ∙ sym (append-nil (take (p + 1) rows))
         ∙ ap (λ l. take (p + 1) rows ++ l) (sym (drop_all (p + 1) old (omega (arith, past))))
-
--- and at the end all of them
-pub rows_all : (old rows : List PartitionRow) (n : ℕ) → n ≡ length rows → length old ≤ length rows → take n rows ++ drop n old ≡ rows
-rows_all old rows n same le =
-    ap (λ l. l ++ drop n old) (take_all n rows (omega (arith, same)))
-    ∙ ap (λ l. rows ++ l) (drop_all n old (omega (arith, same, le)))
-    ∙ append-nil rows

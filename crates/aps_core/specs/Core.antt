@@ -1,6 +1,5 @@
-use Rattle.std.specs.Prelude.{◌≡◌, ◌≤◌, List, length, None}
+use Rattle.std.specs.Prelude.{◌≡◌, ◌≤◌, List, length}
 use Rattle.aps_model.specs.declared.merit.PartFacts.{PartFacts}
-use Rattle.aps_model.specs.After.{after}
 use Rattle.aps_model.specs.History.{History}
 use Rattle.aps_model.specs.Legal.{IsLegal}
 use Rattle.aps_model.specs.SchedulerState.{SchedulerState}

@@ -1,8 +1,8 @@
-use Rattle.std.proofs.Common.{◌≡◌, ◌∙◌, sym, ap, unwrap_or}
+use Rattle.std.proofs.Common.{◌∙◌, sym, ap, unwrap_or}
 use Rattle.aps_model.specs.declared.partition.PartitionRow.{PartitionRow}
 use Rattle.aps_model.specs.Partition.{no_row}
 use Rattle.aps_model.specs.SchedulerState.{SchedulerState, row_at}
-use Rattle.aps_core.proofs.Bankrupt.{row_read}
+use Rattle.aps_core.proofs.Rows.{row_read}
 use Rattle.aps_core.proofs.machine.Machine.critical_budget.Goals as goal
 
 pub returns-in-None : goal.returns-in-None

@@ -1,9 +1,8 @@
-use Rattle.std.proofs.Common.{◌≡◌, ◌≤◌, ◌<◌, ◌+◌, ◌++◌, [], ◌∷◌, length, ◌∙◌, sym, ap, subst, None, Some, arith}
-use Rattle.std.proofs.lemmas.List.{length-append}
+use Rattle.std.proofs.Common.{◌≤◌, length, ◌∙◌, sym, ap, subst, arith}
 use Rattle.aps_model.specs.SchedulerState.{SchedulerState}
 use Rattle.aps_model.specs.TickWork.{changes_with, do_command, view_of}
 use Rattle.aps_core.specs.MachineView.{state_of}
-use Rattle.aps_core.proofs.Commands.{IsPerformed, added_change, done_by, few_changes, few_replies, performed_machine, performed_of}
+use Rattle.aps_core.proofs.Commands.{IsPerformed, added_change, done_by, few_replies, performed_machine, performed_of}
 use Rattle.aps_core.proofs.machine.Machine.do_command.Goals as goal
 
 pub invariant_of-self : goal.invariant_of-self

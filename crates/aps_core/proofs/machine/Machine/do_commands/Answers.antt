@@ -1,6 +1,5 @@
-use Rattle.std.proofs.Common.{◌≡◌, ◌∙◌, sym, ap}
-use Rattle.aps_model.specs.TickWork.{do_commands}
-use Rattle.aps_core.proofs.Commands.{HasRoomAt, in_range, left_at, left_other, none_left, room_at}
+use Rattle.std.proofs.Common.{◌∙◌, sym}
+use Rattle.aps_core.proofs.Commands.{in_range, room_at}
 use Rattle.aps_core.proofs.machine.Machine.do_commands.Goals as goal
 
 pub do_command-requires-clause-call : goal.do_command-requires-clause-call

@@ -1,7 +1,6 @@
-use Rattle.std.proofs.Common.{ℕ, ◌≤◌, sym, ◌∙◌, refl, subst, length, arith}
+use Rattle.std.proofs.Common.{ℕ, ◌≤◌, sym, ◌∙◌, refl, subst, length}
 use Rattle.aps_model.specs.SchedulerState.{SchedulerState, thread_at}
-use Rattle.aps_model.specs.Shape.{horizon}
-use Rattle.aps_core.specs.Room.{HasRoom, HasRoomToWake}
+use Rattle.aps_core.specs.Room.{HasRoomToWake}
 use Rattle.aps_core.proofs.StepParts.{none_is, step_below, tested_by, ticked_by}
 use Rattle.aps_core.proofs.machine.Machine.step.Goals as goal
 

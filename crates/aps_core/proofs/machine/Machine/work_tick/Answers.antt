@@ -1,8 +1,8 @@
-use Rattle.std.proofs.Common.{ℕ, ◌≡◌, ◌≤◌, ◌∙◌, sym, subst, arith, length, true}
-use Rattle.aps_model.specs.TickWork.{commands_of, has_tick_work}
+use Rattle.std.proofs.Common.{ℕ, ◌∙◌, sym, subst, arith}
+use Rattle.aps_model.specs.TickWork.{commands_of}
 use Rattle.aps_core.specs.Room.{HasRoomToWake}
 use Rattle.aps_core.proofs.Commands.{commands_room}
-use Rattle.aps_core.proofs.Frame.{HasFewDone, ticked_lists}
+use Rattle.aps_core.proofs.Frame.{ticked_lists}
 use Rattle.aps_core.proofs.machine.Machine.work_tick.Goals as goal
 
 pub do_commands-requires-clause-replies : goal.do_commands-requires-clause-replies
