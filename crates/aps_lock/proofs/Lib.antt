@@ -1,0 +1,5 @@
+pub mod Sums
+pub mod Others
+pub mod Kept
+pub mod Steps
+pub mod Own
