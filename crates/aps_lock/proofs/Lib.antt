@@ -1,5 +1,8 @@
 pub mod Sums
 pub mod Others
-pub mod Kept
-pub mod Steps
 pub mod Own
+pub mod Queue
+pub mod Turning
+pub mod Sharing
+pub mod Ends
+pub mod Steps

@@ -6,7 +6,7 @@ use native.Mathlib.Decide.{dec_le}
 use Rattle.aps_model.specs.declared.entry.Entry.{Entry}
 use Rattle.aps_core.specs.Run.{Run}
 use Rattle.aps_core.specs.Turn.{with_entry}
-use Rattle.aps_lock.specs.Seen.{AreOfOthers, IsSeenIn, IsOutside, cpus_of, longer}
+use Rattle.aps_lock.specs.Seen.{AreOfOthers, IsSeenIn, cpus_of, longer}
 
 pub others_snoc : (first after cpus : ℕ) (es : List Entry) (e : Entry) → AreOfOthers first after cpus es → (e.cpu < first) ⊎ (after ≤ e.cpu) → e.cpu < cpus → AreOfOthers first after cpus (es ++ e ∷ [])
 others_snoc first after cpus [] e h out is = (out, is, tt)

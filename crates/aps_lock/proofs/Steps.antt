@@ -1,5 +1,5 @@
 -- What a turn of the core adds, and what it leaves of a seat's own entries.
-use Rattle.std.proofs.Common.{Option, Some, ◌≡◌, ℕ, ◌+◌, ◌<◌, ◌≤◌, List, [], ◌∷◌, unwrap_or, sym, refl, ap, ◌∙◌, inl, inr}
+use Rattle.std.proofs.Common.{Option, Some, ◌≡◌, ℕ, ◌<◌, ◌≤◌, List, [], ◌∷◌, unwrap_or, sym, refl, ap, ◌∙◌, inl, inr}
 use Rattle.aps_core.specs.declared.turn.Turn.{Turn}
 use Rattle.aps_core.specs.declared.turn.Turn.TheVariants.{Took, NotYet, Ended}
 use Rattle.aps_core.specs.Run.{Run}

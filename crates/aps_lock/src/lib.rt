@@ -4,7 +4,7 @@
 #![tactic(auto)]
 
 mod dispatch;
-mod laws;
+pub mod laws;
 mod rule;
 mod seat;
 mod view;

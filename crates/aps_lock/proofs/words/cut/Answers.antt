@@ -2,7 +2,7 @@ use Rattle.std.proofs.Common.{rules, ℕ, sym, subst}
 use Rattle.atomic_table.specs.Table.{Splits}
 use Rattle.aps_lock.specs.Rule.{KeepsRule}
 use Rattle.aps_lock.specs.Kinds.{cut_left, cut_right}
-use Rattle.aps_lock.proofs.Kept.{cuts}
+use Rattle.aps_lock.proofs.Sharing.{cuts}
 use Rattle.aps_lock.proofs.words.cut.Goals as goal
 
 pub split_seat-requires : goal.split_seat-requires

@@ -6,7 +6,8 @@ use Rattle.aps_lock.specs.declared.view.View.{View}
 use Rattle.aps_lock.specs.Seen.{IsSeenIn}
 use Rattle.aps_lock.specs.Rule.{KeepsRule}
 use Rattle.aps_lock.specs.Kinds.{Tells, joined}
-use Rattle.aps_lock.proofs.Kept.{joins, tells}
+use Rattle.aps_lock.proofs.Sharing.{joins}
+use Rattle.aps_lock.proofs.Turning.{tells}
 use Rattle.aps_lock.proofs.words.merge.Goals as goal
 
 pub join_seat-requires : goal.join_seat-requires

@@ -4,7 +4,7 @@ use mathlib.Core.Option.{none}
 use Rattle.aps_core.specs.Run.{Run}
 use Rattle.aps_lock.specs.Rule.{KeepsRule}
 use Rattle.aps_lock.specs.Kinds.{Publishes}
-use Rattle.aps_lock.proofs.Kept.{publishes}
+use Rattle.aps_lock.proofs.Turning.{publishes}
 use Rattle.aps_lock.proofs.words.publish.Goals as goal
 
 pub swap-requires : goal.swap-requires

@@ -4,7 +4,7 @@ use mathlib.Core.Option.{none}
 use Rattle.aps_core.specs.Run.{Run}
 use Rattle.aps_lock.specs.Rule.{KeepsRule}
 use Rattle.aps_lock.specs.Kinds.{Releases}
-use Rattle.aps_lock.proofs.Kept.{releases}
+use Rattle.aps_lock.proofs.Turning.{releases}
 use Rattle.aps_lock.proofs.words.release.Goals as goal
 
 pub fetch_add-requires : goal.fetch_add-requires

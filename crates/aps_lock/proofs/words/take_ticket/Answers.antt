@@ -4,7 +4,7 @@ use mathlib.Core.Option.{none}
 use Rattle.aps_core.specs.Run.{Run}
 use Rattle.aps_lock.specs.Rule.{KeepsRule}
 use Rattle.aps_lock.specs.Kinds.{TakesTicket}
-use Rattle.aps_lock.proofs.Kept.{takes_ticket}
+use Rattle.aps_lock.proofs.Turning.{takes_ticket}
 use Rattle.aps_lock.proofs.words.take_ticket.Goals as goal
 
 pub fetch_add-requires : goal.fetch_add-requires

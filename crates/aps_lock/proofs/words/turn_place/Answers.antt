@@ -18,5 +18,5 @@ publish-requires-clause-run g c =
     let same : got.0 ≡ found = same_held c.wait_served.new.place.me.1 got.0 found (ap (λ m. m.1) got.2) out.0 in
     let view : c.take_core-core.new.place.me.0 ≡ record v { seen = got.0; ticket = Served ticket } = ap (λ m. m.0) out.1 ∙ ap (λ m. m.0) got.2 ∙ ap (λ m. let x : View = record m.0 { seen = got.0; ticket = Served ticket } in x) took in
     let step : IsStepped v.first v.after got.0 next = subst (λ (d : Run). IsStepped v.first v.after d next) (sym same) (subst (IsStepped v.first v.after found) (sym c.step-turn.ensures.run)
-        (turn_steps v.first v.after found c.args.cpu c.step-turn.result c.step-turn.ensures.own c.requires.cpu.0 c.requires.cpu.1)) in
+    (turn_steps v.first v.after found c.args.cpu c.step-turn.result c.step-turn.ensures.own c.requires.cpu.0 c.requires.cpu.1)) in
     (refl, subst (λ (x : View). IsStepped x.first x.after x.seen next) (sym view) step, c.len_of-len.ensures)

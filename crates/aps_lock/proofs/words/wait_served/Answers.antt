@@ -5,7 +5,7 @@ use Rattle.aps_core.specs.Run.{Run}
 use Rattle.aps_lock.specs.declared.view.View.{View}
 use Rattle.aps_lock.specs.Rule.{KeepsRule}
 use Rattle.aps_lock.specs.Kinds.{Looks}
-use Rattle.aps_lock.proofs.Kept.{looks}
+use Rattle.aps_lock.proofs.Turning.{looks}
 use Rattle.aps_lock.proofs.words.wait_served.Goals as goal
 
 pub load-requires : goal.load-requires

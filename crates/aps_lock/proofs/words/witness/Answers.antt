@@ -1,5 +1,5 @@
 use Rattle.std.proofs.Common.{rules}
-use Rattle.aps_lock.proofs.Kept.{witnesses}
+use Rattle.aps_lock.proofs.Sharing.{witnesses}
 use Rattle.aps_lock.proofs.words.witness.Goals as goal
 
 pub split_seat-requires : goal.split_seat-requires

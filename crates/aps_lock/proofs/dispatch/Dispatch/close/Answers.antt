@@ -1,7 +1,7 @@
 use Rattle.std.proofs.Common.{Some, ◌≡◌, ◌+◌, ap, sym, ◌∙◌}
 use mathlib.Core.Option.{some-injective}
 use Rattle.aps_lock.specs.Seen.{cpus_of}
-use Rattle.aps_lock.proofs.Kept.{closes}
+use Rattle.aps_lock.proofs.Ends.{closes}
 use Rattle.aps_lock.proofs.dispatch.Dispatch.close.Goals as goal
 
 pub returns : goal.returns

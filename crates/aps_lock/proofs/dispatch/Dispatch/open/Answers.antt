@@ -3,7 +3,7 @@ use Rattle.atomic_table.specs.Table.{opening}
 use Rattle.aps_core.specs.Run.{Run}
 use Rattle.aps_lock.specs.Rule.{KeepsRule}
 use Rattle.aps_lock.specs.Kinds.{started}
-use Rattle.aps_lock.proofs.Kept.{begins}
+use Rattle.aps_lock.proofs.Ends.{begins}
 use Rattle.aps_lock.proofs.dispatch.Dispatch.open.Goals as goal
 
 pub new-requires : goal.new-requires

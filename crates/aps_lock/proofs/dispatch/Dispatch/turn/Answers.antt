@@ -1,6 +1,5 @@
-use Rattle.std.proofs.Common.{◌≡◌, ℕ, ◌+◌, sym, ap, subst, ◌∙◌}
+use Rattle.std.proofs.Common.{◌≡◌, ℕ, ◌+◌, ap, subst, ◌∙◌}
 use Rattle.aps_core.specs.Run.{Run}
-use Rattle.aps_core.specs.Turn.{after_turn}
 use Rattle.aps_lock.specs.declared.view.View.{View}
 use Rattle.aps_lock.specs.Seats.{SeatData}
 use Rattle.aps_lock.specs.Seen.{IsSeenIn}
