@@ -2,13 +2,13 @@ use Rattle.std.proofs.Common.{rules, sym, subst}
 use Rattle.aps_model.specs.Bound.{KeepsWindowBound, KeepsCriticalBound}
 use Rattle.aps_model.specs.History.{History}
 use Rattle.aps_laws.specs.Choices.{EachPickIsGreatest}
-use Rattle.apsim.proofs.run.run.Goals as goal
+use Rattle.apsim.proofs.run.run_to_end.Goals as goal
 
-pub returns-clause-fixed : goal.returns-clause-fixed
-returns-clause-fixed c =
+pub returns-clause-run : goal.returns-clause-run
+returns-clause-run c =
     let known = c.into_history.ensures in
     record {
-      entries = search rules;
+      fixed = search rules;
       kept = search rules;
       ended = search rules;
       no_sooner = search rules;
