@@ -4,8 +4,13 @@
 mod key;
 mod kind;
 mod operation;
+mod partitions;
 mod path;
 mod refusal;
+mod row;
+mod sizes;
+mod channels;
+mod joinable;
 mod words;
 
 pub use kind::Kind;
