@@ -1,8 +1,5 @@
 -- The elements of an array, read in a loop.
-use Rattle.aps_model.specs.declared.partition.PartitionRow.{PartitionRow}
-use Rattle.aps_scenario.specs.Partitions.{rows_with_new}
-use Rattle.std.proofs.lemmas.List.{length-set}
-use Rattle.std.proofs.Common.{◌≡◌, ℕ, suc, ◌+◌, ◌<◌, ◌≤◌, List, [], ◌∷◌, ◌∙◌, ap, slice_set, length-append, length, get_or, drop, Result, Ok, Err, inl, inr, sym, arith, nat_le, ◌&&◌}
+use Rattle.std.proofs.Common.{◌≡◌, ℕ, suc, ◌+◌, ◌<◌, ◌≤◌, List, length, get_or, drop, Result, Ok, Err, inl, inr, sym, arith, nat_le, ◌&&◌}
 use Rattle.std.proofs.lemmas.Bool.Decides.{nat_tests}
 use Rattle.std.proofs.lemmas.List.{drop_all}
 use Rattle.toml.specs.declared.value.Value.{Value}
@@ -81,6 +78,3 @@ tables-ok key most place t items e =
       | inl none ↦ let same : no_items ≡ items = cc in rw (← same) (omega arith)
       | inr p ↦ let long = array_of-ok 0 most p.0 items p.1 in long.few
     ]
-
-pub rows_more : (rows : List PartitionRow) (new : PartitionRow) → length (rows_with_new rows new) ≡ length rows + 1
-rows_more rows new = length-append (slice_set rows new.parent _) (new ∷ []) ∙ ap (λ n. n + 1) (length-set rows new.parent _)

@@ -6,3 +6,4 @@ pub mod Values
 pub mod Lists
 pub mod Created
 pub mod Operations
+pub mod Subtrees

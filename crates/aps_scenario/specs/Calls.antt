@@ -51,11 +51,14 @@ some_key first others place t = unless (not (list_any (has_key t) (first ∷ oth
 abbrev pub row_partition_name : Row (List ℕ)
 row_partition_name = row_name Partition None
 
+abbrev pub thread_named : List ThreadRow → List ℕ → Option ℕ
+thread_named threads name = position (λ (row : ThreadRow). bytes_eq row.name name) threads
+
 -- the thread that a value names
 abbrev pub thread_of : List ThreadRow → Data → Result ℕ Kind
 thread_of threads d = do
   name ← name_in d
-  or_unknown (position (λ (row : ThreadRow). bytes_eq row.name name) threads)
+  or_unknown (thread_named threads name)
 
 abbrev pub row_thread : List ThreadRow → Row ℕ
 row_thread threads = record { key = Thread; reads = thread_of threads; default = None }

@@ -1,16 +1,20 @@
 //! The scenario that a text is, or why it is none.
 #![tactic(auto)]
 
+mod calls;
+mod channels;
+mod commands;
+mod joinable;
 mod key;
 mod kind;
 mod operation;
 mod partitions;
 mod path;
+mod program;
 mod refusal;
 mod row;
 mod sizes;
-mod channels;
-mod joinable;
+mod threads;
 mod words;
 
 pub use kind::Kind;

@@ -6,7 +6,7 @@ ghost use Rattle.toml.specs.View.{view, table_view, array_view};
 ghost use Rattle.aps_scenario.specs.Key.{key_text};
 ghost use Rattle.aps_scenario.specs.Row as spec;
 ghost use Rattle.aps_scenario.specs.Row.{value_of, optional};
-ghost use Rattle.aps_scenario.specs.Elements.{array_of, row_tables, items_or_none};
+ghost use Rattle.aps_scenario.specs.Elements.{array_of, row_array, row_tables, items_or_none};
 
 use crate::key::Key;
 use crate::kind::Kind;
@@ -163,6 +163,27 @@ pub fn name_at(
     let found = match value_at(table, key) {
         None => default.ok_or(Kind::Missing),
         Some(value) => name(value),
+    };
+    found.map_err(|kind| Finding { kind, part })
+}
+
+/// An array of `least` to `most` elements, which has to be there.
+pub fn array_at(
+    table: &Table,
+    place: Place,
+    key: Key,
+    least: usize,
+    most: usize,
+) -> Result<&Array, Finding>
+    ensures is { MatchResult result
+        (λ a. value_of (row_array key least most None) place (table_view table.now) ≡ Ok (array_view a.now))
+        (λ e. value_of (row_array key least most None) place (table_view table.now) ≡ Err e) }
+    ensures few { IfOk result (λ a. length a.now.items ≤ most) }
+{
+    let part = Part::At(place, key);
+    let found = match value_at(table, key) {
+        None => Err(Kind::Missing),
+        Some(value) => array(value, least, most),
     };
     found.map_err(|kind| Finding { kind, part })
 }

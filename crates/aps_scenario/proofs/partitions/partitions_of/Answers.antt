@@ -1,7 +1,8 @@
 use Rattle.std.proofs.Common.{◌+◌, length, sym, ap, ◌∙◌, arith}
 use Rattle.std.proofs.lemmas.Result.{err_from_is_err_and}
 use Rattle.aps_scenario.specs.Partitions.{next_partition, rows_with_new}
-use Rattle.aps_scenario.proofs.Elements.{read_each-next, read_each-stops, read_each-ends, rows_more}
+use Rattle.aps_scenario.proofs.Elements.{read_each-next, read_each-stops, read_each-ends}
+use Rattle.aps_scenario.proofs.Subtrees.{rows_more}
 use Rattle.aps_scenario.proofs.partitions.partitions_of.Goals as goal
 
 pub returns-in_err-new : goal.returns-in_err-new
