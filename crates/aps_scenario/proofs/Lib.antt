@@ -7,3 +7,6 @@ pub mod Lists
 pub mod Created
 pub mod Operations
 pub mod Subtrees
+pub mod Shapes
+pub mod Trees
+pub mod ChannelNames

@@ -135,7 +135,6 @@ module _ (rows : List PartitionRow) (new : PartitionRow) (earlier : AreEarlier r
 
   pub subtree_new : subtree_budget after (length rows) ≡ new.budget
   subtree_new =
-      let i : ℕ = length rows in
       let none : (p : ℕ) → p < length rows → share (length rows) p ≡ 0 =
       λ p below. ap (λ b. cond b (row_or_none after p).budget 0) (within_kept (length rows) p below ∙ none_behind rows earlier (length rows) p below) in
       let own : nat_eq (length rows) (length rows) ≡ true = grind (arith, nat_tests) in
@@ -143,4 +142,6 @@ module _ (rows : List PartitionRow) (new : PartitionRow) (earlier : AreEarlier r
       ap (λ b. cond (b || is_within after (length rows) (length rows) (row_or_none after (length rows)).parent) (row_or_none after (length rows)).budget 0) own
       ∙ ap (λ (row : PartitionRow). row.budget) new_row in
       let zero_before : sum_by (share (length rows)) (range_with_len 0 (length rows)) ≡ 0 = places_zero (share (length rows)) (length rows) none in
-      whole_after (length rows) ∙ ap (λ n. n + share (length rows) (length rows)) zero_before ∙ here
+      let whole : subtree_budget after (length rows) ≡ sum_by (share (length rows)) (range_with_len 0 (length rows)) + share (length rows) (length rows) =
+      whole_after (length rows) in
+      omega arith
