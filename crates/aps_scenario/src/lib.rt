@@ -11,6 +11,7 @@ mod operation;
 mod partitions;
 mod path;
 mod program;
+mod reading;
 mod refusal;
 mod row;
 mod sizes;
@@ -19,4 +20,5 @@ mod words;
 
 pub use kind::Kind;
 pub use path::PathText;
+pub use reading::scenario_of;
 pub use refusal::ScenarioRefusal;
