@@ -1,16 +1,22 @@
 //! The scenario that a text is, or why it is none.
 #![tactic(auto)]
 
+mod calls;
+mod channels;
+mod commands;
+mod joinable;
 mod key;
 mod kind;
+mod operation;
 mod partitions;
 mod path;
+mod program;
 mod reading;
 mod refusal;
 mod row;
-#[cfg(test)]
-mod tests;
+mod sizes;
 mod threads;
+mod words;
 
 pub use kind::Kind;
 pub use path::PathText;
