@@ -7,3 +7,4 @@ pub mod Trees
 pub mod ThreadRows
 pub mod Validity
 pub mod Documents
+pub mod PrintedTree

@@ -8,3 +8,4 @@ pub mod Partitions
 pub mod Threads
 pub mod Reading
 pub mod PlainScenario
+pub mod PrintedTree
