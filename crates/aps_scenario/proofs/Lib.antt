@@ -1,10 +1,2 @@
-pub mod Tables
-pub mod Programs
-pub mod Elements
-pub mod Values
-pub mod Lists
-pub mod Trees
-pub mod ThreadRows
-pub mod Validity
-pub mod Documents
+pub mod Samples
 pub mod PrintedTree

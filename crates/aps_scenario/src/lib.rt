@@ -3,16 +3,11 @@
 
 mod key;
 mod kind;
-mod partitions;
+mod operation;
 mod path;
-mod reading;
 mod refusal;
-mod row;
-#[cfg(test)]
-mod tests;
-mod threads;
+mod words;
 
 pub use kind::Kind;
 pub use path::PathText;
-pub use reading::scenario_of;
 pub use refusal::ScenarioRefusal;

@@ -1,3 +1,4 @@
+//! Paths in place.
 ghost use Rattle.std.specs.Prelude.{◌≡◌, ◌≤◌, length};
 
 use std::marker::Model;
@@ -11,7 +12,7 @@ pub struct PathText {
 
 impl Model for PathText {
     ghost use Rattle.std.specs.Prelude.{ℕ, List, take, length};
-    ghost use Rattle.aps_scenario.specs.Path.{padded, FitsPath};
+    ghost use Rattle.aps_scenario.specs.PathText.{padded, FitsPath};
 
     ghost Value = { List ℕ };
 

@@ -1,3 +1,4 @@
+//! Why a text gives no scenario, and where.
 ghost use Rattle.std.specs.Prelude.{◌≡◌};
 ghost use Rattle.aps_scenario.specs.declared.refusal.Failure.TheVariants as failure;
 
@@ -23,7 +24,9 @@ pub enum ScenarioRefusal {
 pub enum Place {
     Top,
     Partition(usize),
+    Channel(usize),
     Thread(usize),
+    Command(usize),
 }
 
 /// The part of a text that is refused.
@@ -33,8 +36,10 @@ pub enum Part {
     Table(Place),
     /// A key of the format, in a table.
     At(Place, Key),
-    /// Another key of a table.
-    OtherKey(Place),
+    /// Another key of a table, as it is told.
+    OtherKey(Place, PathText),
+    /// An operation of a thread's program, both by their indices.
+    Operation(usize, usize),
 }
 
 /// The first part of a text that breaks a rule of the format, and how.

@@ -1,8 +1,0 @@
-use Rattle.std.proofs.Common.{◌≡◌, [], drop}
-use Rattle.toml.specs.View.{items_view, array_view}
-use Rattle.aps_scenario.specs.Threads.{threads_from}
-use Rattle.aps_scenario.proofs.threads.threads_of.Given as goal
-
-abbrev pub invariant-loop-value : goal.invariant-loop-value
-invariant-loop-value l =
-    threads_from l.partitions l.threads.items (items_view (drop l.value-index l.array.items)) ≡ threads_from l.partitions [] (array_view l.array)
