@@ -13,6 +13,8 @@ use Rattle.std.specs.Str.{bytes_eq}
 use Rattle.aps_model.specs.declared.partition.PartitionRow.{PartitionRow}
 use Rattle.aps_model.specs.Partition.{row_or_none, no_row, IsFundedRow}
 use Rattle.aps_model.specs.Valid.{IsRoot, IsTree, is_within, subtree_budget}
+use Rattle.aps_scenario.specs.Partitions.{rows_with_new}
+use Rattle.aps_scenario.proofs.PrintedNames.{IsDistinct-take}
 use Rattle.aps_scenario.specs.PrintedTree.{given_back, rows_before, listed}
 
 abbrev budget_of : PartitionRow → ℕ
@@ -56,11 +58,27 @@ sum_range-one f g q extra (suc n) within same at =
           omega arith
     ]
 
+-- a term is within its sum
+sum_range-term : (f : ℕ → ℕ) (q n : ℕ) → q < n → f q ≤ sum_by f (range_with_len 0 n)
+sum_range-term f q zero within = absurd (omega arith)
+sum_range-term f q (suc n) within =
+    let m = sum_range-more f n in
+    elim (cases_Bool (nat_lt q n)) [
+      | inl test ↦ let before = sum_range-term f q n (grind (arith, nat_tests, test)) in omega arith
+      | inr test ↦
+          let last : n ≤ q = grind (arith, nat_tests, test) in
+          let is : q ≡ n = omega arith in
+          subst (λ (p : ℕ). f p ≤ sum_by f (range_with_len 0 (suc n))) (sym is) (omega arith)
+    ]
+
 -- ---- the rows below a row
 
 either_same : (b : Bool) → (b || b) ≡ b
 either_same true = refl
 either_same false = refl
+
+nat_eq-same : (n : ℕ) → nat_eq n n ≡ true
+nat_eq-same n = grind (arith, nat_tests)
 
 cond-plus : (b : Bool) (n m : ℕ) → cond b (n + m) 0 ≡ cond b n 0 + cond b m 0
 cond-plus true n m = refl
@@ -165,3 +183,95 @@ module _ (parts : ℕ) (rows : List PartitionRow) (tree : IsTree parts rows) whe
         ∙ sum_range-one (below_before i) (below i) q (below i (suc n)) (suc n) earlier same at
         ∙ sym (sum_range-more (below i) (suc n))
         ∙ ap (λ m. sum_by (below i) (range_with_len 0 m)) (sym count)
+
+    -- ---- what holds of the rows before
+
+    -- the parent has room for what it gets back
+    room : given.budget ≤ given.max
+    unfolding below_before
+    room =
+        let q = parent_of (suc n) in
+        let there = earlier in
+        let size = length-before in
+        let itself : is_within before (length before) q q ≡ true = ap (λ m. is_within before m q q) length-before ∙ ap (λ b. b || is_within before n q (row_or_none before q).parent) (nat_eq-same q) in
+        let own : below_before q q ≡ given.budget = ap (λ b. cond b (row_or_none before q).budget 0) itself ∙ ap budget_of before-parent in
+        let term : below_before q q ≤ subtree_budget before q = sum_range-term (below_before q) q (length before) (omega arith) in
+        let same = subtree_budget-before q earlier in
+        let most = tree.subtrees q (omega arith) in
+        omega arith
+
+    all-but-last : sum_by budget_of rows ≡ sum_by budget_of (take (suc n) rows) + (row_or_none rows (suc n)).budget
+    all-but-last =
+        let all : take (suc n + 1) rows ≡ rows = take_all (suc n + 1) rows (omega arith) in
+        ap (sum_by budget_of) (sym all) ∙ sum_by_more budget_of rows (suc n) no_row (omega arith)
+
+    budgets-before : sum_by budget_of before ≡ parts
+    budgets-before =
+        let q = parent_of (suc n) in
+        let there = earlier in
+        let size = length-take-le (suc n) rows (omega arith) in
+        let set_in : before ≡ slice_set (take (suc n) rows) q given = take-set-lt (suc n) rows q given earlier in
+        let old : get_or (take (suc n) rows) q no_row ≡ row_or_none rows q = get_or-take (suc n) rows q no_row earlier in
+        let moved = sum_by-set budget_of (take (suc n) rows) q given no_row (omega arith) in
+        let moved_here : sum_by budget_of (slice_set (take (suc n) rows) q given) + (row_or_none rows q).budget ≡ sum_by budget_of (take (suc n) rows) + given.budget = rw old at moved in
+        let whole : sum_by budget_of rows ≡ parts = sym (sum-map budget_of rows) ∙ tree.funded.budgets in
+        let last = all-but-last in
+        ap (sum_by budget_of) set_in ∙ omega arith
+
+    names-before : map (λ (row : PartitionRow). row.name) before ≡ take (suc n) (map (λ (row : PartitionRow). row.name) rows)
+    names-before =
+        sym (take-map (λ (row : PartitionRow). row.name) (suc n) (given_back rows (suc n)))
+        ∙ ap (take (suc n)) (map-set_same (λ (row : PartitionRow). row.name) rows (parent_of (suc n)) given no_row refl)
+
+    funded-before : All (IsFundedRow parts) before
+    funded-before =
+        let there = earlier in
+        let old : IsFundedRow parts (row_or_none rows (parent_of (suc n))) = All-get_or (IsFundedRow parts) rows (parent_of (suc n)) no_row (omega arith) tree.funded.each in
+        All-take (IsFundedRow parts) (suc n) (given_back rows (suc n))
+        (All-set (IsFundedRow parts) rows (parent_of (suc n)) given (record { name = old.name; budget = room; max = old.max; critical = old.critical }) tree.funded.each)
+
+    pub before-tree : IsTree parts before
+    before-tree =
+        let there = earlier in
+        let few = tree.few in
+        let size = length-before in
+        record {
+          some = omega arith;
+          few = omega arith;
+          root = record {
+            name = before-kept (λ (row : PartitionRow). row.name) (λ row b. refl) 0 (omega arith) ∙ tree.root.name;
+            parent = before-kept (λ (row : PartitionRow). row.parent) (λ row b. refl) 0 (omega arith) ∙ tree.root.parent;
+            critical = before-kept (λ (row : PartitionRow). row.critical) (λ row b. refl) 0 (omega arith) ∙ tree.root.critical;
+            max = before-kept (λ (row : PartitionRow). row.max) (λ row b. refl) 0 (omega arith) ∙ tree.root.max;
+          };
+          parents = λ i over within.
+              let same = before-kept (λ (row : PartitionRow). row.parent) (λ row b. refl) i (omega arith) in
+              let old = tree.parents i over (omega arith) in
+              omega arith;
+          names = subst (IsDistinct bytes_eq) (sym names-before) (IsDistinct-take bytes_eq (suc n) (map (λ (row : PartitionRow). row.name) rows) tree.names);
+          funded = record { each = funded-before; budgets = sum-map budget_of before ∙ budgets-before };
+          subtrees = λ i within.
+              let same = subtree_budget-before i (omega arith) in
+              let kept = before-kept (λ (row : PartitionRow). row.max) (λ row b. refl) i (omega arith) in
+              let old = tree.subtrees i (omega arith) in
+              omega arith;
+        }
+
+    -- the last row takes its budget from its parent again
+    pub before-gives : rows_with_new before (row_or_none rows (suc n)) ≡ rows
+    before-gives =
+        let q = parent_of (suc n) in
+        let there = earlier in
+        let last = row_or_none rows (suc n) in
+        let taken : (row_or_none before q).budget - last.budget ≡ (row_or_none rows q).budget = ap (λ (row : PartitionRow). row.budget - last.budget) before-parent ∙ omega arith in
+        let lower : PartitionRow = record (row_or_none before q) { budget = (row_or_none before q).budget - last.budget } in
+        let as_was : lower ≡ row_or_none rows q = rw (taken, before-parent) refl in
+        let set_in : before ≡ slice_set (take (suc n) rows) q given = take-set-lt (suc n) rows q given earlier in
+        let old : row_or_none rows q ≡ get_or (take (suc n) rows) q no_row = sym (get_or-take (suc n) rows q no_row earlier) in
+        let front : slice_set before q lower ≡ take (suc n) rows =
+            ap (λ (xs : List PartitionRow). slice_set xs q lower) set_in
+            ∙ set-set (take (suc n) rows) q given lower
+            ∙ ap (slice_set (take (suc n) rows) q) (as_was ∙ old)
+            ∙ set-get_or (take (suc n) rows) q no_row in
+        let all : take (suc (suc n)) rows ≡ rows = take_all (suc (suc n)) rows (omega arith) in
+        ap (λ (xs : List PartitionRow). xs ++ last ∷ []) front ∙ sym (take-suc rows (suc n) no_row (omega arith)) ∙ all
