@@ -1,3 +1,6 @@
 pub mod Samples
 pub mod PrintedNames
 pub mod PrintedTree
+pub mod PrintedElements
+pub mod PrintedValues
+pub mod PrintedPartitions

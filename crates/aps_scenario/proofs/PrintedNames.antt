@@ -1,8 +1,11 @@
 -- Names that are distinct are found and are new.
 use Rattle.std.proofs.Common.{◌≡◌, ℕ, zero, suc, ◌+◌, ◌<◌, ◌≤◌, Bool, true, false, ◌||◌, List, [], ◌∷◌, ◌++◌, length, map, get_or, take, Option, Some, refl, ap, sym, subst, ◌∙◌, arith, min}
-use Rattle.std.proofs.lemmas.List.{get_or-take, length-take-le, length-take}
+use Rattle.std.proofs.lemmas.Bool.{lt-ltb}
+use Rattle.std.proofs.lemmas.Cmp.{nat_list_eq_equiv}
+use Rattle.std.proofs.lemmas.List.{get_or-take, get_or_default, get_or-map, length-map, length-take}
+use Rattle.std.proofs.lemmas.List.Sums.{position_or_len_is}
 use Rattle.std.proofs.lemmas.Map.Keys.{IsDistinct-from_apart, apart_from_distinct}
-use Rattle.std.specs.List.{IsDistinct, list_any, position}
+use Rattle.std.specs.List.{IsDistinct, list_any, position, position_or_len}
 use Rattle.std.specs.Str.{bytes_eq}
 
 pub IsDistinct-take : {K : Type 0} (e : K → K → Bool) (n : ℕ) (ks : List K) → IsDistinct e ks → IsDistinct e (take n ks)
@@ -10,3 +13,31 @@ IsDistinct-take e n ks distinct =
     IsDistinct-from_apart e (take n ks) (λ i j d low high.
         let size = length-take n ks in
         rw (get_or-take n ks i d (omega arith), get_or-take n ks j d (omega arith)) (apart_from_distinct e ks i j d distinct low (omega arith)))
+
+-- a name isn't among those before it
+pub new-among-before : (n : ℕ) (names : List (List ℕ)) (d : List ℕ) → n < length names → IsDistinct bytes_eq names
+    → list_any (bytes_eq (get_or names n d)) (take n names) ≡ false
+new-among-before n names d within distinct =
+    none_passes (bytes_eq (get_or names n d)) (take n names) (λ k e below.
+        let size = length-take n names in
+        rw (get_or-take n names k e (omega arith), get_or_default names k e d (omega arith), nat_list_eq_equiv.symm (get_or names n d) (get_or names k d))
+        (apart_from_distinct bytes_eq names k n d distinct (omega arith) within))
+  where
+    none_passes : {X : Type 0} (test : X → Bool) (xs : List X) → ((k : ℕ) (e : X) → k < length xs → test (get_or xs k e) ≡ false) → list_any test xs ≡ false
+    none_passes test [] fails = refl
+    none_passes test (x ∷ xs) fails = rw (fails 0 x (omega arith)) (none_passes test xs (λ k e below. fails (suc k) e (omega arith)))
+
+pub list_any-map : {X Y : Type 0} (p : Y → Bool) (f : X → Y) (xs : List X) → list_any p (map f xs) ≡ list_any (λ x. p (f x)) xs
+list_any-map p f [] = refl
+list_any-map p f (x ∷ xs) = ap (λ b. p (f x) || b) (list_any-map p f xs)
+
+-- the one with this name is found at its place
+pub position-named : {X : Type 0} (name : X → List ℕ) (xs : List X) (i : ℕ) (d : X) → i < length xs → IsDistinct bytes_eq (map name xs)
+    → position (λ x. bytes_eq (name x) (name (get_or xs i d))) xs ≡ Some i
+position-named name xs i d within distinct =
+    let size = length-map xs name in
+    let here : position_or_len (λ x. bytes_eq (name x) (name (get_or xs i d))) xs ≡ i =
+        position_or_len_is (λ x. bytes_eq (name x) (name (get_or xs i d))) xs i d (omega arith)
+        (λ k below. rw (sym (get_or-map name xs k d (name d) (omega arith)), sym (get_or-map name xs i d (name d) within)) (apart_from_distinct bytes_eq (map name xs) k i (name d) distinct below (omega arith)))
+        (λ inside. nat_list_eq_equiv.refl (name (get_or xs i d))) in
+    rw (here, lt-ltb i (length xs) within) refl

@@ -119,7 +119,7 @@ module _ (parts : ℕ) (rows : List PartitionRow) (tree : IsTree parts rows) whe
         let same = length-set rows (parent_of (suc n)) given in
         length-take-le (suc n) (given_back rows (suc n)) (omega arith)
 
-    before-parent : row_or_none before (parent_of (suc n)) ≡ given
+    pub before-parent : row_or_none before (parent_of (suc n)) ≡ given
     before-parent =
         get_or-take (suc n) (given_back rows (suc n)) (parent_of (suc n)) no_row earlier
         ∙ get_or-set_same rows (parent_of (suc n)) given no_row (omega (arith, earlier))
@@ -218,7 +218,7 @@ module _ (parts : ℕ) (rows : List PartitionRow) (tree : IsTree parts rows) whe
         let last = all-but-last in
         ap (sum_by budget_of) set_in ∙ omega arith
 
-    names-before : map (λ (row : PartitionRow). row.name) before ≡ take (suc n) (map (λ (row : PartitionRow). row.name) rows)
+    pub names-before : map (λ (row : PartitionRow). row.name) before ≡ take (suc n) (map (λ (row : PartitionRow). row.name) rows)
     names-before =
         sym (take-map (λ (row : PartitionRow). row.name) (suc n) (given_back rows (suc n)))
         ∙ ap (take (suc n)) (map-set_same (λ (row : PartitionRow). row.name) rows (parent_of (suc n)) given no_row refl)
