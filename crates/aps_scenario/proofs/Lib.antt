@@ -4,3 +4,4 @@ pub mod PrintedTree
 pub mod PrintedElements
 pub mod PrintedValues
 pub mod PrintedPartitions
+pub mod PrintedOperations
