@@ -5,3 +5,4 @@ pub mod PrintedElements
 pub mod PrintedValues
 pub mod PrintedPartitions
 pub mod PrintedOperations
+pub mod PrintedThreads

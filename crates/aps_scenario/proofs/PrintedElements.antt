@@ -1,6 +1,8 @@
 -- The elements of a printed array are read one after the other.
-use Rattle.std.proofs.Common.{◌≡◌, ℕ, suc, ◌<◌, List, [], ◌∷◌, ◌++◌, length, map, Result, Ok, Err, refl, ap, sym, ◌∙◌, arith, append_assoc}
+use Rattle.std.proofs.Common.{◌≡◌, ℕ, suc, ◌<◌, List, [], ◌∷◌, ◌++◌, length, map, Result, Ok, Err, get_or, refl, ap, sym, subst, ◌∙◌, arith, append_assoc, length-append, All}
 use Rattle.std.proofs.lemmas.List.{append-nil}
+use Rattle.std.proofs.lemmas.List.Elements.{All-get_or}
+use Rattle.std.proofs.Math.Seq.{get_or-append_seam}
 use Rattle.toml.specs.Data.{Data, Items, no_items, item}
 use Rattle.toml.specs.View.{items_of}
 use Rattle.aps_scenario.specs.declared.refusal.Finding.{Finding}
@@ -33,3 +35,10 @@ read_each-all reads shown before (x ∷ xs) each =
     let here : reads before (shown x) ≡ Ok x = each before x xs refl in
     let moved : (before ++ x ∷ []) ++ xs ≡ before ++ x ∷ xs = append_assoc before (x ∷ []) xs in
     rw here (read_each-all reads shown (before ++ x ∷ []) xs (λ front y back split. each front y back (sym moved ∙ split)) ∙ ap Ok moved)
+
+-- what holds of each holds of one
+pub All-split : {X : Type 0} (P : X → Type 0) (xs front : List X) (x : X) (back : List X) → xs ≡ front ++ x ∷ back → All P xs → P x
+All-split P xs front x back split each =
+    let count = length-append front (x ∷ back) in
+    let here : P (get_or (front ++ x ∷ back) (length front) x) = All-get_or P (front ++ x ∷ back) (length front) x (omega arith) (subst (All P) split each) in
+    subst P (get_or-append_seam front x back x) here

@@ -1,8 +1,9 @@
 -- Names that are distinct are found and are new.
-use Rattle.std.proofs.Common.{◌≡◌, ℕ, zero, suc, ◌+◌, ◌<◌, ◌≤◌, Bool, true, false, ◌||◌, List, [], ◌∷◌, ◌++◌, length, map, get_or, take, Option, Some, refl, ap, sym, subst, ◌∙◌, arith, min}
+use Rattle.std.proofs.Common.{◌≡◌, ℕ, zero, suc, ◌+◌, ◌<◌, ◌≤◌, Bool, true, false, ◌||◌, List, [], ◌∷◌, ◌++◌, length, map, get_or, take, Option, Some, refl, ap, sym, subst, ◌∙◌, arith, min, length-append}
 use Rattle.std.proofs.lemmas.Bool.{lt-ltb}
 use Rattle.std.proofs.lemmas.Cmp.{nat_list_eq_equiv}
-use Rattle.std.proofs.lemmas.List.{get_or-take, get_or_default, get_or-map, length-map, length-take}
+use Rattle.std.proofs.lemmas.List.{get_or-take, get_or_default, get_or-map, length-map, length-take, take-map}
+use Rattle.std.proofs.Math.Seq.{get_or-append_seam, take-append_seam}
 use Rattle.std.proofs.lemmas.List.Sums.{position_or_len_is}
 use Rattle.std.proofs.lemmas.Map.Keys.{IsDistinct-from_apart, apart_from_distinct}
 use Rattle.std.specs.List.{IsDistinct, list_any, position, position_or_len}
@@ -41,3 +42,22 @@ position-named name xs i d within distinct =
         (λ k below. rw (sym (get_or-map name xs k d (name d) (omega arith)), sym (get_or-map name xs i d (name d) within)) (apart_from_distinct bytes_eq (map name xs) k i (name d) distinct below (omega arith)))
         (λ inside. nat_list_eq_equiv.refl (name (get_or xs i d))) in
     rw (here, lt-ltb i (length xs) within) refl
+
+pub new-in-split : {X : Type 0} (name : X → List ℕ) (front : List X) (x : X) (back : List X) → IsDistinct bytes_eq (map name (front ++ x ∷ back))
+    → list_any (λ y. bytes_eq (name x) (name y)) front ≡ false
+new-in-split name front x back distinct =
+    let size = length-append front (x ∷ back) in
+    let count = length-map (front ++ x ∷ back) name in
+    let here : get_or (map name (front ++ x ∷ back)) (length front) [] ≡ name x =
+        get_or-map name (front ++ x ∷ back) (length front) x [] (omega arith) ∙ ap name (get_or-append_seam front x back x) in
+    let before : take (length front) (map name (front ++ x ∷ back)) ≡ map name front =
+        take-map name (length front) (front ++ x ∷ back) ∙ ap (map name) (take-append_seam front (x ∷ back)) in
+    sym (list_any-map (bytes_eq (name x)) name front)
+    ∙ ap (list_any (bytes_eq (name x))) (sym before)
+    ∙ ap (λ (text : List ℕ). list_any (bytes_eq text) (take (length front) (map name (front ++ x ∷ back)))) (sym here)
+    ∙ new-among-before (length front) (map name (front ++ x ∷ back)) [] (omega arith) distinct
+
+-- the names, where each is its own
+pub map-same : {X : Type 0} (xs : List X) → map (λ x. x) xs ≡ xs
+map-same [] = refl
+map-same (x ∷ xs) = ap (λ ys. x ∷ ys) (map-same xs)

@@ -19,7 +19,7 @@ use Rattle.aps_model.specs.Program.{IsOp}
 use Rattle.aps_scenario.specs.Channels.{is_among}
 use Rattle.aps_scenario.specs.Operation.{number, number_after, operation_of, channel_named}
 use Rattle.aps_scenario.specs.PrintedOperation.{operation_text, channel_name}
-use Rattle.aps_scenario.proofs.PrintedNames.{position-named}
+use Rattle.aps_scenario.proofs.PrintedNames.{position-named, map-same}
 use Rattle.aps_scenario.proofs.PrintedValues.{is_name-true}
 
 -- ---- numbers
@@ -51,10 +51,6 @@ number-decimal most n fits some within =
     ap (number most) (sym (append-nil (decimal n))) ∙ read
 
 -- ---- names
-
-map-same : {X : Type 0} (xs : List X) → map (λ x. x) xs ≡ xs
-map-same [] = refl
-map-same (x ∷ xs) = ap (λ ys. x ∷ ys) (map-same xs)
 
 pub channel-found : (channels : List (List ℕ)) (c : ℕ) → c < length channels → IsDistinct bytes_eq channels → channel_named channels (channel_name channels c) ≡ Some c
 channel-found channels c within distinct = position-named (λ x. x) channels c [] within (subst (IsDistinct bytes_eq) (sym (map-same channels)) distinct)
