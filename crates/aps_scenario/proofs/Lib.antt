@@ -6,3 +6,6 @@ pub mod PrintedValues
 pub mod PrintedPartitions
 pub mod PrintedOperations
 pub mod PrintedThreads
+pub mod PrintedCommands
+pub mod PrintedJoinable
+pub mod PrintedScenario

@@ -55,7 +55,7 @@ partition-reads parts before rows place row is =
 abbrev name_of : PartitionRow → List ℕ
 name_of row = row.name
 
-length-listed : (n : ℕ) (rows : List PartitionRow) → length rows ≡ suc n → length (listed n rows) ≡ suc n
+pub length-listed : (n : ℕ) (rows : List PartitionRow) → length rows ≡ suc n → length (listed n rows) ≡ suc n
 length-listed zero rows count = count
 length-listed (suc n) rows count =
     let child = row_or_none rows (suc n) in
