@@ -9,3 +9,5 @@ pub mod PrintedThreads
 pub mod PrintedCommands
 pub mod PrintedJoinable
 pub mod PrintedScenario
+pub mod PrintedTable
+pub mod PrintedAscii

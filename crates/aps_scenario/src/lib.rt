@@ -5,6 +5,7 @@ mod key;
 mod kind;
 mod operation;
 mod path;
+mod printing;
 mod refusal;
 mod words;
 

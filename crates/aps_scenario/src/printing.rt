@@ -1,0 +1,5 @@
+//! A scenario as text.
+
+mod operations;
+mod table;
+mod words;
