@@ -10,4 +10,5 @@ pub mod PrintedCommands
 pub mod PrintedJoinable
 pub mod PrintedScenario
 pub mod PrintedTable
+pub mod PrintedListing
 pub mod PrintedAscii

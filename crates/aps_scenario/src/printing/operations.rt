@@ -40,3 +40,15 @@ fn operation_text(alloc: Global, channels: &[Name], op: &Op) -> Result<String, N
     };
     Ok(text)
 }
+
+/// The operations of a program as an array of texts.
+pub fn program_value(alloc: Global, channels: &[Name], ops: &[Op]) -> Result<Value, NoMemory>
+    requires { (names : List (List ℕ)) × IsProgram (length channels.now) names ops.now }
+    ensures { IfOk result (λ value. view value ≡ program_array channels.now ops.now) }
+{
+    let mut values = Vec::new(alloc);
+    for op in ops {
+        values.push(Value::String(operation_text(alloc, channels, op)?))?;
+    }
+    Ok(Value::Array(values))
+}
