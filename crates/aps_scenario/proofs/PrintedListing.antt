@@ -1,12 +1,13 @@
 -- The rows as a text lists them, made from the last row to the first.
 use Rattle.std.proofs.Common.{◌≡◌, ℕ, zero, suc, ◌+◌, ◌-◌, ◌<◌, ◌≤◌, List, [], ◌∷◌, ◌++◌, length, get_or, take, drop, refl, ap, sym, subst, ◌∙◌, arith, add-one, append_assoc, take-take, All, slice_set}
 use Rattle.std.proofs.lemmas.List.{get_or-take, get_or_default, length-take-le, drop-set-lt}
+use Rattle.std.proofs.lemmas.List.Elements.{All-get_or, All-append, All-from_recursion}
 use Rattle.std.proofs.Math.Seq.{take-set-lt, drop-cons}
 use Rattle.aps_model.specs.declared.partition.PartitionRow.{PartitionRow}
-use Rattle.aps_model.specs.Partition.{row_or_none, no_row}
+use Rattle.aps_model.specs.Partition.{row_or_none, no_row, IsFundedRow}
 use Rattle.aps_model.specs.Valid.{IsTree}
 use Rattle.aps_scenario.specs.PrintedTree.{given_back, rows_before, listed}
-use Rattle.aps_scenario.proofs.PrintedTree.{before-tree}
+use Rattle.aps_scenario.proofs.PrintedTree.{before-tree, length-before}
 
 module _ (v : List PartitionRow) (n : ℕ) (within : suc n < length v) (under : (row_or_none v (suc n)).parent < suc n) where
   abbrev given : PartitionRow
@@ -86,3 +87,34 @@ parent-within parts v (suc n) parent row some within tree here above =
     let is : row ≡ row_or_none v (suc n) = here ∙ get_or_default v (suc n) row no_row within in
     let same : row.parent ≡ (row_or_none v (suc n)).parent = ap (λ (r : PartitionRow). r.parent) is in
     omega arith
+
+-- ---- what holds of each row that a text lists
+
+abbrev pub HasParent : ℕ → PartitionRow → Type 0
+HasParent bound row = row.parent < bound
+
+abbrev pub HasShortCritical : PartitionRow → Type 0
+HasShortCritical row = row.critical ≤ 64000000000
+
+pub listed-parents : (parts bound n : ℕ) (rows : List PartitionRow) → length rows ≡ suc n → suc n ≤ bound → IsTree parts rows → All (HasParent bound) (listed n rows)
+listed-parents parts bound zero rows count most tree = λ k d inside.
+    let root : (row_or_none rows 0).parent ≡ 0 = tree.root.parent in
+    let first : k ≡ 0 = omega arith in
+    let here : get_or rows k d ≡ row_or_none rows 0 = ap (λ (i : ℕ). get_or rows i d) first ∙ get_or_default rows 0 d no_row (omega arith) in
+    let same : (get_or rows k d).parent ≡ (row_or_none rows 0).parent = ap (λ (row : PartitionRow). row.parent) here in
+    omega arith
+listed-parents parts bound (suc n) rows count most tree =
+    let last = tree.parents (suc n) (omega arith) (omega arith) in
+    let size = length-before parts rows tree n count in
+    All-append (HasParent bound) (listed n (rows_before rows (suc n))) (row_or_none rows (suc n) ∷ [])
+    (listed-parents parts bound n (rows_before rows (suc n)) size (omega arith) (before-tree parts rows tree n count))
+    (All-from_recursion (HasParent bound) (row_or_none rows (suc n) ∷ []) (omega arith, tt))
+
+pub listed-criticals : (parts n : ℕ) (rows : List PartitionRow) → length rows ≡ suc n → IsTree parts rows → All HasShortCritical (listed n rows)
+listed-criticals parts zero rows count tree = λ k d inside. (tree.funded.each k d inside).critical
+listed-criticals parts (suc n) rows count tree =
+    let last : IsFundedRow parts (row_or_none rows (suc n)) = All-get_or (IsFundedRow parts) rows (suc n) no_row (omega arith) tree.funded.each in
+    let size = length-before parts rows tree n count in
+    All-append HasShortCritical (listed n (rows_before rows (suc n))) (row_or_none rows (suc n) ∷ [])
+    (listed-criticals parts n (rows_before rows (suc n)) size (before-tree parts rows tree n count))
+    (All-from_recursion HasShortCritical (row_or_none rows (suc n) ∷ []) (last.critical, tt))

@@ -11,4 +11,5 @@ mod words;
 
 pub use kind::Kind;
 pub use path::PathText;
+pub use printing::print;
 pub use refusal::ScenarioRefusal;

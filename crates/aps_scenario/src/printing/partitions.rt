@@ -1,9 +1,10 @@
 //! The partitions as an array of tables.
 ghost use Rattle.std.specs.Prelude.{◌≡◌, ◌<◌, ◌≤◌, length, IfOk, All};
 ghost use Rattle.toml.specs.View.{view};
-ghost use Rattle.aps_model.specs.Partition.{row_or_none};
+ghost use Rattle.aps_model.specs.declared.partition.PartitionRow.{PartitionRow as Row};
 ghost use Rattle.aps_scenario.specs.PrintedTree as tree;
 ghost use Rattle.aps_scenario.specs.PrintedPartitions.{partition_table, partition_array};
+ghost use Rattle.aps_scenario.specs.PrintedTable.{array_of_each};
 
 use crate::key::Key;
 use crate::printing::table::{put_number, put_text};
@@ -47,4 +48,28 @@ fn partition_value(
     put_number(alloc, &mut table, Key::Critical, row.critical)?;
     put_number(alloc, &mut table, Key::Max, u64::from(row.max))?;
     Ok(Value::Table(table))
+}
+
+fn rows_value(
+    alloc: Global,
+    rows: &[PartitionRow],
+    listed: &[PartitionRow],
+) -> Result<Value, NoMemory>
+    requires parents { All (λ (row : Row). row.parent < length rows.now) listed.now }
+    requires criticals { All (λ (row : Row). row.critical ≤ 64000000000) listed.now }
+    ensures { IfOk result (λ value. view value ≡ array_of_each (partition_table rows.now) listed.now) }
+{
+    let mut values = Vec::new(alloc);
+    for row in listed {
+        values.push(partition_value(alloc, rows, row)?)?;
+    }
+    Ok(Value::Array(values))
+}
+
+/// All partitions but the root as an array of tables.
+pub fn partitions_value(alloc: Global, scenario: &Scenario) -> Result<Value, NoMemory>
+    ensures { IfOk result (λ value. view value ≡ partition_array scenario.now.partitions) }
+{
+    let listed = listed_rows(alloc, scenario)?;
+    rows_value(alloc, scenario.partitions(), &listed[1..])
 }

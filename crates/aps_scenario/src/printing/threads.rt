@@ -31,3 +31,32 @@ pub fn channels_value(alloc: Global, channels: &[Name]) -> Result<Value, NoMemor
     }
     Ok(Value::Array(values))
 }
+
+fn thread_value(alloc: Global, scenario: &Scenario, row: &ThreadRow) -> Result<Value, NoMemory>
+    requires { IsThreadRow (length scenario.now.partitions) (length scenario.now.channels) (joinable scenario.now) row.now }
+    ensures { IfOk result (λ value. view value ≡ thread_table scenario.now.partitions scenario.now.channels row.now) }
+{
+    let partitions = scenario.partitions();
+    let partition = text_of(&partitions[row.partition.index()].name);
+    let program = program_value(alloc, scenario.channels(), row.program.ops())?;
+    let mut table = Table::new(alloc);
+    put_text(alloc, &mut table, Key::Name, text_of(&row.name))?;
+    put_text(alloc, &mut table, Key::Partition, partition)?;
+    put_number(alloc, &mut table, Key::Priority, u64::from(row.priority))?;
+    put_text(alloc, &mut table, Key::Policy, policy_word(row.policy))?;
+    put_truth(alloc, &mut table, Key::Critical, row.critical)?;
+    put(alloc, &mut table, Key::Program, program)?;
+    Ok(Value::Table(table))
+}
+
+/// The threads as an array of tables.
+pub fn threads_value(alloc: Global, scenario: &Scenario) -> Result<Value, NoMemory>
+    ensures { IfOk result (λ value. view value ≡ array_of_each (thread_table scenario.now.partitions scenario.now.channels) scenario.now.threads) }
+{
+    let threads = scenario.threads();
+    let mut values = Vec::new(alloc);
+    for row in threads {
+        values.push(thread_value(alloc, scenario, row)?)?;
+    }
+    Ok(Value::Array(values))
+}
