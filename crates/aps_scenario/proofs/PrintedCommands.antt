@@ -1,6 +1,5 @@
 -- A timed command that is printed reads as itself.
-use lib.Chars.{codes}
-use Rattle.std.proofs.Common.{◌≡◌, ℕ, ◌-◌, ◌<◌, ◌≤◌, Bool, true, false, List, [], ◌∷◌, ◌++◌, length, map, Option, Some, None, Ok, refl, ap, sym, subst, ◌∙◌, ◌⊎◌, inl, inr, arith, le-leb}
+use Rattle.std.proofs.Common.{◌≡◌, ℕ, ◌-◌, ◌<◌, Bool, List, [], length, map, Option, Some, None, Ok, refl, inl, inr, arith, le-leb}
 use Rattle.std.proofs.lemmas.List.Elements.{All-get_or}
 use Rattle.std.specs.Prelude.{All}
 use Rattle.std.specs.List.{IsDistinct, position}
@@ -163,9 +162,9 @@ module _ (shape : Shape) (threads : List ThreadRow) (named : All (λ (row : Thre
   set_parameters-reads : (window : Option ℕ) (free : Option Free) (limit : Option Bool) (bankruptcy : Option Bankruptcy) → Reads (call.SetParameters window free limit bankruptcy)
   unfolding command_at set_parameters_at
   set_parameters-reads None None None None tick place within is = elim is.0 [
-      | inl none ↦ absurd (cc)
-      | inr other ↦ elim other [ inl none ↦ absurd (cc) | inr other ↦ elim other [ inl none ↦ absurd (cc) | inr none ↦ absurd (cc) ] ]
-    ]
+    | inl none ↦ absurd (cc)
+    | inr other ↦ elim other [ inl none ↦ absurd (cc) | inr other ↦ elim other [ inl none ↦ absurd (cc) | inr none ↦ absurd (cc) ] ]
+  ]
   set_parameters-reads None None None (Some bankruptcy) tick place within is =
       rw (
         le-leb 0 tick (omega arith),
@@ -314,5 +313,5 @@ module _ (shape : Shape) (threads : List ThreadRow) (named : All (λ (row : Thre
       → commands_from shape threads [] (items_of (map (command_table threads) commands)) ≡ Ok commands
   commands-read commands each =
       read_each-all (next_command shape threads) (command_table threads) [] commands (λ front row back split.
-          let is = All-split (IsCommand shape.parts shape.ticks (length threads)) commands front row back split each in
-          call-reads row.call row.tick (place.Command (length front)) is.tick is.call)
+      let is = All-split (IsCommand shape.parts shape.ticks (length threads)) commands front row back split each in
+      call-reads row.call row.tick (place.Command (length front)) is.tick is.call)

@@ -1,9 +1,9 @@
 -- The elements of a printed array are read one after the other.
-use Rattle.std.proofs.Common.{◌≡◌, ℕ, suc, ◌<◌, List, [], ◌∷◌, ◌++◌, length, map, Result, Ok, Err, get_or, refl, ap, sym, subst, ◌∙◌, arith, append_assoc, length-append, All}
+use Rattle.std.proofs.Common.{◌≡◌, suc, List, [], ◌∷◌, ◌++◌, length, map, Result, Ok, Err, get_or, refl, ap, sym, subst, ◌∙◌, arith, append_assoc, length-append, All}
 use Rattle.std.proofs.lemmas.List.{append-nil}
 use Rattle.std.proofs.lemmas.List.Elements.{All-get_or}
 use Rattle.std.proofs.Math.Seq.{get_or-append_seam}
-use Rattle.toml.specs.Data.{Data, Items, no_items, item}
+use Rattle.toml.specs.Data.{Data}
 use Rattle.toml.specs.View.{items_of}
 use Rattle.aps_scenario.specs.declared.refusal.Finding.{Finding}
 use Rattle.aps_scenario.specs.Row.{◌>>=◌}

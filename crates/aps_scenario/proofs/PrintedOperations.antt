@@ -1,6 +1,5 @@
 -- An operation that is printed reads as itself.
-use lib.Chars.{codes}
-use Rattle.std.proofs.Common.{◌≡◌, ℕ, suc, ◌+◌, ◌-◌, ◌*◌, ◌/◌, ◌%◌, ◌^◌, ◌<◌, ◌≤◌, Bool, true, false, ◌||◌, not, List, [], ◌∷◌, ◌++◌, length, map, get_or, Some, Ok, refl, ap, sym, subst, ◌∙◌, inl, inr, arith, append_assoc, le-leb, nat_le, eqb}
+use Rattle.std.proofs.Common.{◌≡◌, ℕ, suc, ◌+◌, ◌-◌, ◌*◌, ◌/◌, ◌%◌, ◌^◌, ◌<◌, ◌≤◌, true, false, ◌||◌, List, [], ◌∷◌, ◌++◌, length, Some, Ok, refl, ap, sym, subst, ◌∙◌, inl, inr, arith, append_assoc, le-leb, eqb}
 use Rattle.std.proofs.lemmas.Bool.{cases_Bool}
 use Rattle.std.proofs.lemmas.Bool.Decides.{nat_tests}
 use Rattle.std.proofs.lemmas.Fmt.{decimal_by_steps}
@@ -9,7 +8,7 @@ use Rattle.std.proofs.lemmas.List.Elements.{All-get_or}
 use Rattle.std.proofs.lemmas.Slice.Eq.{bytes_eq-Decides}
 use Rattle.std.specs.Char.{is_ascii_digit}
 use Rattle.std.specs.Fmt.{decimal}
-use Rattle.std.specs.Prelude.{IsTrue, All}
+use Rattle.std.specs.Prelude.{All}
 use Rattle.std.specs.List.{IsDistinct, list_any}
 use Rattle.std.specs.Str.{bytes_eq}
 use Rattle.aps_model.specs.declared.program.Op.{Op}
@@ -42,12 +41,12 @@ pub number-decimal : (most n : ℕ) → most < 2 ^ 64 → 0 < n → n ≤ most �
 number-decimal most n fits some within =
     let Leads : ℕ → List ℕ → Type 0 = λ n ds. 0 < n → n ≤ most → (bytes : List ℕ) → number most (ds ++ bytes) ≡ number_after most n bytes in
     let read = decimal_by_steps Leads
-        (λ n small some within bytes. first_digit most n bytes small some within)
-        (λ n ds large so_far some within bytes.
-        ap (number most) (append_assoc ds ((48 + n % 10) ∷ []) bytes)
-        ∙ so_far (omega arith) (omega arith) ((48 + n % 10) ∷ bytes)
-        ∙ last_digit most n bytes within)
-        n (omega arith) some within [] in
+    (λ n small some within bytes. first_digit most n bytes small some within)
+    (λ n ds large so_far some within bytes.
+    ap (number most) (append_assoc ds ((48 + n % 10) ∷ []) bytes)
+    ∙ so_far (omega arith) (omega arith) ((48 + n % 10) ∷ bytes)
+    ∙ last_digit most n bytes within)
+    n (omega arith) some within [] in
     ap (number most) (sym (append-nil (decimal n))) ∙ read
 
 -- ---- names

@@ -1,5 +1,5 @@
 -- A partition that is printed reads as itself, and so do all partitions of a tree.
-use Rattle.std.proofs.Common.{◌≡◌, ℕ, zero, suc, ◌+◌, ◌≤◌, ◌-◌, ◌<◌, Bool, true, false, List, [], ◌∷◌, ◌++◌, length, map, get_or, take, drop, Some, Ok, refl, ap, sym, ◌∙◌, arith, nat_lt, le-leb, length-append}
+use Rattle.std.proofs.Common.{◌≡◌, ℕ, zero, suc, ◌+◌, ◌≤◌, ◌-◌, ◌<◌, false, List, [], ◌∷◌, ◌++◌, length, map, get_or, take, drop, Some, Ok, refl, ap, sym, ◌∙◌, arith, le-leb, length-append}
 use Rattle.std.proofs.lemmas.List.{drop-append-le, map-append, length-map, get_or-map, length-set, length-take-le}
 use Rattle.std.proofs.lemmas.List.Elements.{All-get_or}
 use Rattle.std.specs.List.{list_any}
@@ -72,7 +72,7 @@ lone-root parts [] tree count = absurd (omega arith)
 lone-root parts (root ∷ []) tree count =
     let whole : root.budget ≡ parts = omega (arith, tree.funded.budgets) in
     let same : record { name = root.name; parent = root.parent; budget = root.budget; critical = root.critical; max = root.max } ≡ system parts =
-        rw (tree.root.name, tree.root.parent, whole, tree.root.critical, tree.root.max) refl in
+    rw (tree.root.name, tree.root.parent, whole, tree.root.critical, tree.root.max) refl in
     ap (λ (row : PartitionRow). row ∷ []) same
 lone-root parts (root ∷ row ∷ rows) tree count = absurd (omega arith)
 
@@ -93,13 +93,13 @@ module _ (parts : ℕ) (printed : List PartitionRow) where
       let last_name : get_or (map name_of rows) (suc n) [] ≡ last.name = get_or-map name_of rows (suc n) no_row [] (omega arith) in
       let front : map name_of before ≡ take (suc n) (map name_of rows) = names-before parts rows tree n count in
       let new : is_partition before last.name ≡ false =
-          sym (list_any-map (bytes_eq last.name) name_of before)
-          ∙ ap (list_any (bytes_eq last.name)) front
-          ∙ ap (λ (name : List ℕ). list_any (bytes_eq name) (take (suc n) (map name_of rows))) (sym last_name)
-          ∙ new-among-before (suc n) (map name_of rows) [] (omega arith) tree.names in
+      sym (list_any-map (bytes_eq last.name) name_of before)
+      ∙ ap (list_any (bytes_eq last.name)) front
+      ∙ ap (λ (name : List ℕ). list_any (bytes_eq name) (take (suc n) (map name_of rows))) (sym last_name)
+      ∙ new-among-before (suc n) (map name_of rows) [] (omega arith) tree.names in
       let found : partition_named before (row_or_none printed last.parent).name ≡ Some last.parent =
-          ap (partition_named before) (parent_name ∙ sym parent_kept)
-          ∙ position-named name_of before last.parent no_row (omega arith) (before-tree parts rows tree n count).names in
+      ap (partition_named before) (parent_name ∙ sym parent_kept)
+      ∙ position-named name_of before last.parent no_row (omega arith) (before-tree parts rows tree n count).names in
       let held : (row_or_none before last.parent).budget ≡ (row_or_none rows last.parent).budget + last.budget = ap (λ (row : PartitionRow). row.budget) (before-parent parts rows tree n count) in
       partition-reads parts before printed (place.Partition (length before - 1)) last (record {
         ranges = All-get_or (IsFundedRow parts) rows (suc n) no_row (omega arith) tree.funded.each;
@@ -121,12 +121,12 @@ module _ (parts : ℕ) (printed : List PartitionRow) where
       let size = length-before parts rows tree n count in
       let listed_size = length-listed n before size in
       let earlier = partitions-read n before size (before-tree parts rows tree n count)
-          (λ i within. named i (omega arith) ∙ sym (before-kept parts rows tree n count name_of (λ row b. refl) i within)) in
+      (λ i within. named i (omega arith) ∙ sym (before-kept parts rows tree n count name_of (λ row b. refl) i within)) in
       let cut : drop 1 (listed n before ++ last ∷ []) ≡ drop 1 (listed n before) ++ last ∷ [] = drop-append-le 1 (listed n before) (last ∷ []) (omega arith) in
       ap (λ (rs : List PartitionRow). partitions_from parts (system parts ∷ []) (items_of (map (partition_table printed) rs))) cut
       ∙ ap (λ (ds : List Data). partitions_from parts (system parts ∷ []) (items_of ds)) (map-append (partition_table printed) (drop 1 (listed n before)) (last ∷ []))
       ∙ read_each-push (next_partition parts) rows_with_new (system parts ∷ []) (map (partition_table printed) (drop 1 (listed n before))) (partition_table printed last) before last
-          earlier (last-reads n rows count tree named)
+      earlier (last-reads n rows count tree named)
       ∙ ap Ok (before-gives parts rows tree n count)
 
 -- the printed rows of a tree are read as they are

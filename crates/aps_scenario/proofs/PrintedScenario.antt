@@ -1,36 +1,27 @@
 -- A scenario that is printed reads as the same scenario.
-use lib.Chars.{codes}
-use Rattle.std.proofs.Common.{◌≡◌, ℕ, zero, suc, ◌+◌, ◌-◌, ◌%◌, ◌<◌, ◌≤◌, ◌⊎◌, inl, inr, Bool, true, false, List, [], ◌∷◌, ◌++◌, length, map, drop, Option, Some, None, Ok, refl, ap, sym, subst, ◌∙◌, arith, le-leb, max, length-drop, Ordering, Less, Equal, Greater}
-use Rattle.std.proofs.lemmas.List.Elements.{All-map, All-append}
-use Rattle.std.specs.Prelude.{All}
-use Rattle.std.specs.List.{filter_map}
-use Rattle.std.specs.Str.{IsUtf8, is_utf8}
+use Rattle.std.proofs.Common.{◌≡◌, ℕ, ◌-◌, ◌≤◌, ◌⊎◌, inl, inr, List, [], ◌∷◌, length, map, drop, Option, Some, None, Ok, refl, ◌∙◌, arith, le-leb, max, length-drop, Ordering, Less, Equal, Greater}
+use Rattle.std.specs.Str.{IsUtf8}
 use Rattle.std.proofs.lemmas.Str.{is_utf8-from_IsUtf8}
 use Rattle.std.specs.Ordering.{nat_cmp, match_ordering}
 use Rattle.std.specs.Cmp.Lexicographic.{slice_cmp}
-use Rattle.toml.specs.Data.{Data, string, boolean, Members, no_members, member, get_member, depth, items_depth, members_depth}
+use Rattle.toml.specs.Data.{Data, string, boolean, Members, no_members, member, depth, items_depth, members_depth}
 use Rattle.toml.specs.Parse.{parse_document}
 use Rattle.toml.specs.View.{items_of}
 use Rattle.aps_model.specs.declared.command.Call.{Call}
 use Rattle.aps_model.specs.declared.command.Call.TheVariants as call
 use Rattle.aps_model.specs.declared.command.CommandRow.{CommandRow}
-use Rattle.aps_model.specs.declared.partition.PartitionRow.{PartitionRow}
 use Rattle.aps_model.specs.declared.scenario.ThreadRow.{ThreadRow}
-use Rattle.aps_model.specs.declared.shape.Shape.{Shape}
 use Rattle.aps_model.specs.declared.shape.Free.{Free as FreeType}
 use Rattle.aps_model.specs.declared.shape.Bankruptcy.{Bankruptcy as BankruptcyType}
-use Rattle.aps_model.specs.Name.{IsName}
-use Rattle.aps_model.specs.Partition.{IsFundedRow}
 use Rattle.aps_model.specs.Scenario.{Scenario}
 use Rattle.aps_model.specs.Shape.{IsShape}
-use Rattle.aps_model.specs.Valid.{IsScenario, IsCommand, IsCall, IsThreadRow, created_name, joinable}
+use Rattle.aps_model.specs.Valid.{IsScenario, joinable}
 use Rattle.aps_scenario.specs.declared.key.Key.{Key}
 use Rattle.aps_scenario.specs.declared.key.Key.TheVariants.{Name, Parent, Partition, Budget, Critical, Max, Thread, Window, Free, Limit, Bankruptcy, Tick, Do}
-use Rattle.aps_scenario.specs.declared.refusal.Place.TheVariants.{Top}
 use Rattle.aps_scenario.specs.Channels.{channels_at}
 use Rattle.aps_scenario.specs.Commands.{commands_at}
 use Rattle.aps_scenario.specs.Elements.{items_len}
-use Rattle.aps_scenario.specs.Joinable.{created_names, created_at, joinable_at, created_name as created_in}
+use Rattle.aps_scenario.specs.Joinable.{joinable_at}
 use Rattle.aps_scenario.specs.Partitions.{partitions_at}
 use Rattle.aps_scenario.specs.Reading.{scenario_at, reads}
 use Rattle.aps_scenario.specs.Row.{in_range}
@@ -50,7 +41,7 @@ use Rattle.aps_scenario.proofs.PrintedElements.{items_len-map}
 use Rattle.aps_scenario.proofs.PrintedJoinable.{joinable-reads, joinable-IsName}
 use Rattle.aps_scenario.proofs.PrintedPartitions.{partition_array-reads, length-listed}
 use Rattle.aps_scenario.proofs.PrintedThreads.{channels-read, threads-read}
-use Rattle.aps_scenario.proofs.PrintedValues.{no_rest, in_range-Ok, is_name-true}
+use Rattle.aps_scenario.proofs.PrintedValues.{in_range-Ok}
 
 -- ---- sizes
 
@@ -89,7 +80,7 @@ partitions-read s is =
     let listed_size = length-listed (length s.partitions - 1) s.partitions (omega arith) in
     let rest = length-drop 1 (listed_rows s.partitions) in
     let size : items_len (items_of (map (partition_table s.partitions) (drop 1 (listed_rows s.partitions)))) ≡ length s.partitions - 1 =
-        items_len-map (partition_table s.partitions) (drop 1 (listed_rows s.partitions)) ∙ omega arith in
+    items_len-map (partition_table s.partitions) (drop 1 (listed_rows s.partitions)) ∙ omega arith in
     rw (size, le-leb 0 (length s.partitions - 1) (omega arith), le-leb (length s.partitions - 1) 31 (omega arith)) (partition_array-reads s.shape.parts s.partitions is.tree)
 
 channels_at-reads : (s : Scenario) → IsScenario s → channels_at (scenario_members s) ≡ Ok s.channels

@@ -1,8 +1,8 @@
 -- Channels and threads that are printed read as they are.
-use Rattle.std.proofs.Common.{◌≡◌, ℕ, suc, ◌+◌, ◌<◌, ◌≤◌, Bool, true, false, cond, not, List, [], ◌∷◌, ◌++◌, length, map, Some, Ok, refl, ap, sym, subst, ◌∙◌, arith, le-leb, nat_eq, length-append}
+use Rattle.std.proofs.Common.{◌≡◌, ℕ, ◌+◌, ◌<◌, ◌≤◌, Bool, true, false, cond, List, [], ◌∷◌, ◌++◌, length, map, Some, Ok, refl, ap, sym, subst, ◌∙◌, arith, le-leb, nat_eq, length-append}
 use Rattle.std.proofs.lemmas.Bool.Decides.{nat_tests}
 use Rattle.std.proofs.lemmas.List.Elements.{All-get_or}
-use Rattle.std.specs.Prelude.{All, IsTrue}
+use Rattle.std.specs.Prelude.{All}
 use Rattle.std.specs.List.{IsDistinct}
 use Rattle.std.specs.Str.{bytes_eq}
 use Rattle.toml.specs.Data.{Members, get_member, string}
@@ -20,7 +20,7 @@ use Rattle.aps_scenario.specs.declared.key.Key.TheVariants.{Program}
 use Rattle.aps_scenario.specs.declared.refusal.Place.{Place}
 use Rattle.aps_scenario.specs.declared.refusal.Place.TheVariants as place
 use Rattle.aps_scenario.specs.Channels.{channel_at, channels_from, next_channel, is_among}
-use Rattle.aps_scenario.specs.Elements.{read_each, items_len}
+use Rattle.aps_scenario.specs.Elements.{items_len}
 use Rattle.aps_scenario.specs.Key.{key_text}
 use Rattle.aps_scenario.specs.Program.{program_at, next_operation, operations_from, same_truth}
 use Rattle.aps_scenario.specs.Row.{word_in}
@@ -43,8 +43,8 @@ channel-reads before place name is new = rw (is_name-true name is, new) refl
 pub channels-read : (channels : List (List ℕ)) → All IsName channels → IsDistinct bytes_eq channels → channels_from [] (items_of (map channel_table channels)) ≡ Ok channels
 channels-read channels named distinct =
     read_each-all next_channel channel_table [] channels (λ front name back split.
-        channel-reads front (place.Channel (length front)) name (All-split IsName channels front name back split named)
-        (new-in-split (λ name. name) front name back (subst (λ (names : List (List ℕ)). IsDistinct bytes_eq names) (split ∙ sym (map-same _)) distinct)))
+    channel-reads front (place.Channel (length front)) name (All-split IsName channels front name back split named)
+    (new-in-split (λ name. name) front name back (subst (λ (names : List (List ℕ)). IsDistinct bytes_eq names) (split ∙ sym (map-same _)) distinct)))
 
 -- ---- programs
 
@@ -93,8 +93,8 @@ module _ (channels joinable : List (List ℕ)) (named : All IsName channels) (di
       → operations_from (length ops) channels joinable thread [] (items_of (map (λ op. string (operation_text channels op)) ops)) ≡ Ok ops
   operations-read thread ops is =
       read_each-all (next_operation (length ops) channels joinable thread) (λ op. string (operation_text channels op)) [] ops (λ front op back split.
-          operation-passes (length ops) thread front op back (ap length split) (subst (λ (os : List Op). ends_well os ≡ true) split is.ends)
-          (All-split (IsOp (length channels) joinable) ops front op back split is.each))
+      operation-passes (length ops) thread front op back (ap length split) (subst (λ (os : List Op). ends_well os ≡ true) split is.ends)
+      (All-split (IsOp (length channels) joinable) ops front op back split is.each))
 
   some-operation : (ops : List Op) → ends_well ops ≡ true → 1 ≤ length ops
   some-operation [] ends = absurd (cc)
@@ -120,7 +120,7 @@ module _ (channels joinable : List (List ℕ)) (named : All IsName channels) (di
     thread-reads before i row is new =
         let own : IsFundedRow parts (row_or_none partitions row.partition) = All-get_or (IsFundedRow parts) partitions row.partition no_row is.partition tree.funded.each in
         let found : partition_named partitions (row_or_none partitions row.partition).name ≡ Some row.partition =
-            position-named (λ (row : PartitionRow). row.name) partitions row.partition no_row is.partition tree.names in
+        position-named (λ (row : PartitionRow). row.name) partitions row.partition no_row is.partition tree.names in
         rw (
           is_name-true row.name is.name,
           new,
@@ -138,5 +138,5 @@ module _ (channels joinable : List (List ℕ)) (named : All IsName channels) (di
         → threads_from partitions channels joinable [] (items_of (map (thread_table partitions channels) threads)) ≡ Ok threads
     threads-read threads each names =
         read_each-all (next_thread partitions channels joinable) (thread_table partitions channels) [] threads (λ front row back split.
-            thread-reads front (length front) row (All-split (IsThreadRow (length partitions) (length channels) joinable) threads front row back split each)
-            (new-in-split (λ (row : ThreadRow). row.name) front row back (subst (λ (rows : List ThreadRow). IsDistinct bytes_eq (map (λ (row : ThreadRow). row.name) rows)) split names)))
+        thread-reads front (length front) row (All-split (IsThreadRow (length partitions) (length channels) joinable) threads front row back split each)
+        (new-in-split (λ (row : ThreadRow). row.name) front row back (subst (λ (rows : List ThreadRow). IsDistinct bytes_eq (map (λ (row : ThreadRow). row.name) rows)) split names)))

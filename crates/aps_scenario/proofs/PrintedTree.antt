@@ -1,21 +1,21 @@
 -- The rows before the last one took its budget are a tree too, and the last one gives the rows again.
-use Rattle.std.proofs.Common.{◌≡◌, ◌≢◌, ℕ, zero, suc, ◌+◌, ◌-◌, ◌<◌, ◌≤◌, ◌⊎◌, inl, inr, Bool, true, false, ◌||◌, cond, List, [], ◌∷◌, ◌++◌, length, map, get_or, take, refl, ap, sym, subst, ◌∙◌, arith, add-one, nat_eq, nat_lt, take-suc, All, min}
+use Rattle.std.proofs.Common.{◌≡◌, ◌≢◌, ℕ, zero, suc, ◌+◌, ◌-◌, ◌<◌, ◌≤◌, inl, inr, Bool, true, false, ◌||◌, cond, List, [], ◌∷◌, ◌++◌, length, map, get_or, take, refl, ap, sym, subst, ◌∙◌, arith, add-one, nat_eq, nat_lt, take-suc, All}
 use Rattle.std.proofs.lemmas.Bool.Decides.{nat_tests}
 use Rattle.std.proofs.lemmas.Bool.{cases_Bool}
-use Rattle.std.proofs.lemmas.List.{length-take-le, length-set, get_or-take, get_or-set_same, get_or-set_other, set-get_or, take_all, take-map, take-append-drop, map-append}
+use Rattle.std.proofs.lemmas.List.{length-take-le, length-set, get_or-take, get_or-set_same, get_or-set_other, set-get_or, take_all, take-map}
 use Rattle.std.proofs.Math.Seq.{map-set_same, take-set-lt, set-set}
 use Rattle.std.proofs.lemmas.List.Elements.{All-get_or, All-take, All-set}
 use Rattle.std.proofs.lemmas.List.Sums.{sum-map, sum_by_more, sum_by-set}
 use Rattle.std.proofs.lemmas.List.FromFn.{sum_by-map-range_with_len_more}
 use Rattle.std.specs.Prelude.{slice_set}
-use Rattle.std.specs.List.{sum, sum_by, range_with_len, IsDistinct}
+use Rattle.std.specs.List.{sum_by, range_with_len, IsDistinct}
 use Rattle.std.specs.Str.{bytes_eq}
 use Rattle.aps_model.specs.declared.partition.PartitionRow.{PartitionRow}
 use Rattle.aps_model.specs.Partition.{row_or_none, no_row, IsFundedRow}
-use Rattle.aps_model.specs.Valid.{IsRoot, IsTree, is_within, subtree_budget}
+use Rattle.aps_model.specs.Valid.{IsTree, is_within, subtree_budget}
 use Rattle.aps_scenario.specs.Partitions.{rows_with_new}
 use Rattle.aps_scenario.proofs.PrintedNames.{IsDistinct-take}
-use Rattle.aps_scenario.specs.PrintedTree.{given_back, rows_before, listed}
+use Rattle.aps_scenario.specs.PrintedTree.{given_back, rows_before}
 
 abbrev budget_of : PartitionRow → ℕ
 budget_of row = row.budget
@@ -176,9 +176,9 @@ module _ (parts : ℕ) (rows : List PartitionRow) (tree : IsTree parts rows) whe
         let q = parent_of (suc n) in
         let there = earlier in
         let at : below_before i q ≡ below i q + below i (suc n) =
-            rw (reached i q earlier, before-parent, last-reached i within) (cond-plus (is_within rows (length rows) i q) (row_or_none rows q).budget (row_or_none rows (suc n)).budget) in
+        rw (reached i q earlier, before-parent, last-reached i within) (cond-plus (is_within rows (length rows) i q) (row_or_none rows q).budget (row_or_none rows (suc n)).budget) in
         let same : (p : ℕ) → p < suc n → p ≢ q → below_before i p ≡ below i p =
-            λ p inside other. rw (reached i p inside, before-other p inside other) refl in
+        λ p inside other. rw (reached i p inside, before-other p inside other) refl in
         ap (λ m. sum_by (below_before i) (range_with_len 0 m)) length-before
         ∙ sum_range-one (below_before i) (below i) q (below i (suc n)) (suc n) earlier same at
         ∙ sym (sum_range-more (below i) (suc n))
@@ -269,9 +269,9 @@ module _ (parts : ℕ) (rows : List PartitionRow) (tree : IsTree parts rows) whe
         let set_in : before ≡ slice_set (take (suc n) rows) q given = take-set-lt (suc n) rows q given earlier in
         let old : row_or_none rows q ≡ get_or (take (suc n) rows) q no_row = sym (get_or-take (suc n) rows q no_row earlier) in
         let front : slice_set before q lower ≡ take (suc n) rows =
-            ap (λ (xs : List PartitionRow). slice_set xs q lower) set_in
-            ∙ set-set (take (suc n) rows) q given lower
-            ∙ ap (slice_set (take (suc n) rows) q) (as_was ∙ old)
-            ∙ set-get_or (take (suc n) rows) q no_row in
+        ap (λ (xs : List PartitionRow). slice_set xs q lower) set_in
+        ∙ set-set (take (suc n) rows) q given lower
+        ∙ ap (slice_set (take (suc n) rows) q) (as_was ∙ old)
+        ∙ set-get_or (take (suc n) rows) q no_row in
         let all : take (suc (suc n)) rows ≡ rows = take_all (suc (suc n)) rows (omega arith) in
         ap (λ (xs : List PartitionRow). xs ++ last ∷ []) front ∙ sym (take-suc rows (suc n) no_row (omega arith)) ∙ all

@@ -1,5 +1,5 @@
 -- Values that have their ranges are read.
-use Rattle.std.proofs.Common.{◌≡◌, ℕ, ◌≤◌, ◌%◌, ◌==◌, ◌&&◌, Bool, true, false, cond, List, length, Ok, refl, ap, sym, ◌∙◌, arith, nat_le, nat_lt, le-leb}
+use Rattle.std.proofs.Common.{◌≡◌, ℕ, ◌≤◌, ◌%◌, true, false, List, length, Ok, refl, arith, nat_lt, le-leb}
 use Rattle.std.proofs.lemmas.Bool.Decides.{nat_tests}
 use Rattle.aps_model.specs.Name.{IsName}
 use Rattle.aps_scenario.specs.Row.{in_range, is_name}

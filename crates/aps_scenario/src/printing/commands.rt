@@ -79,12 +79,7 @@ fn put_some_bankruptcy(
     ensures { OnOk result (table_view table.new ≡ put_some Key.Bankruptcy (λ (word : BankruptcyType). string (words.bankruptcy_word word)) bankruptcy (table_view table.old)) }
 {
     match bankruptcy {
-        Some(bankruptcy) => put_text(
-            alloc,
-            table,
-            Key::Bankruptcy,
-            bankruptcy_word(bankruptcy),
-        ),
+        Some(bankruptcy) => put_text(alloc, table, Key::Bankruptcy, bankruptcy_word(bankruptcy)),
         None => Ok(()),
     }
 }
@@ -164,11 +159,7 @@ fn put_call(
     }
 }
 
-fn command_value(
-    alloc: Global,
-    threads: &[ThreadRow],
-    row: &CommandRow,
-) -> Result<Value, NoMemory>
+fn command_value(alloc: Global, threads: &[ThreadRow], row: &CommandRow) -> Result<Value, NoMemory>
     requires { (parts : ℕ) × (ticks : ℕ) × IsCommand parts ticks (length threads.now) row.now }
     ensures { IfOk result (λ value. view value ≡ command_table threads.now row.now) }
 {

@@ -29,7 +29,10 @@ fn operation_text(alloc: Global, channels: &[Name], op: &Op) -> Result<String, N
         Op::Sleep(ns) => format!(in alloc; "sleep {ns}")?,
         Op::Yield => String::from_str(alloc, "yield")?,
         Op::Send(channel) => format!(in alloc; "send {}", name_of_channel(channels, channel))?,
-        Op::Receive(channel) => format!(in alloc; "receive {}", name_of_channel(channels, channel))?,
+        Op::Receive(channel) => format!(in alloc;
+            "receive {}",
+            name_of_channel(channels, channel)
+        )?,
         Op::Reply => String::from_str(alloc, "reply")?,
         Op::Join(name) => format!(in alloc; "join {}", text_of(&name))?,
         Op::Priority(n) => format!(in alloc; "priority {n}")?,

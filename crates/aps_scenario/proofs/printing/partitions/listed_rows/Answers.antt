@@ -1,7 +1,4 @@
-use Rattle.std.proofs.Common.{◌≡◌, ◌∙◌, ◌+◌, ◌-◌, ◌<◌, ◌++◌, length, take, drop, slice_set, sym, ap, subst, arith, List, length-set}
-use Rattle.aps_model.specs.declared.partition.PartitionRow.{PartitionRow}
-use Rattle.aps_model.specs.Valid.{IsTree}
-use Rattle.aps_scenario.specs.PrintedTree.{given_back, listed, listed_rows}
+use Rattle.std.proofs.Common.{◌≡◌, ◌∙◌, ◌<◌, length, arith, length-set}
 use Rattle.aps_scenario.proofs.PrintedListing.{next-tree, next-rest, given_back-written, parent-within}
 use Rattle.aps_scenario.proofs.printing.partitions.listed_rows.Goals as goal
 
@@ -17,9 +14,9 @@ loop-child-preserved c =
     let below : child < length rows = inv.within in
     let within : child < length v = omega arith in
     let inside : c.index-parent.result < length v =
-        parent-within parts v child c.index-parent.result c.index-in-loop-child.result.now some within inv.tree c.index-in-loop-child.ensures c.index-parent.ensures.same in
+    parent-within parts v child c.index-parent.result c.index-in-loop-child.result.now some within inv.tree c.index-in-loop-child.ensures c.index-parent.ensures.same in
     let written = given_back-written v child c.index-parent.result c.index.result.now c.index-in-loop-child.result.now c.index_mut.result.now
-        within inside c.index.ensures c.index-in-loop-child.ensures c.index-parent.ensures.same c.index_mut.ensures.value in
+    within inside c.index.ensures c.index-in-loop-child.ensures c.index-parent.ensures.same c.index_mut.ensures.value in
     rw written (record {
       count = length-set v _ _ ∙ inv.count;
       within = omega arith;

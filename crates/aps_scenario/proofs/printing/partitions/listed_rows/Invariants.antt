@@ -1,5 +1,4 @@
-use Rattle.std.proofs.Common.{◌≡◌, ◌+◌, ◌<◌, ◌≤◌, ◌++◌, take, drop, length, All}
-use Rattle.aps_model.specs.declared.partition.PartitionRow.{PartitionRow}
+use Rattle.std.proofs.Common.{◌≡◌, ◌+◌, ◌<◌, ◌++◌, take, drop, length}
 use Rattle.aps_model.specs.Valid.{IsTree}
 use Rattle.aps_scenario.specs.PrintedTree.{listed, listed_rows}
 use Rattle.aps_scenario.proofs.printing.partitions.listed_rows.Given as goal
