@@ -12,3 +12,14 @@ pub mod PrintedScenario
 pub mod PrintedTable
 pub mod PrintedListing
 pub mod PrintedAscii
+pub mod Paths
+pub mod Tables
+pub mod Elements
+pub mod Values
+pub mod Lists
+pub mod Created
+pub mod Operations
+pub mod Subtrees
+pub mod Shapes
+pub mod Trees
+pub mod ChannelNames

@@ -1,5 +1,5 @@
 -- What a command asks, by its kind: each kind has its own keys.
-use Rattle.std.specs.Prelude.{ℕ, ◌-◌, Bool, not, List, [], ◌∷◌, codes, Option, Some, None, is_some, Result, Ok, Err}
+use Rattle.std.specs.Prelude.{ℕ, ◌-◌, Bool, not, List, [], ◌∷◌, Option, Some, None, is_some, Result, Ok, Err}
 use Rattle.std.specs.List.{position, list_any}
 use Rattle.std.specs.Str.{bytes_eq}
 use Rattle.toml.specs.Data.{Data, Members, get_member}
@@ -15,8 +15,7 @@ use Rattle.aps_scenario.specs.declared.refusal.Place.{Place}
 use Rattle.aps_scenario.specs.declared.words.CommandKind.{CommandKind}
 use Rattle.aps_scenario.specs.declared.words.CommandKind.TheVariants.{Create, Modify, Lookup, QueryPartition, QueryThread, QueryParameters, SetParameters, Statistics, MarkCritical, ClearCritical}
 use Rattle.aps_scenario.specs.Key.{key_text}
-use Rattle.aps_scenario.specs.Partitions.{or_unknown, row_critical, row_max}
-use Rattle.aps_scenario.specs.Partitions.{row_budget}
+use Rattle.aps_scenario.specs.Partitions.{or_unknown, row_budget, row_critical, row_max, system_name}
 use Rattle.aps_scenario.specs.Row.{◌>>=◌, Row, row_integer, row_name, name as name_in, value_of, optional, unless}
 use Rattle.aps_scenario.specs.Sizes.{row_window, row_free, row_limit, row_bankruptcy}
 
@@ -52,11 +51,14 @@ some_key first others place t = unless (not (list_any (has_key t) (first ∷ oth
 abbrev pub row_partition_name : Row (List ℕ)
 row_partition_name = row_name Partition None
 
+abbrev pub thread_named : List ThreadRow → List ℕ → Option ℕ
+thread_named threads name = position (λ (row : ThreadRow). bytes_eq row.name name) threads
+
 -- the thread that a value names
 abbrev pub thread_of : List ThreadRow → Data → Result ℕ Kind
 thread_of threads d = do
   name ← name_in d
-  or_unknown (position (λ (row : ThreadRow). bytes_eq row.name name) threads)
+  or_unknown (thread_named threads name)
 
 abbrev pub row_thread : List ThreadRow → Row ℕ
 row_thread threads = record { key = Thread; reads = thread_of threads; default = None }
@@ -66,7 +68,7 @@ row_thread threads = record { key = Thread; reads = thread_of threads; default =
 unfoldable pub create_at : ℕ → Place → Members → Result Call Finding
 create_at parts place t = do
   name ← value_of (row_name Name None) place t
-  parent ← value_of (row_name Parent (Some (codes "System"))) place t
+  parent ← value_of (row_name Parent (Some system_name)) place t
   budget ← value_of (row_budget parts) place t
   critical ← value_of row_critical place t
   max ← value_of (row_max 0 parts) place t

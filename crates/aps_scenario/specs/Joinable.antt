@@ -35,17 +35,20 @@ where_create other name = None
 abbrev pub created_name : Data → Option (List ℕ)
 created_name d = then_of (as_table d) (λ t. where_create (command_kind t) (own_name t))
 
-abbrev pub some_before : Option (List ℕ) → List (List ℕ) → List (List ℕ)
-some_before None names = names
-some_before (Some name) names = name ∷ names
+abbrev pub listed : Option (List ℕ) → List (List ℕ)
+listed None = []
+listed (Some name) = name ∷ []
 
 abbrev pub created_names : Items → List (List ℕ)
 created_names no_items = []
-created_names (item d rest) = some_before (created_name d) (created_names rest)
+created_names (item d rest) = listed (created_name d) ++ created_names rest
+
+abbrev pub commands_in : Members → Option Items
+commands_in t = then_of (get_member (key_text Command) t) as_array
 
 -- the names that the commands of a top table would give
 abbrev pub created_at : Members → List (List ℕ)
-created_at t = created_names (items_or_none (then_of (get_member (key_text Command) t) as_array))
+created_at t = created_names (items_or_none (commands_in t))
 
 abbrev pub joinable_at : List PartitionRow → Members → List (List ℕ)
 joinable_at rows t = map (λ (row : PartitionRow). row.name) rows ++ created_at t

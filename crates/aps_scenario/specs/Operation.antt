@@ -47,13 +47,23 @@ priority text = or_bad Priority (number 255 text)
 abbrev pub channel_named : List (List ℕ) → List ℕ → Option ℕ
 channel_named channels name = position (λ (other : List ℕ). bytes_eq other name) channels
 
-abbrev pub or_unknown : (ℕ → Op) → Option ℕ → Result Op OperationFault
-or_unknown op None = Err Unknown
-or_unknown op (Some channel) = Ok (op channel)
+abbrev pub or_unknown : Option ℕ → Result ℕ OperationFault
+or_unknown None = Err Unknown
+or_unknown (Some channel) = Ok channel
 
--- an operation on the channel of this name
-abbrev pub on_channel : (ℕ → Op) → List (List ℕ) → List ℕ → Result Op OperationFault
-on_channel op channels name = if is_name name then or_unknown op (channel_named channels name) else Err Bad
+-- the channel of this name
+abbrev pub channel : List (List ℕ) → List ℕ → Result ℕ OperationFault
+channel channels name = if is_name name then or_unknown (channel_named channels name) else Err Bad
+
+abbrev pub with_channel : (ℕ → Op) → Result ℕ OperationFault → Result Op OperationFault
+with_channel op (Ok channel) = Ok (op channel)
+with_channel op (Err fault) = Err fault
+
+abbrev pub send : List (List ℕ) → List ℕ → Result Op OperationFault
+send channels name = with_channel Send (channel channels name)
+
+abbrev pub receive : List (List ℕ) → List ℕ → Result Op OperationFault
+receive channels name = with_channel Receive (channel channels name)
 
 abbrev pub join : List (List ℕ) → List ℕ → Result Op OperationFault
 join joinable name =
@@ -86,12 +96,17 @@ either_way None reads other text = other text
 abbrev pub behind : List ℕ → (List ℕ → Result Op OperationFault) → (List ℕ → Result Op OperationFault) → List ℕ → Result Op OperationFault
 behind word reads other text = either_way (after_word word text) reads other text
 
+-- an operation that names a channel or a partition, or is always the same text
+abbrev pub named_or_constant : List (List ℕ) → List (List ℕ) → List ℕ → Result Op OperationFault
+named_or_constant channels joinable =
+    behind (codes "send ") (send channels)
+    (behind (codes "receive ") (receive channels)
+    (behind (codes "join ") (join joinable) constant))
+
 -- the operation that a text is, where these are the channels and the names that may be joined
 abbrev pub operation_of : List (List ℕ) → List (List ℕ) → List ℕ → Result Op OperationFault
 operation_of channels joinable =
     behind (codes "run ") run
     (behind (codes "sleep ") sleep
     (behind (codes "priority ") priority
-    (behind (codes "send ") (on_channel Send channels)
-    (behind (codes "receive ") (on_channel Receive channels)
-    (behind (codes "join ") (join joinable) constant)))))
+    (named_or_constant channels joinable)))

@@ -72,9 +72,12 @@ rows_with_new rows new = rows_created rows new.name new.parent new.budget new.cr
 abbrev pub partitions_from : ℕ → List PartitionRow → Items → Result (List PartitionRow) Finding
 partitions_from parts = read_each (next_partition parts) rows_with_new
 
+abbrev pub system_name : List ℕ
+system_name = codes "System"
+
 -- the root, before any budget is taken from it
 abbrev pub system : ℕ → PartitionRow
-system parts = record { name = codes "System"; parent = 0; budget = parts; critical = 0; max = parts }
+system parts = record { name = system_name; parent = 0; budget = parts; critical = 0; max = parts }
 
 -- the partitions of the top table, the root first
 unfoldable pub partitions_at : ℕ → Members → Result (List PartitionRow) Finding

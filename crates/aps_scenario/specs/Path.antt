@@ -1,10 +1,11 @@
 -- Where in a text something is wrong, as it is told.
-use Rattle.std.specs.Prelude.{◌≡◌, ℕ, ◌≤◌, nat_le, ◌&&◌, Bool, List, [], ◌++◌, length, take, replicate, codes, if◌then◌else◌}
+use Rattle.std.specs.Prelude.{ℕ, nat_le, ◌&&◌, Bool, List, [], ◌++◌, length, ◌-◌, take, replicate, codes, if◌then◌else◌}
 use Rattle.std.specs.List.{list_all}
 use Rattle.std.specs.Fmt.{decimal}
 use Rattle.aps_model.specs.Name.{is_name_byte}
 use Rattle.aps_scenario.specs.declared.key.Key.{Key}
 use Rattle.aps_scenario.specs.declared.key.Key.TheVariants as key
+use Rattle.aps_scenario.specs.declared.path.KeyText.{KeyText}
 use Rattle.aps_scenario.specs.declared.refusal.Place.{Place}
 use Rattle.aps_scenario.specs.declared.refusal.Place.TheVariants.{Top, Partition, Channel, Thread, Command}
 use Rattle.aps_scenario.specs.declared.refusal.Part.{Part}
@@ -39,8 +40,12 @@ is_printable key = (nat_le 1 (length key) && nat_le (length key) 32) && list_all
 abbrev pub printed_key : List ℕ → List ℕ
 printed_key key = if is_printable key then key else codes "?"
 
+-- a key of at most 32 bytes, as it is held
+abbrev pub held : List ℕ → KeyText
+held key = record { bytes = key ++ replicate (32 - length key) 0; len = length key }
+
 abbrev pub path_text : Part → List ℕ
 path_text (Table place) = place_text place
 path_text (At place key) = prefix_text place ++ key_text key
-path_text (OtherKey place key) = prefix_text place ++ key
+path_text (OtherKey place key) = prefix_text place ++ take key.len key.bytes
 path_text (Operation thread i) = prefix_text (Thread thread) ++ element_text key.Program i

@@ -13,7 +13,7 @@ use Rattle.aps_scenario.specs.declared.refusal.Part.{Part}
 use Rattle.aps_scenario.specs.declared.refusal.Part.TheVariants.{Table, At, OtherKey}
 use Rattle.aps_scenario.specs.declared.refusal.Finding.{Finding}
 use Rattle.aps_scenario.specs.Key.{key_text}
-use Rattle.aps_scenario.specs.Path.{printed_key}
+use Rattle.aps_scenario.specs.Path.{held, printed_key}
 
 infixl 10 ◌>>=◌
 -- the tests come one after the other, and the first that fails is the finding
@@ -121,7 +121,7 @@ unknown_key known (member key d rest) = if is_known known key then unknown_key k
 
 abbrev pub none_unknown : Place → Option (List ℕ) → Result (Unit {0}) Finding
 none_unknown place None = Ok tt
-none_unknown place (Some key) = finds UnknownKey (OtherKey place (printed_key key))
+none_unknown place (Some key) = finds UnknownKey (OtherKey place (held (printed_key key)))
 
 -- a table has no keys but these
 abbrev pub only : List Key → Place → Members → Result (Unit {0}) Finding

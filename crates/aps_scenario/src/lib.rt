@@ -1,12 +1,21 @@
 //! The scenario that a text is, or why it is none.
 #![tactic(auto)]
 
+mod calls;
+mod channels;
+mod commands;
+mod joinable;
 mod key;
 mod kind;
 mod operation;
+mod partitions;
 mod path;
 mod printing;
+mod program;
 mod refusal;
+mod row;
+mod sizes;
+mod threads;
 mod words;
 
 pub use kind::Kind;

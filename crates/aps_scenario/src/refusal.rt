@@ -4,7 +4,7 @@ ghost use Rattle.aps_scenario.specs.declared.refusal.Failure.TheVariants as fail
 
 use crate::key::Key;
 use crate::kind::Kind;
-use crate::path::PathText;
+use crate::path::{KeyText, PathText};
 use std::alloc::{AllocError, AllocFailed};
 use thiserror::Error;
 
@@ -23,10 +23,10 @@ pub enum ScenarioRefusal {
 #[derive(Clone, Copy, Debug, PartialEq, Eq)]
 pub enum Place {
     Top,
-    Partition(usize),
-    Channel(usize),
-    Thread(usize),
-    Command(usize),
+    Partition(u16),
+    Channel(u16),
+    Thread(u16),
+    Command(u16),
 }
 
 /// The part of a text that is refused.
@@ -37,9 +37,9 @@ pub enum Part {
     /// A key of the format, in a table.
     At(Place, Key),
     /// Another key of a table, as it is told.
-    OtherKey(Place, PathText),
+    OtherKey(Place, KeyText),
     /// An operation of a thread's program, both by their indices.
-    Operation(usize, usize),
+    Operation(u16, u16),
 }
 
 /// The first part of a text that breaks a rule of the format, and how.
