@@ -1,4 +1,17 @@
 pub mod Samples
+pub mod PrintedNames
+pub mod PrintedTree
+pub mod PrintedElements
+pub mod PrintedValues
+pub mod PrintedPartitions
+pub mod PrintedOperations
+pub mod PrintedThreads
+pub mod PrintedCommands
+pub mod PrintedJoinable
+pub mod PrintedScenario
+pub mod PrintedTable
+pub mod PrintedListing
+pub mod PrintedAscii
 pub mod Paths
 pub mod Tables
 pub mod Elements

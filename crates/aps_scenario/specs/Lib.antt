@@ -16,3 +16,11 @@ pub mod Threads
 pub mod Calls
 pub mod Commands
 pub mod Reading
+pub mod PrintedTree
+pub mod PrintedTable
+pub mod PrintedWords
+pub mod PrintedPartitions
+pub mod PrintedOperation
+pub mod PrintedThreads
+pub mod PrintedCommands
+pub mod PrintedScenario

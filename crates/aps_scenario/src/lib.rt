@@ -10,6 +10,7 @@ mod kind;
 mod operation;
 mod partitions;
 mod path;
+mod printing;
 mod program;
 mod reading;
 mod refusal;
@@ -20,5 +21,6 @@ mod words;
 
 pub use kind::Kind;
 pub use path::PathText;
+pub use printing::print;
 pub use reading::scenario_of;
 pub use refusal::ScenarioRefusal;
