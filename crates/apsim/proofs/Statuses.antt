@@ -3,12 +3,13 @@ use Rattle.std.proofs.Common.{rules, ◌≡◌, ℕ, List, ◌⊎◌, inl, inr, 
 use Rattle.aps_model.specs.declared.entry.End.TheVariants.{Horizon, Limit, Reboot}
 use Rattle.aps_model.specs.History.{History}
 use Rattle.aps_scenario.specs.declared.kind.Kind.{Kind}
-use Rattle.aps_model.specs.Report.{usage_text}
+use Rattle.aps_words.specs.declared.command.Report.{Report}
 use Rattle.apsim.specs.declared.status.Status.{Status}
 use Rattle.apsim.specs.declared.status.Status.TheVariants.{Done, WordsRefused, ScenarioRefused, Rebooted, ReadFault, Limited, NoMemory, TooLong}
 use Rattle.apsim.specs.declared.outcome.Outcome.{Outcome}
 use Rattle.apsim.specs.declared.outcome.Outcome.TheVariants as outcome
 use Rattle.apsim.specs.declared.top.Ended.{Ended}
+use Rattle.apsim.specs.Outcome.{report_text}
 use Rattle.apsim.specs.Status.{code, or_write_fault}
 use Rattle.apsim.specs.Cause.{Input, HasCause, RanAsRead}
 use Rattle.apsim.specs.Printing.{Output, Prints}
@@ -41,6 +42,7 @@ words_refused input output ended cause told none = record {
   done = search rules;
   no_history = search rules;
   history = search rules;
+  reported = search rules;
   complete = search rules;
 }
 
@@ -59,6 +61,7 @@ read_fault input output ended cause told none = record {
   done = search rules;
   no_history = search rules;
   history = search rules;
+  reported = search rules;
   complete = search rules;
 }
 
@@ -77,6 +80,7 @@ too_long input output ended cause told none = record {
   done = search rules;
   no_history = search rules;
   history = search rules;
+  reported = search rules;
   complete = search rules;
 }
 
@@ -96,6 +100,7 @@ refused input output ended kind path cause told none = record {
   done = search rules;
   no_history = search rules;
   history = search rules;
+  reported = search rules;
   complete = search rules;
 }
 
@@ -114,13 +119,14 @@ no_memory input output ended told none = record {
   done = search rules;
   no_history = search rules;
   history = search rules;
+  reported = search rules;
   complete = search rules;
 }
 
 -- a run that ended by its limit
-limited : (input : Input) (output : Output) (ended : Ended) (h : History) → RanAsRead input Limit h
+limited : (input : Input) (output : Output) (ended : Ended) (report : Report) (h : History) → RanAsRead input report Limit h
     → OrNoMemory ended Limited → ended.history ≡ Some h → Answers input output ended
-limited input output ended h cause told some = record {
+limited input output ended report h cause told some = record {
   words_refused = search rules;
   read_fault = search rules;
   too_long = search rules;
@@ -132,13 +138,14 @@ limited input output ended h cause told some = record {
   done = search rules;
   no_history = search rules;
   history = search rules;
+  reported = search rules;
   complete = search rules;
 }
 
 -- a run that a reboot ended
-rebooted : (input : Input) (output : Output) (ended : Ended) (h : History) (p : ℕ) → RanAsRead input (Reboot p) h
+rebooted : (input : Input) (output : Output) (ended : Ended) (report : Report) (h : History) (p : ℕ) → RanAsRead input report (Reboot p) h
     → OrNoMemory ended Rebooted → ended.history ≡ Some h → Answers input output ended
-rebooted input output ended h p cause told some = record {
+rebooted input output ended report h p cause told some = record {
   words_refused = search rules;
   read_fault = search rules;
   too_long = search rules;
@@ -150,13 +157,14 @@ rebooted input output ended h p cause told some = record {
   done = search rules;
   no_history = search rules;
   history = search rules;
+  reported = search rules;
   complete = search rules;
 }
 
 -- a run that reached the horizon
-reached : (input : Input) (output : Output) (ended : Ended) (h : History) (status : Status) → RanAsRead input Horizon h
-    → ended.status ≡ code status → Prints output (usage_text h) Done status → ended.history ≡ Some h → Answers input output ended
-reached input output ended h status cause told printed some = record {
+reached : (input : Input) (output : Output) (ended : Ended) (report : Report) (h : History) (status : Status) → RanAsRead input report Horizon h
+    → ended.status ≡ code status → Prints output (report_text report h) Done status → ended.history ≡ Some h → Answers input output ended
+reached input output ended report h status cause told printed some = record {
   words_refused = search rules;
   read_fault = search rules;
   too_long = search rules;
@@ -168,6 +176,7 @@ reached input output ended h status cause told printed some = record {
   done = search rules;
   no_history = search rules;
   history = search rules;
+  reported = search rules;
   complete = search rules;
 }
 
@@ -181,11 +190,11 @@ answers input output outcome.TooLong ended cause tells =
     too_long input output ended cause (told_or_memory output _ TooLong tells.status _ refl tells.told tells.printed) tells.history
 answers input output (outcome.ScenarioRefused kind path) ended cause tells =
     refused input output ended kind path cause (told_or_memory output _ ScenarioRefused tells.status _ refl tells.told tells.printed) tells.history
-answers input output (outcome.Ran Horizon h) ended cause tells =
-    reached input output ended h tells.status cause tells.told tells.printed tells.history
-answers input output (outcome.Ran Limit h) ended cause tells =
-    limited input output ended h cause (told_or_memory output _ Limited tells.status _ refl tells.told tells.printed) tells.history
-answers input output (outcome.Ran (Reboot p) h) ended cause tells =
-    rebooted input output ended h p cause (told_or_memory output _ Rebooted tells.status _ refl tells.told tells.printed) tells.history
+answers input output (outcome.Ran report Horizon h) ended cause tells =
+    reached input output ended report h tells.status cause tells.told tells.printed tells.history
+answers input output (outcome.Ran report Limit h) ended cause tells =
+    limited input output ended report h cause (told_or_memory output _ Limited tells.status _ refl tells.told tells.printed) tells.history
+answers input output (outcome.Ran report (Reboot p) h) ended cause tells =
+    rebooted input output ended report h p cause (told_or_memory output _ Rebooted tells.status _ refl tells.told tells.printed) tells.history
 answers input output outcome.NoMemory ended cause tells =
     no_memory input output ended (either (told_or_memory output _ NoMemory tells.status _ refl tells.told tells.printed)) tells.history
