@@ -176,9 +176,9 @@ module _ (parts : ℕ) (place : Place) (t : Members) (asked : Call) where
       elim (value_of-ok (row_thread threads) place t x e) [
         | inl none ↦ absurd (cc)
         | inr p ↦
-          let q = bind-ok (name p.0) _ x p.1 in
-          let found = position-Some _ threads x no_thread_row (or_unknown-ok (thread_named threads q.0) x q.2) in
-          found.0
+            let q = bind-ok (name p.0) _ x p.1 in
+            let found = position-Some _ threads x no_thread_row (or_unknown-ok (thread_named threads q.0) x q.2) in
+            found.0
       ]
 
   on_thread_at-ok : (threads : List ThreadRow) (make : ℕ → Call) → ((x : ℕ) → x < length threads → IsCall parts (length threads) (make x))

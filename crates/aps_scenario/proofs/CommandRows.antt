@@ -96,7 +96,7 @@ module _ (shape : Shape) (threads : List ThreadRow) (some_tick : 1 ≤ shape.tic
       let range = required-ok Tick 0 (shape.ticks - 1) 1 here t.0 tick.0 tick.1 in
       let within : tick.0 < shape.ticks = omega (arith, range.below, some_tick) in
       subst (IsNew d) same (by_kind here t.0 d kind.0 found (table_of-ok here d t.0 t.1) within (required row_kind here t.0 kind.0 refl kind.1)
-        (call_at-ok shape.parts here t.0 asked.0 threads kind.0 asked.1))
+      (call_at-ok shape.parts here t.0 asked.0 threads kind.0 asked.1))
 
   -- the commands so far, of which there are n
   record AreRead (n : ℕ) (commands : List CommandRow) : Type 0 where

@@ -51,8 +51,8 @@ number_after-ok most value [] n so_far e = let same : value ≡ n = cc in rw (�
 number_after-ok most value (c ∷ cs) n so_far e =
     elim (cases_Bool (is_ascii_digit c && nat_le (value * 10 + (c - 48)) most)) [
       | inl fits ↦
-        let more : IsUpTo most (value * 10 + (c - 48)) = record { some = omega (arith, so_far.some); few = grind (arith, nat_tests, fits) } in
-        number_after-ok most (value * 10 + (c - 48)) cs n more (rw fits at e)
+          let more : IsUpTo most (value * 10 + (c - 48)) = record { some = omega (arith, so_far.some); few = grind (arith, nat_tests, fits) } in
+          number_after-ok most (value * 10 + (c - 48)) cs n more (rw fits at e)
       | inr other ↦ let none : None ≡ Some n = rw other at e in absurd (cc)
     ]
 
@@ -61,8 +61,8 @@ number-ok most [] n e = absurd (cc)
 number-ok most (c ∷ cs) n e =
     elim (cases_Bool ((is_ascii_digit c && not (c == 48)) && nat_le (c - 48) most)) [
       | inl fits ↦
-        let first : IsUpTo most (c - 48) = record { some = grind (arith, nat_tests, fits); few = grind (arith, nat_tests, fits) } in
-        number_after-ok most (c - 48) cs n first (rw fits at e)
+          let first : IsUpTo most (c - 48) = record { some = grind (arith, nat_tests, fits); few = grind (arith, nat_tests, fits) } in
+          number_after-ok most (c - 48) cs n first (rw fits at e)
       | inr other ↦ let none : None ≡ Some n = rw other at e in absurd (cc)
     ]
 
@@ -113,8 +113,8 @@ module _ (channels joinable : List (List ℕ)) (op : Op) where
   join-ok name e =
       elim (cases_Bool (is_name name)) [
         | inl named ↦
-          let q = cond-ok (is_among joinable name) (Join name) op Unknown (rw named at e) in
-          subst (IsOp (length channels) joinable) q.1 q.0
+            let q = cond-ok (is_among joinable name) (Join name) op Unknown (rw named at e) in
+            subst (IsOp (length channels) joinable) q.1 q.0
         | inr other ↦ let none : Err Bad ≡ Ok op = rw other at e in absurd (cc)
       ]
 

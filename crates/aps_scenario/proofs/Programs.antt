@@ -104,8 +104,8 @@ program_at-ok channels joinable thread t ops e =
     let read : AreRead (items_len elements.0) channels joinable thread (0 + items_len elements.0) ops =
     read_each-keeps (next_operation (items_len elements.0) channels joinable thread) ops_with_new (AreRead (items_len elements.0) channels joinable thread)
     (λ n so_far d new before step.
-      more (items_len elements.0) channels joinable thread n so_far new before
-      (operation_in-ok (items_len elements.0) channels joinable thread (length so_far) d new (at_operation-ok (items_len elements.0) channels joinable thread (length so_far) _ new step)))
+    more (items_len elements.0) channels joinable thread n so_far new before
+    (operation_in-ok (items_len elements.0) channels joinable thread (length so_far) d new (at_operation-ok (items_len elements.0) channels joinable thread (length so_far) _ new step)))
     elements.0 0 [] ops none elements.2 in
     let long : length ops ≡ 0 + items_len elements.0 = read.long in
     let few : items_len elements.0 ≤ 256 = range.few in

@@ -16,6 +16,8 @@ mod reading;
 mod refusal;
 mod row;
 mod sizes;
+#[cfg(test)]
+mod tests;
 mod threads;
 mod words;
 

@@ -46,9 +46,7 @@ fn scenario_at(alloc: Global, table: &Table) -> Result<Scenario, Failure>
     let joinable = joinable_at(alloc, &partitions, table)?;
     let threads = threads_at(alloc, &partitions, &channels, &joinable, table)?;
     let commands = commands_at(alloc, &shape, &threads, table)?;
-    Ok(Scenario::new(
-        shape, partitions, channels, threads, commands,
-    ))
+    Ok(Scenario::new(shape, partitions, channels, threads, commands))
 }
 
 /// The scenario that a text is.

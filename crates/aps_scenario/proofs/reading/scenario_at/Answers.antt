@@ -30,8 +30,8 @@ pub commands_at-requires-clause-few_threads : goal.commands_at-requires-clause-f
 commands_at-requires-clause-few_threads c =
     let tree = partitions_at-ok c.in_ok-shape.shape.parts (table_view c.args.table.now) c.in_ok-partitions.partitions.items c.in_ok-partitions.ensures in
     let rows = threads_at-ok c.in_ok-partitions.partitions.items tree.some c.in_ok-channels.channels.items c.in_ok-joinable.joinable.items
-        (table_view c.args.table.now) c.in_ok-threads.threads.items
-        (rw (c.deref-2.ensures.value, c.deref-3.ensures.value, c.deref-4.ensures.value) at c.in_ok-threads.ensures) in
+    (table_view c.args.table.now) c.in_ok-threads.threads.items
+    (rw (c.deref-2.ensures.value, c.deref-3.ensures.value, c.deref-4.ensures.value) at c.in_ok-threads.ensures) in
     rw c.deref-5.ensures.value rows.few
 
 pub new-requires : goal.new-requires
