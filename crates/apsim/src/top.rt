@@ -20,7 +20,8 @@ pub struct Ended {
 
 /// Does what the words ask for, on the calling thread. For `solo` it reads a scenario from the source,
 /// runs it in fixed order up to the named limit, and writes the named report of its history to the
-/// sink. It waits for nobody. Commands that need other threads are refused as words.
+/// sink. For `gen` it reads nothing, and writes the text of the scenario that is generated from the
+/// named numbers. It waits for nobody. Commands that need other threads are refused as words.
 ///
 /// What comes to nothing is said in the sink too, and each status has its one cause: see `Status`.
 /// A fault of the sink leaves a prefix of the text there, and so does want of memory.
