@@ -16,3 +16,4 @@ pub mod CallRanges
 pub mod CommandRows
 pub mod Validity
 pub mod Documents
+pub mod Upgrades

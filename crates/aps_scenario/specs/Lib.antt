@@ -16,3 +16,4 @@ pub mod Threads
 pub mod Calls
 pub mod Commands
 pub mod Reading
+pub mod Upgrading

@@ -18,9 +18,11 @@ mod sizes;
 #[cfg(test)]
 mod tests;
 mod threads;
+mod upgrading;
 mod words;
 
 pub use kind::Kind;
 pub use path::PathText;
 pub use reading::scenario_of;
 pub use refusal::ScenarioRefusal;
+pub use upgrading::upgrade;
