@@ -29,3 +29,4 @@ pub mod CallRanges
 pub mod CommandRows
 pub mod Validity
 pub mod Documents
+pub mod Upgrades

@@ -24,3 +24,4 @@ pub mod PrintedOperation
 pub mod PrintedThreads
 pub mod PrintedCommands
 pub mod PrintedScenario
+pub mod Upgrading

@@ -19,6 +19,7 @@ mod sizes;
 #[cfg(test)]
 mod tests;
 mod threads;
+mod upgrading;
 mod words;
 
 pub use kind::Kind;
@@ -26,3 +27,4 @@ pub use path::PathText;
 pub use printing::print;
 pub use reading::scenario_of;
 pub use refusal::ScenarioRefusal;
+pub use upgrading::upgrade;

@@ -128,6 +128,18 @@ fn what_is_given_replaces_the_defaults(rt: HostRuntime) -> Result<(), Fail> {
     Ok(())
 }
 
+#[test]
+fn an_upgrade_counts_in_thousandths(rt: HostRuntime) -> Result<(), Fail> {
+    let scenario = upgrade(scenario_of(rt.alloc(), TWO_EQUAL_PARTITIONS.as_bytes())?);
+    assert_eq!(rt; scenario.shape().parts, 1000);
+    let [system, a] = scenario.partitions() else {
+        panic!(rt; "two partitions");
+    };
+    assert!(rt; is_row(system, b"System", 0, 500, 1000));
+    assert!(rt; is_row(a, b"A", 0, 500, 1000));
+    Ok(())
+}
+
 /// Whether these are the operations of the first thread: it sends to the second channel, joins the partition that a command creates, and starts again.
 fn is_first_program(ops: &[Op]) -> bool {
     match ops {
