@@ -12,6 +12,7 @@ use Rattle.std.proofs.lemmas.Slice.Eq.{bytes_eq-Decides}
 use Rattle.aps_model.specs.declared.partition.PartitionRow.{PartitionRow}
 use Rattle.aps_model.specs.declared.program.Op.TheVariants.{Forever}
 use Rattle.aps_model.specs.declared.scenario.ThreadRow.{ThreadRow}
+use Rattle.aps_model.specs.declared.shape.Bankruptcy.TheVariants.{Basic}
 use Rattle.aps_model.specs.declared.shape.Shape.{Shape}
 use Rattle.aps_model.specs.Name.{IsName, is_name_byte}
 use Rattle.aps_model.specs.Partition.{IsFundedRow, no_row, row_or_none}
@@ -260,22 +261,10 @@ threads_count : (i : ℕ) (threads : List Endless) → length (threads_from i th
 threads_count i [] = refl
 threads_count i (t ∷ threads) = ap suc (threads_count (i + 1) threads)
 
-threads_plain : (i : ℕ) (threads : List Endless) → AllByRecursion (λ (row : ThreadRow). row.program ≡ Forever ∷ []) (threads_from i threads)
-threads_plain i [] = tt
-threads_plain i (t ∷ threads) = (refl, threads_plain (i + 1) threads)
-
-threads_uncritical : (i : ℕ) (threads : List Endless) → AllByRecursion (λ (row : ThreadRow). row.critical ≡ false) (threads_from i threads)
-threads_uncritical i [] = tt
-threads_uncritical i (t ∷ threads) = (refl, threads_uncritical (i + 1) threads)
-
 -- ---- the whole
 
-pub scenario_plain : (shape : Shape) (root : ℕ) (budgets : List ℕ) (threads : List Endless) → IsPlainScenario (scenario_of shape root budgets threads)
-scenario_plain shape root budgets threads = record {
-  programs = All-from_recursion _ _ (threads_plain 0 threads);
-  uncritical = All-from_recursion _ _ (threads_uncritical 0 threads);
-  commands = refl;
-}
+pub scenario_plain : (shape : Shape) (root : ℕ) (budgets : List ℕ) (threads : List Endless) → shape.bankruptcy ≡ Basic → IsPlainScenario (scenario_of shape root budgets threads)
+scenario_plain shape root budgets threads basic = record { commands = refl; basic = basic }
 
 pub scenario_valid : (shape : Shape) (root : ℕ) (budgets : List ℕ) (threads : List Endless) → IsGiven shape root budgets threads → IsScenario (scenario_of shape root budgets threads)
 unfolding given_rows IsDistinct

@@ -8,6 +8,8 @@ use Rattle.aps_model.specs.declared.entry.End.TheVariants.{Limit}
 use Rattle.aps_model.specs.declared.entry.Entry.{Entry}
 use Rattle.aps_model.specs.declared.entry.Order.{Order}
 use Rattle.aps_model.specs.declared.merit.PartFacts.{PartFacts}
+use Rattle.aps_model.specs.declared.shape.Bankruptcy.TheVariants.{Basic}
+use Rattle.aps_model.specs.declared.shape.Shape.{Shape}
 use Rattle.aps_model.specs.After.{After, after, at_start, end_of, left_by, or_limit, over, over_by, stands_at}
 use Rattle.aps_model.specs.declared.entry.Order.TheVariants.{Fixed, Free}
 use Rattle.aps_model.specs.Due.{HasTurn, due, first_due, last_to}
@@ -27,7 +29,9 @@ use Rattle.aps_core.specs.Core.{IsCore, IsSetup, IsUnderWay}
 use Rattle.aps_core.specs.Plain.{IsKept}
 use Rattle.aps_core.specs.Run.{Run, Setup, end_of_run, history_of, rooms_of, state_of, with_last}
 use Rattle.aps_core.specs.Turn.{HasTurnIn, with_entry}
-use Rattle.aps_core.proofs.Turns.{AreStampsSmall, IsDueNow, due_now, stamps_small}
+use Rattle.aps_core.specs.Ready.{IsReady}
+use Rattle.aps_core.proofs.Ready.{ready}
+use Rattle.aps_core.proofs.Turns.{IsDueNow, due_now}
 
 -- ---- the end
 
@@ -77,6 +81,7 @@ begun_core setup kept state parts s kept_is state_is one_each =
         no_sooner = λ before later e same. absurd (nothing_before before later e same);
         fits = omega arith;
         calm = ap (λ (a : After). a.reboot) start;
+        shape = ap (λ (a : After). a.state.shape) start;
       };
       recorded =
           kept_is
@@ -97,6 +102,18 @@ pub due_in : (run : Run) (kept : History) (state : SchedulerState) (parts : List
 due_in run kept state parts c core goes_on turn =
     subst (λ s. IsDueNow run.setup.scenario run.setup.order s run.entries c) (sym core.machine)
     (due_now run.setup.scenario run.setup.order run.entries c core.keeps.setup.valid core.keeps.legal (not_over run goes_on) turn)
+
+-- and of that the step rests on
+pub ready_in : (run : Run) (kept : History) (state : SchedulerState) (parts : List PartFacts) (c : ℕ) → IsCore run kept state parts → end_of_run run ≡ None → HasTurnIn run c
+    → IsReady run.setup.scenario state run.entries c
+ready_in run kept state parts c core goes_on turn =
+    subst (λ s. IsReady run.setup.scenario s run.entries c) (sym core.machine)
+    (ready run.setup.scenario run.setup.order run.entries c core.keeps.setup.valid core.keeps.legal (omega (arith, core.keeps.fits, core.keeps.setup.few)) (not_over run goes_on) turn)
+
+-- nothing follows a bankruptcy, as at the start
+pub basic_in : (run : Run) (kept : History) (state : SchedulerState) (parts : List PartFacts) → IsCore run kept state parts → state.shape.bankruptcy ≡ Basic
+basic_in run kept state parts core =
+    ap (λ (t : SchedulerState). t.shape.bankruptcy) core.machine ∙ ap (λ (shape : Shape). shape.bankruptcy) core.keeps.shape ∙ core.keeps.setup.plain.basic
 
 -- ---- one entry more
 
@@ -174,6 +191,7 @@ core_more run kept state parts c e kept' state' parts' core goes_on turn m count
         no_sooner = no_sooner_more run e core.keeps.no_sooner goes_on;
         fits = omega (arith, length_more run.entries e, below_limit run core.keeps goes_on);
         calm = ap (λ (a : After). a.reboot) left;
+        shape = ap (λ (a : After). a.state.shape) left ∙ m.same.shape ∙ ap (λ (t : SchedulerState). t.shape) core.machine ∙ core.keeps.shape;
       };
       recorded = m.added
           ∙ ap (λ (k : History). with_last k run.setup.limit state' e) core.recorded
@@ -217,16 +235,6 @@ pub entry_fits : (run : Run) (kept : History) (state : SchedulerState) (parts : 
     → step run.setup.scenario state run.entries c ≡ record { entry = e; state = state'; reboot = None } → IsEntry e
 entry_fits run kept state parts c e state' core goes_on turn steps =
     subst (λ (out : Step). IsEntry out.entry) steps (due_in run kept state parts c core goes_on turn).fits
-
--- the stamps and the times that the machine adds to
-pub stamps_in : (run : Run) (kept : History) (state : SchedulerState) (parts : List PartFacts) → IsCore run kept state parts → AreStampsSmall state
-stamps_in run kept state parts core =
-    subst AreStampsSmall (sym core.machine)
-    (stamps_small run.setup.scenario run.setup.order run.entries core.keeps.setup.valid core.keeps.legal (omega (arith, core.keeps.fits, core.keeps.setup.few)))
-
-pub threads_in : (run : Run) (kept : History) (state : SchedulerState) (parts : List PartFacts) → IsCore run kept state parts → length run.setup.scenario.threads ≡ length state.threads
-threads_in run kept state parts core =
-    sym (ap (λ (t : SchedulerState). length t.threads) core.machine ∙ (counts_law run.setup.scenario run.setup.order run.entries core.keeps.setup.valid core.keeps.legal).threads)
 
 pub same_number : (a b : ℕ) → nat_eq a b ≡ true → a ≡ b
 same_number a b e = grind (arith, nat_tests)

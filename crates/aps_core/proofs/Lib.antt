@@ -1,9 +1,14 @@
 pub mod Ranges
 pub mod Scan
-pub mod PlainStep
 pub mod PickStep
+pub mod Numbers
+pub mod Frame
+pub mod StepParts
 pub mod Boot
+pub mod Waking
 pub mod Turns
+pub mod Waiters
+pub mod Ready
 pub mod Kept
 pub mod Finish
 pub mod Recent

@@ -1,8 +1,9 @@
 -- Entries end in order.
-use Rattle.std.proofs.Common.{◌≡◌, ℕ, suc, ◌+◌, ◌<◌, ◌≤◌, List, [], ◌∷◌, ◌++◌, length, take, drop, get_or, sym, ◌∙◌, ap, subst, All, add-one, drop-cons, arith}
-use Rattle.std.specs.List.{AllByRecursion}
+use Rattle.std.proofs.Common.{◌≡◌, ℕ, suc, ◌+◌, ◌<◌, ◌≤◌, List, [], ◌∷◌, ◌++◌, length, take, drop, get_or, sym, ◌∙◌, ap, subst, All, add-one, drop-cons, false, nat_eq, arith}
+use Rattle.std.specs.List.{AllByRecursion, list_any}
 use Rattle.std.proofs.Math.Seq.{take-suc}
 use Rattle.std.proofs.lemmas.List.{take-append-drop}
+use Rattle.std.proofs.lemmas.List.Folds.{list_any_none}
 use Rattle.std.proofs.lemmas.List.Elements.{All-append, All-from_recursion}
 use Rattle.aps_model.specs.declared.entry.Entry.{Entry}
 use Rattle.aps_model.specs.declared.entry.Order.{Order}
@@ -12,6 +13,7 @@ use Rattle.aps_model.specs.Valid.{IsScenario}
 use Rattle.aps_laws.specs.Moments.{moment}
 use Rattle.aps_laws.proofs.BoundaryLaws.{latest}
 use Rattle.aps_laws.proofs.Sound.{next_law}
+use Rattle.aps_laws.proofs.WaitFacts.{test_ne}
 use Rattle.aps_laws.proofs.Words.{prefix_legal, up_to}
 use Rattle.aps_core.specs.Rising.{IsRising}
 
@@ -43,3 +45,9 @@ rising_law scenario order valid h legal = λ before later e same.
     let front = up_to scenario order h before later e same legal in
     let first = prefix_legal scenario order before (e ∷ []) front in
     later_past (moment before) e.to before (next_law scenario order before e valid front).rises (latest scenario order before valid first)
+
+-- where an entry ended before a moment, none up to it ended then
+pub not_met : (h : List Entry) (left moment : ℕ) (d : Entry) → IsRising h → left < length h → (get_or h left d).to < moment → list_any (λ (e : Entry). nat_eq e.to moment) (take (left + 1) h) ≡ false
+not_met h left moment d rising lt early =
+    let past = past_before h left (get_or h left d).to d rising lt (omega arith) in
+    list_any_none (λ (e : Entry). nat_eq e.to moment) (take (left + 1) h) (λ k e within. let at = past k e within in test_ne _ moment (λ same. omega (arith, at, same, early)))

@@ -1,16 +1,15 @@
 -- The step of a processor that has the turn.
 use Rattle.std.proofs.Common.{◌≡◌, ℕ, ◌<◌, ◌≤◌, List, [], ◌∷◌, ◌++◌, length, sym, ap, subst, None, All, arith}
 use Rattle.std.proofs.Math.Seq.{get_or-append_seam}
-use Rattle.std.proofs.lemmas.List.{get_or_default, length-append}
+use Rattle.std.proofs.lemmas.List.{length-append}
 use Rattle.aps_model.specs.declared.entry.Entry.{Entry}
 use Rattle.aps_model.specs.declared.entry.Order.{Order}
-use Rattle.aps_model.specs.declared.state.ThreadNow.{ThreadNow}
 use Rattle.aps_model.specs.After.{after, over, state_after}
 use Rattle.aps_model.specs.Due.{HasTurn, due, last_end}
 use Rattle.aps_model.specs.History.{IsEntry}
 use Rattle.aps_model.specs.Legal.{IsLegal}
 use Rattle.aps_model.specs.Scenario.{Scenario}
-use Rattle.aps_model.specs.SchedulerState.{SchedulerState, no_thread}
+use Rattle.aps_model.specs.SchedulerState.{SchedulerState}
 use Rattle.aps_model.specs.Shape.{horizon}
 use Rattle.aps_model.specs.Step.{step}
 use Rattle.aps_model.specs.Valid.{IsScenario}
@@ -20,8 +19,6 @@ use Rattle.aps_laws.proofs.Counts.{counts_law}
 use Rattle.aps_laws.proofs.Prefixes.{legal_more}
 use Rattle.aps_laws.proofs.SmallNumbers.{moments_small}
 use Rattle.aps_laws.proofs.Sound.{next_law, sound, sound_step_of}
-use Rattle.aps_laws.proofs.StampCounts.{few_stamps}
-use Rattle.aps_laws.proofs.ThreadFit.{fits_law}
 
 -- ---- what is small in each legal history
 
@@ -31,22 +28,6 @@ cpus_exist scenario order h valid legal =
     let sizes = (counts_law scenario order h valid legal).sizes in
     let small = moments_small scenario order h valid legal in
     λ k d lt. let cpu = (small.entries k d lt).cpu in omega (arith, cpu, sizes.cpus)
-
--- stamps and the times since them fit
-pub record AreStampsSmall (s : SchedulerState) : Type 0 where
-  pub stamps : s.stamps ≤ 5000000000
-  pub since : All (λ (t : ThreadNow). t.since ≤ 10000000000000) s.threads
-
-pub stamps_small : (scenario : Scenario) (order : Order) (h : List Entry) → IsScenario scenario → IsLegal scenario order h → length h ≤ 4000000 → AreStampsSmall (state_after scenario h)
-stamps_small scenario order h valid legal few =
-    let s = state_after scenario h in
-    record {
-      stamps = omega (arith, (few_stamps scenario order h valid legal).small, few);
-      since = λ k d lt.
-          let timed = (fits_law scenario order h valid legal k lt).1 in
-          let same = ap (λ (t : ThreadNow). t.since) (get_or_default s.threads k d no_thread lt) in
-          omega (arith, timed.since, same, (moments_small scenario order h valid legal).last);
-    }
 
 -- ---- the step of who has the turn
 

@@ -23,6 +23,7 @@ pub record IsUnderWay (run : Run) : Type 0 where
   pub no_sooner : EndsNoSooner run.setup.scenario run.setup.limit run.entries
   pub fits : length run.entries ≤ run.setup.limit
   pub calm : (after run.setup.scenario run.entries).reboot ≡ None
+  pub shape : (after run.setup.scenario run.entries).state.shape ≡ run.setup.scenario.shape
 
 -- what each core keeps, of its run and of the parts that stand for it
 pub record IsCore (run : Run) (kept : History) (state : SchedulerState) (parts : List PartFacts) : Type 0 where

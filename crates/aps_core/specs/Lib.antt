@@ -1,6 +1,10 @@
 pub mod Plain
+pub mod Short
+pub mod Room
+pub mod Ready
 pub mod Small
 pub mod Scan
+pub mod Machine
 pub mod MachineView
 pub mod Run
 pub mod Turn

@@ -1,8 +1,11 @@
-ghost use Rattle.std.specs.Prelude.{◌≡◌, ◌+◌, ◌<◌, ◌≤◌, All, IfSome};
+ghost use Rattle.std.specs.Prelude.{◌≡◌, ◌+◌, ◌<◌, ◌≤◌, All, IfSome, nat_eq};
+ghost use Rattle.std.specs.List.{list_any};
+ghost use Rattle.aps_model.specs.declared.entry.Entry.{Entry as EntryOf};
 ghost use Rattle.aps_model.specs.After.{stands_at};
 ghost use Rattle.aps_model.specs.Due.{last_to, last_end, next_boundary, due_at};
 ghost use Rattle.aps_model.specs.History.{IsEntry};
 ghost use Rattle.aps_model.specs.Shape.{IsShape, horizon};
+ghost use Rattle.aps_core.specs.Rising.{IsRising};
 
 use aps_model::{CpuId, Entry, Nanos, Shape};
 
@@ -72,4 +75,19 @@ pub fn due_at(shape: &Shape, flag: Option<Nanos>, last: Option<Nanos>, left: Opt
         None => boundary,
         Some(left) => boundary.min(last.saturating_add(left)),
     }
+}
+
+/// Whether an entry ended at this moment. It is found from the end of the history, where it stands.
+pub fn is_met(entries: &[Entry], moment: Nanos) -> bool
+    requires { IsRising entries.now }
+    ensures { result ≡ list_any (λ (e : EntryOf). nat_eq e.to moment) entries.now }
+{
+    let mut left = entries.len();
+    while left > 0 && entries[left - 1].to >= moment {
+        left -= 1;
+        if entries[left].to == moment {
+            return true;
+        }
+    }
+    false
 }

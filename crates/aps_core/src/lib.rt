@@ -5,6 +5,7 @@
 mod due;
 mod machine;
 mod merit;
+mod room;
 mod simulator;
 #[cfg(test)]
 mod tests;

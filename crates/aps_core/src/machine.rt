@@ -1,20 +1,32 @@
-ghost use Rattle.std.specs.Prelude.{◌≡◌, ◌-◌, ◌<◌, ◌≤◌, ◌/◌, ◌^◌, length, All, None};
+ghost use Rattle.std.specs.Prelude.{◌≡◌, ◌-◌, ◌<◌, ◌≤◌, ◌/◌, [], length, All, None};
 ghost use Rattle.std.specs.Option.{option_map};
 ghost use Rattle.aps_model.specs.History.{IsEntry};
 ghost use Rattle.aps_model.specs.Shape.{horizon};
 ghost use Rattle.aps_core.specs.Rising.{IsRising};
 
 mod bill;
+mod channel;
+mod effect;
 mod flag;
+mod inherit;
+mod messages;
+mod operation;
 mod pick;
+mod settle;
 mod start;
+mod threads;
+mod triple;
+pub mod wake;
 
 use crate::{due, merit, usage};
 use aps_model::{
     Contender, CpuId, CpuNow, Entry, Nanos, PartFacts, PartitionRow, Scenario, Shape, ThreadId,
     ThreadNow,
 };
+use channel::Channel;
 use std::marker::Model;
+use triple::Triples;
+use wake::Sleepers;
 
 /// Everything that stands between two steps, beside the history. Contracts see it as the scheduler state of the
 /// definitions, and each method is the part of the definitions' step that its clause names.
@@ -24,13 +36,14 @@ pub struct Machine {
     shape: Shape,
     threads: Vec<ThreadNow>,
     stamps: u64,
-    channels: u16,
+    channels: Vec<Channel>,
+    triples: Triples,
     cpus: Vec<CpuNow>,
 }
 
 impl Model for Machine {
     ghost use Rattle.aps_model.specs.SchedulerState.{SchedulerState};
-    ghost use Rattle.aps_core.specs.Plain.{IsPlain};
+    ghost use Rattle.aps_core.specs.Machine.{IsMachine};
 
     ghost Value = { SchedulerState };
 
@@ -38,7 +51,7 @@ impl Model for Machine {
 
     ghost view = { state_of };
 
-    ghost invariant = { λ m. IsPlain (state_of m) };
+    ghost invariant = { λ m. IsMachine (state_of m) };
 }
 
 impl Machine {
@@ -53,7 +66,7 @@ impl Machine {
         let now = &self.cpus[cpu.index()];
         let left = match &now.running {
             None => None,
-            Some(pick) => self.threads[pick.thread.index()].left,
+            Some(pick) => self.thread(pick.thread).left,
         };
         due::due_at(&self.shape, now.flag, due::last_to(entries, cpu), left)
     }
@@ -92,8 +105,9 @@ impl Machine {
     }
 
     ghost use Rattle.aps_model.specs.Step.{pick, step};
-    ghost use Rattle.aps_model.specs.Due.{last_end};
-    ghost use Rattle.aps_core.specs.Plain.{IsKept, IsPlainScenario};
+    ghost use Rattle.aps_model.specs.declared.shape.Bankruptcy.TheVariants.{Basic};
+    ghost use Rattle.aps_core.specs.Plain.{IsKept};
+    ghost use Rattle.aps_core.specs.Ready.{IsReady};
 
     /// The pick of the processor after this entry, which has its operation, and then the flag. The answer is the
     /// entry with both.
@@ -144,27 +158,23 @@ impl Machine {
         self.shape.horizon()
     }
 
-    /// One step of the processor, at its due moment, by its parts. The answer is its entry. Nobody is critical, so no
-    /// bill makes a partition bankrupt, and no step ends the run by a reboot.
+    /// One step of the processor, at its due moment, by its parts. The answer is its entry. The policy of bankruptcy is
+    /// that nothing follows, so no step ends the run by a reboot.
     pub fn step(
         &mut self,
         scenario: &Scenario,
         entries: &[Entry],
         parts: &mut [PartFacts],
+        sleepers: &mut Sleepers,
         cpu: CpuId,
     ) -> Entry
-        requires plain { IsPlainScenario scenario.now }
+        requires commands { scenario.now.commands ≡ [] }
+        requires basic { self.old.shape.bankruptcy ≡ Basic }
+        requires ready { IsReady scenario.now self.old entries.now cpu }
         requires one_each { length parts.old ≡ length self.old.rows }
-        requires cpu { cpu < length self.old.cpus }
-        requires threads { length scenario.now.threads ≡ length self.old.threads }
         requires entries { All IsEntry entries.now }
         requires rising { IsRising entries.now }
         requires few { length entries.now ≤ 4000000 }
-        requires stamps { self.old.stamps < 2 ^ 62 }
-        requires since { All (λ t. t.since ≤ 2 ^ 62) self.old.threads }
-        requires forward { last_end entries.now cpu ≤ due self.old entries.now cpu }
-        requires short { due self.old entries.now cpu - last_end entries.now cpu ≤ 10000000 }
-        requires within { due self.old entries.now cpu ≤ horizon self.old.shape }
         ensures same { step scenario.now self.old entries.now cpu ≡ record { entry = result; state = self.new; reboot = None } }
         ensures parts { length parts.new ≡ length parts.old }
         ensures kept { IsKept self.old self.new }
@@ -172,12 +182,13 @@ impl Machine {
         let now = self.due(entries, cpu);
         let from = due::last_end(entries, cpu);
         let running = self.begin(cpu);
+        self.work_tick(scenario, entries, sleepers, now);
         let e = bill::bill_of(cpu, from, now, &running);
         self.bill(&e, &running);
         if now == self.horizon() {
             return e;
         }
-        let done = self.settle(scenario, &running);
+        let done = self.settle(scenario, now, &running);
         self.pick(entries, parts, cpu, Entry { done, ..e })
     }
 }

@@ -1,4 +1,4 @@
-ghost use Rattle.std.specs.Prelude.{◌≡◌, ℕ, ◌<◌, ◌≤◌, length, All, IfSome, nat_eq, ◌&&◌, ◌||◌, if◌then◌else◌, Some, None, false};
+ghost use Rattle.std.specs.Prelude.{◌≡◌, ℕ, ◌<◌, ◌≤◌, length, All, IfSome, nat_eq, ◌&&◌, ◌||◌, if◌then◌else◌, Some, None};
 ghost use Rattle.std.specs.Option.{option_or};
 ghost use Rattle.aps_model.specs.Budget.{part_at};
 ghost use Rattle.aps_model.specs.Flag.{lower_ranked};
@@ -10,30 +10,44 @@ ghost use Rattle.aps_core.specs.Small.{IsSmall};
 use aps_merit::{is_candidate, is_critical_pick, is_greater, merit_of};
 use aps_model::{Contender, CpuId, Free, Merit, PartFacts, PartitionId};
 
+/// How a partition stands.
+pub fn part_at(parts: &[PartFacts], p: PartitionId) -> PartFacts
+    ensures same { result ≡ part_at parts.now p }
+    ensures small { All IsSmall parts.now → IsSmall result }
+{
+    match parts.get(p.index()) {
+        Some(part) => *part,
+        None => PartFacts {
+            funded: false,
+            standing: false,
+            shut: true,
+            used: 0,
+            budget: 0,
+        },
+    }
+}
+
 /// The merit of a ready thread.
 pub fn merit_among(parts: &[PartFacts], c: &Contender) -> Merit
-    requires c { c.now.facts.partition < length parts.now }
     requires small { All IsSmall parts.now }
     ensures same { result ≡ merit_among parts.now c.now }
     ensures used { result.used ≤ 100000000000000 }
     ensures budget { result.budget ≤ 1000 }
 {
     let facts = c.facts;
-    merit_of(facts, c.stamp, &parts[facts.partition.index()])
+    merit_of(facts, c.stamp, &part_at(parts, facts.partition))
 }
 
 /// Whether a ready thread is a candidate.
 pub fn is_candidate_among(parts: &[PartFacts], c: &Contender) -> bool
-    requires { c.now.facts.partition < length parts.now }
     ensures { result ≡ is_candidate c.now.facts (part_at parts.now c.now.facts.partition) }
 {
     let facts = c.facts;
-    is_candidate(facts, &parts[facts.partition.index()])
+    is_candidate(facts, &part_at(parts, facts.partition))
 }
 
 /// Whether a ready thread is a candidate of the partition.
 pub fn is_candidate_of(parts: &[PartFacts], c: &Contender, p: PartitionId) -> bool
-    requires { c.now.facts.partition < length parts.now }
     ensures { result ≡ (is_candidate c.now.facts (part_at parts.now c.now.facts.partition) && nat_eq c.now.facts.partition p) }
 {
     is_candidate_among(parts, c) && c.facts.partition == p
@@ -41,12 +55,10 @@ pub fn is_candidate_of(parts: &[PartFacts], c: &Contender, p: PartitionId) -> bo
 
 /// Whether the pick of a ready thread is critical.
 pub fn is_critical_among(parts: &[PartFacts], c: &Contender) -> bool
-    requires { c.now.facts.partition < length parts.now }
-    ensures same { result ≡ is_critical_pick c.now.facts (part_at parts.now c.now.facts.partition) }
-    ensures uncritical { c.now.facts.critical ≡ false → result ≡ false }
+    ensures { result ≡ is_critical_pick c.now.facts (part_at parts.now c.now.facts.partition) }
 {
     let facts = c.facts;
-    is_critical_pick(facts, &parts[facts.partition.index()])
+    is_critical_pick(facts, &part_at(parts, facts.partition))
 }
 
 /// The greater of the best candidate so far and one more ready thread, if that is a candidate.
@@ -56,13 +68,8 @@ pub fn better(
     best: Option<Contender>,
     c: Contender,
 ) -> Option<Contender>
-    requires c { c.facts.partition < length parts.now }
-    requires best { IfSome best (λ b. b.facts.partition < length parts.now) }
-    requires small { All IsSmall parts.now }
-    ensures same { result ≡ better_candidate free parts.now best c }
-    ensures within { IfSome result (λ b. b.facts.partition < length parts.now) }
-    ensures below { (n : ℕ) → c.thread < n → IfSome best (λ b. b.thread < n) → IfSome result (λ b. b.thread < n) }
-    ensures uncritical { c.facts.critical ≡ false → IfSome best (λ b. b.facts.critical ≡ false) → IfSome result (λ b. b.facts.critical ≡ false) }
+    requires { All IsSmall parts.now }
+    ensures { result ≡ better_candidate free parts.now best c }
 {
     if !is_candidate_among(parts, &c) {
         return best;

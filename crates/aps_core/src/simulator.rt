@@ -15,6 +15,7 @@ ghost use Rattle.aps_core.specs.Run.{IsLater, end_of_run, finished_run, history_
 ghost use Rattle.aps_core.specs.Turn.{HasTurnIn, IsOwn, IsTaken, IsTurn, after_turn, with_entry};
 
 use crate::machine::Machine;
+use crate::machine::wake::Sleepers;
 use crate::turn::Turn;
 use aps_model::{CpuId, End, Entry, History, Nanos, NoMemory, Order, PartFacts, Scenario};
 use std::alloc::Global;
@@ -29,6 +30,7 @@ pub struct Core {
     limit: u32,
     machine: Machine,
     parts: Vec<PartFacts>,
+    sleepers: Sleepers,
 }
 
 impl Model for Core {
@@ -60,6 +62,7 @@ impl Core {
     {
         let machine = Machine::boot(alloc, &scenario)?;
         let parts = start_parts(alloc, scenario.partitions().len())?;
+        let sleepers = Sleepers::new(alloc)?;
         let replies = scenario.commands().len() as u16;
         let changes = most_changes(&scenario);
         let history = History::begin(alloc, scenario, limit, replies, changes)?;
@@ -69,6 +72,7 @@ impl Core {
             limit,
             machine,
             parts,
+            sleepers,
         })
     }
 
@@ -192,6 +196,7 @@ impl Core {
             self.history.scenario(),
             self.history.entries(),
             self.parts.as_mut_slice(),
+            &mut self.sleepers,
             cpu,
         );
         // the check wants a copy of its own of what is handed on and answered too

@@ -18,9 +18,9 @@ use Rattle.aps_scenario.proofs.Values.{bind-ok, ok-same, unless-ok, named-ok}
 use Rattle.aps_scenario.proofs.Elements.{read_each-keeps, tables-ok}
 
 -- what is known of a channel that was read, over these channels
-record IsNew (channels : List (List ℕ)) (name : List ℕ) : Type 0 where
-  pub name : IsName name
-  pub other : is_among channels name ≡ false
+record IsNew (channels : List (List ℕ)) (new : List ℕ) : Type 0 where
+  pub name : IsName new
+  pub other : is_among channels new ≡ false
 
 next_channel-ok : (channels : List (List ℕ)) (d : Data) (new : List ℕ) → next_channel channels d ≡ Ok new → IsNew channels new
 unfolding channel_at

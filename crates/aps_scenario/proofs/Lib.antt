@@ -23,3 +23,9 @@ pub mod Subtrees
 pub mod Shapes
 pub mod Trees
 pub mod ChannelNames
+pub mod Programs
+pub mod ThreadRows
+pub mod CallRanges
+pub mod CommandRows
+pub mod Validity
+pub mod Documents

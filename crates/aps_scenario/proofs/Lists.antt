@@ -44,14 +44,14 @@ places_less h g q b (suc n) within same less =
     let next : sum_by h (range_with_len 0 (n + 1)) + b ≡ sum_by g (range_with_len 0 (n + 1)) =
     elim (cases_order q n) [
       | inl here ↦
-        let before : sum_by h (range_with_len 0 n) ≡ sum_by g (range_with_len 0 n) = places_same h g n (λ p below. same p (omega arith) (λ e. omega arith)) in
-        let at_end : h n + b ≡ g n = rw (← here) less in
-        omega arith
+          let before : sum_by h (range_with_len 0 n) ≡ sum_by g (range_with_len 0 n) = places_same h g n (λ p below. same p (omega arith) (λ e. omega arith)) in
+          let at_end : h n + b ≡ g n = rw (← here) less in
+          omega arith
       | inr (inl earlier) ↦
-        let before : sum_by h (range_with_len 0 n) + b ≡ sum_by g (range_with_len 0 n) =
-        places_less h g q b n earlier (λ p below other. same p (omega arith) other) less in
-        let at_end : h n ≡ g n = same n (omega arith) (λ e. omega arith) in
-        omega arith
+          let before : sum_by h (range_with_len 0 n) + b ≡ sum_by g (range_with_len 0 n) =
+          places_less h g q b n earlier (λ p below other. same p (omega arith) other) less in
+          let at_end : h n ≡ g n = same n (omega arith) (λ e. omega arith) in
+          omega arith
       | inr (inr later) ↦ absurd (omega arith)
     ] in
     subst (λ m. sum_by h (range_with_len 0 m) + b ≡ sum_by g (range_with_len 0 m)) (add-one n) next

@@ -13,7 +13,7 @@ use Rattle.aps_model.specs.Program.{IsOp}
 use Rattle.aps_scenario.specs.declared.operation.OperationFault.{OperationFault}
 use Rattle.aps_scenario.specs.declared.operation.OperationFault.TheVariants.{Unknown, Bad}
 use Rattle.aps_scenario.specs.Channels.{is_among}
-use Rattle.aps_scenario.specs.Operation.{after_word, behind, either_way, number_after, number, or_bad, run, run_or_forever, sleep, priority, channel_named, or_unknown, channel, with_channel, join, constant, operation_of}
+use Rattle.aps_scenario.specs.Operation.{after_word, behind, either_way, number_after, number, or_bad, run, run_or_forever, sleep, priority, channel_named, or_unknown, channel, with_channel, send, receive, join, constant, named_or_constant, operation_of}
 use Rattle.aps_scenario.specs.Row.{is_name}
 use Rattle.aps_scenario.proofs.Values.{cond-ok}
 
@@ -51,8 +51,8 @@ number_after-ok most value [] n so_far e = let same : value ≡ n = cc in rw (�
 number_after-ok most value (c ∷ cs) n so_far e =
     elim (cases_Bool (is_ascii_digit c && nat_le (value * 10 + (c - 48)) most)) [
       | inl fits ↦
-        let more : IsUpTo most (value * 10 + (c - 48)) = record { some = omega (arith, so_far.some); few = grind (arith, nat_tests, fits) } in
-        number_after-ok most (value * 10 + (c - 48)) cs n more (rw fits at e)
+          let more : IsUpTo most (value * 10 + (c - 48)) = record { some = omega (arith, so_far.some); few = grind (arith, nat_tests, fits) } in
+          number_after-ok most (value * 10 + (c - 48)) cs n more (rw fits at e)
       | inr other ↦ let none : None ≡ Some n = rw other at e in absurd (cc)
     ]
 
@@ -61,8 +61,8 @@ number-ok most [] n e = absurd (cc)
 number-ok most (c ∷ cs) n e =
     elim (cases_Bool ((is_ascii_digit c && not (c == 48)) && nat_le (c - 48) most)) [
       | inl fits ↦
-        let first : IsUpTo most (c - 48) = record { some = grind (arith, nat_tests, fits); few = grind (arith, nat_tests, fits) } in
-        number_after-ok most (c - 48) cs n first (rw fits at e)
+          let first : IsUpTo most (c - 48) = record { some = grind (arith, nat_tests, fits); few = grind (arith, nat_tests, fits) } in
+          number_after-ok most (c - 48) cs n first (rw fits at e)
       | inr other ↦ let none : None ≡ Some n = rw other at e in absurd (cc)
     ]
 
@@ -113,8 +113,8 @@ module _ (channels joinable : List (List ℕ)) (op : Op) where
   join-ok name e =
       elim (cases_Bool (is_name name)) [
         | inl named ↦
-          let q = cond-ok (is_among joinable name) (Join name) op Unknown (rw named at e) in
-          subst (IsOp (length channels) joinable) q.1 q.0
+            let q = cond-ok (is_among joinable name) (Join name) op Unknown (rw named at e) in
+            subst (IsOp (length channels) joinable) q.1 q.0
         | inr other ↦ let none : Err Bad ≡ Ok op = rw other at e in absurd (cc)
       ]
 
@@ -128,11 +128,28 @@ module _ (channels joinable : List (List ℕ)) (op : Op) where
       one_of-ok _ Yield _ tt (one_of-ok _ Reply _ tt (one_of-ok _ CriticalOn _ tt (one_of-ok _ CriticalOff _ tt
       (one_of-ok _ Repeat _ tt (one_of-ok _ Exit _ tt (λ (none : Err Bad ≡ Ok op). absurd (cc)))))))
 
+  abbrev joins : List ℕ → Result Op OperationFault
+  joins = behind (codes "join ") (join joinable) constant
+
+  abbrev receives : List ℕ → Result Op OperationFault
+  receives = behind (codes "receive ") (receive channels) joins
+
+  named_or_constant-ok : (text : List ℕ) → named_or_constant channels joinable text ≡ Ok op → IsRead
+  named_or_constant-ok text =
+      behind-keeps IsRead op (codes "send ") (send channels) receives text
+      (λ name. with_channel-ok Send (channel channels name) (channel-ok name) (λ c within. within))
+      (behind-keeps IsRead op (codes "receive ") (receive channels) joins text
+      (λ name. with_channel-ok Receive (channel channels name) (channel-ok name) (λ c within. within))
+      (behind-keeps IsRead op (codes "join ") (join joinable) constant text join-ok (constant-ok text)))
+
+  abbrev priorities : List ℕ → Result Op OperationFault
+  priorities = behind (codes "priority ") priority (named_or_constant channels joinable)
+
+  abbrev sleeps : List ℕ → Result Op OperationFault
+  sleeps = behind (codes "sleep ") sleep priorities
+
   pub operation_of-ok : (text : List ℕ) → operation_of channels joinable text ≡ Ok op → IsRead
   operation_of-ok text =
-      behind-keeps IsRead op _ _ _ text run-ok
-      (behind-keeps IsRead op _ _ _ text sleep-ok
-      (behind-keeps IsRead op _ _ _ text priority-ok
-      (behind-keeps IsRead op _ _ _ text (λ name. with_channel-ok Send (channel channels name) (channel-ok name) (λ c within. within))
-      (behind-keeps IsRead op _ _ _ text (λ name. with_channel-ok Receive (channel channels name) (channel-ok name) (λ c within. within))
-      (behind-keeps IsRead op _ _ _ text join-ok (constant-ok text))))))
+      behind-keeps IsRead op (codes "run ") run sleeps text run-ok
+      (behind-keeps IsRead op (codes "sleep ") sleep priorities text sleep-ok
+      (behind-keeps IsRead op (codes "priority ") priority (named_or_constant channels joinable) text priority-ok (named_or_constant-ok text)))

@@ -157,24 +157,24 @@ module _ (parts n : ℕ) (rows : List PartitionRow) (new : PartitionRow) (read :
   earlier_after : AreEarlier after
   earlier_after = at_each (λ p. (row_or_none after p).parent ≤ p - 1)
       (λ p within.
-        let before : (row_or_none rows p).parent ≤ p - 1 = read.earlier p within in
-        let same : (row_or_none after p).parent ≡ (row_or_none rows p).parent = keeps (λ (row : PartitionRow). row.parent) refl p within in
-        omega arith)
+      let before : (row_or_none rows p).parent ≤ p - 1 = read.earlier p within in
+      let same : (row_or_none after p).parent ≡ (row_or_none rows p).parent = keeps (λ (row : PartitionRow). row.parent) refl p within in
+      omega arith)
       (let same : (row_or_none after (length rows)).parent ≡ new.parent = ap (λ (row : PartitionRow). row.parent) (new_row rows new read.earlier is_new.parent is_new.funded) in
-        let parent : new.parent < length rows = is_new.parent in
-        omega arith)
+      let parent : new.parent < length rows = is_new.parent in
+      omega arith)
 
   subtrees_after : (i : ℕ) → i < length after → subtree_budget after i ≤ (row_or_none after i).max
   subtrees_after = at_each (λ i. subtree_budget after i ≤ (row_or_none after i).max)
       (λ i within.
-        let before : subtree_budget rows i ≤ (row_or_none rows i).max = read.subtrees i within in
-        let same : subtree_budget after i ≡ subtree_budget rows i = subtree_kept rows new read.earlier is_new.parent is_new.funded i within in
-        let max : (row_or_none after i).max ≡ (row_or_none rows i).max = keeps (λ (row : PartitionRow). row.max) refl i within in
-        omega arith)
+      let before : subtree_budget rows i ≤ (row_or_none rows i).max = read.subtrees i within in
+      let same : subtree_budget after i ≡ subtree_budget rows i = subtree_kept rows new read.earlier is_new.parent is_new.funded i within in
+      let max : (row_or_none after i).max ≡ (row_or_none rows i).max = keeps (λ (row : PartitionRow). row.max) refl i within in
+      omega arith)
       (let same : subtree_budget after (length rows) ≡ new.budget = subtree_new rows new read.earlier is_new.parent is_new.funded in
-        let max : (row_or_none after (length rows)).max ≡ new.max = ap (λ (row : PartitionRow). row.max) (new_row rows new read.earlier is_new.parent is_new.funded) in
-        let within_max : new.budget ≤ new.max = is_new.within_max in
-        omega arith)
+      let max : (row_or_none after (length rows)).max ≡ new.max = ap (λ (row : PartitionRow). row.max) (new_row rows new read.earlier is_new.parent is_new.funded) in
+      let within_max : new.budget ≤ new.max = is_new.within_max in
+      omega arith)
 
   budgets_after : sum_by budget_of after ≡ parts
   budgets_after =

@@ -9,7 +9,9 @@ use crate::key::Key;
 use crate::kind::Kind;
 use crate::partitions::{MOST_CRITICAL, system_name};
 use crate::refusal::{Finding, Part, Place};
-use crate::row::{integer_at, name, name_at, optional_integer_at, optional_truth_at, unless, value_at};
+use crate::row::{
+    integer_at, name, name_at, optional_integer_at, optional_truth_at, unless, value_at,
+};
 use crate::words::{CommandKind, optional_bankruptcy_at, optional_free_at};
 use aps_model::{Call, Name, ThreadId, ThreadRow};
 use toml::{Table, Value};

@@ -29,6 +29,7 @@ const CREATE_KEYS: [Key; 7] = [
     Key::Critical,
     Key::Max,
 ];
+
 const MODIFY_KEYS: [Key; 6] = [
     Key::Tick,
     Key::Do,
@@ -37,6 +38,7 @@ const MODIFY_KEYS: [Key; 6] = [
     Key::Critical,
     Key::Max,
 ];
+
 const SET_PARAMETERS_KEYS: [Key; 6] = [
     Key::Tick,
     Key::Do,
@@ -45,16 +47,15 @@ const SET_PARAMETERS_KEYS: [Key; 6] = [
     Key::Limit,
     Key::Bankruptcy,
 ];
+
 const PARTITION_KEYS: [Key; 3] = [Key::Tick, Key::Do, Key::Partition];
+
 const THREAD_KEYS: [Key; 3] = [Key::Tick, Key::Do, Key::Thread];
+
 const OTHER_KEYS: [Key; 2] = [Key::Tick, Key::Do];
 
 // Whether a command of this kind has no keys but its own.
-fn only_own_keys(
-    kind: Option<CommandKind>,
-    place: Place,
-    table: &Table,
-) -> Result<(), Finding>
+fn only_own_keys(kind: Option<CommandKind>, place: Place, table: &Table) -> Result<(), Finding>
     ensures { result ≡ only_spec (command_keys kind) place (table_view table.now) }
 {
     match kind {
@@ -64,9 +65,8 @@ fn only_own_keys(
         Some(CommandKind::Lookup | CommandKind::QueryPartition | CommandKind::Statistics) => {
             only(&PARTITION_KEYS, place, table)
         }
-        Some(
-            CommandKind::QueryThread | CommandKind::MarkCritical | CommandKind::ClearCritical,
-        ) => only(&THREAD_KEYS, place, table),
+        Some(CommandKind::QueryThread | CommandKind::MarkCritical | CommandKind::ClearCritical) =>
+            only(&THREAD_KEYS, place, table),
         Some(CommandKind::QueryParameters) | None => only(&OTHER_KEYS, place, table),
     }
 }

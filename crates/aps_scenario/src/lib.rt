@@ -12,13 +12,17 @@ mod partitions;
 mod path;
 mod printing;
 mod program;
+mod reading;
 mod refusal;
 mod row;
 mod sizes;
+#[cfg(test)]
+mod tests;
 mod threads;
 mod words;
 
 pub use kind::Kind;
 pub use path::PathText;
 pub use printing::print;
+pub use reading::scenario_of;
 pub use refusal::ScenarioRefusal;

@@ -106,7 +106,9 @@ fn priority(text: &[u8]) -> Result<Op, OperationFault>
 fn channel_named(channels: &[Name], name: &Name) -> Option<usize>
     ensures { result ≡ spec.channel_named channels.now name.now }
 {
-    channels.iter().position(|other| other.text() == name.text())
+    channels
+        .iter()
+        .position(|other| other.text() == name.text())
 }
 
 // The channel of this name.
@@ -152,11 +154,7 @@ fn constant(text: &str) -> Result<Op, OperationFault>
 }
 
 #[tactic(auto, using(crate::proofs::Operations::behind_some, crate::proofs::Operations::behind_none))]
-fn named_or_constant(
-    text: &str,
-    channels: &[Name],
-    joinable: &[Name],
-) -> Result<Op, OperationFault>
+fn named_or_constant(text: &str, channels: &[Name], joinable: &[Name]) -> Result<Op, OperationFault>
     requires { length channels.now ≤ 256 }
     ensures { result ≡ spec.named_or_constant channels.now joinable.now text.now }
 {
@@ -175,11 +173,7 @@ fn named_or_constant(
 
 /// The operation that a text is, where these are the channels and the names that may be joined.
 #[tactic(auto, using(crate::proofs::Operations::behind_some, crate::proofs::Operations::behind_none))]
-pub fn operation_of(
-    text: &str,
-    channels: &[Name],
-    joinable: &[Name],
-) -> Result<Op, OperationFault>
+pub fn operation_of(text: &str, channels: &[Name], joinable: &[Name]) -> Result<Op, OperationFault>
     requires { length channels.now ≤ 256 }
     ensures { result ≡ spec.operation_of channels.now joinable.now text.now }
 {

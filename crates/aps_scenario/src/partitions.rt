@@ -15,13 +15,7 @@ use std::alloc::{AllocFailed, Global};
 use toml::value::Array;
 use toml::{Table, Value};
 
-const PARTITION_KEYS: [Key; 5] = [
-    Key::Name,
-    Key::Parent,
-    Key::Budget,
-    Key::Critical,
-    Key::Max,
-];
+const PARTITION_KEYS: [Key; 5] = [Key::Name, Key::Parent, Key::Budget, Key::Critical, Key::Max];
 
 /// The greatest critical budget, in ns.
 pub const MOST_CRITICAL: u64 = 64_000_000_000;
@@ -72,11 +66,7 @@ fn is_partition(rows: &[PartitionRow], name: &Name) -> bool
 
 /// The partition after these rows: its budget is at most what its parent has left.
 #[tactic(auto, unfolding(crate::specs::Partitions::partition_at))]
-fn next_partition(
-    parts: u16,
-    rows: &[PartitionRow],
-    value: &Value,
-) -> Result<PartitionRow, Finding>
+fn next_partition(parts: u16, rows: &[PartitionRow], value: &Value) -> Result<PartitionRow, Finding>
     requires some { 0 < length rows.now }
     requires few { length rows.now ≤ 32 }
     ensures is { result ≡ spec.next_partition parts rows.now (view value.now) }
@@ -156,11 +146,7 @@ fn partitions_of(alloc: Global, parts: u16, array: &Array) -> Result<Vec<Partiti
 
 /// The partitions of the top table, the root first.
 #[tactic(auto, unfolding(crate::specs::Partitions::partitions_at))]
-pub fn partitions_at(
-    alloc: Global,
-    parts: u16,
-    table: &Table,
-) -> Result<Vec<PartitionRow>, Failure>
+pub fn partitions_at(alloc: Global, parts: u16, table: &Table) -> Result<Vec<PartitionRow>, Failure>
     ensures { Gives (λ rows. rows.items) result (spec.partitions_at parts (table_view table.now)) }
 {
     match tables_at(table, Place::Top, Key::Partition, 31)? {

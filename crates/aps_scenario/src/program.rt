@@ -117,7 +117,13 @@ pub fn program_at(
     requires { length channels.now ≤ 256 }
     ensures { Gives (λ program. program) result (spec.program_at channels.now joinable.now thread (table_view table.now)) }
 {
-    let array = array_at(table, Place::Thread(thread), Key::Program, 1, MOST_OPERATIONS)?;
+    let array = array_at(
+        table,
+        Place::Thread(thread),
+        Key::Program,
+        1,
+        MOST_OPERATIONS,
+    )?;
     let ops = operations_of(alloc, array, array.len(), channels, joinable, thread)?;
     Ok(Program::new(ops))
 }

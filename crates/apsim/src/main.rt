@@ -1,9 +1,9 @@
 //! The program: it reads a scenario from standard input, runs it, and writes what came of it to standard output.
 #![tactic(auto)]
 
-mod command;
 mod outcome;
 mod printing;
+mod report;
 mod run;
 mod status;
 #[cfg(test)]
@@ -32,6 +32,10 @@ fn main(rt: HostRuntime) -> ExitCode {
     let Ok(words) = words_of(&rt) else {
         return ExitCode::from(Status::NoMemory.code());
     };
+    if words.is_empty() {
+        // a hint for whoever starts the program by hand; nothing depends on it
+        let _ = eprintln!(rt; "usage: apsim solo < SCENARIO.toml (README.md has all commands)");
+    }
     let mut source = StdSource::new(rt.stdin());
     // standard output takes each piece at once, so that no fault comes after the last answer
     let mut sink = StdSink::new(rt.stdout());

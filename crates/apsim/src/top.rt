@@ -2,6 +2,7 @@
 ghost use Rattle.std.specs.Prelude.{◌≡◌, ℕ, List, map, string_bytes};
 ghost use Rattle.std.specs.Io.KnownBytes.{Consumes};
 ghost use Rattle.apsim.specs.declared.outcome.Outcome.{Outcome};
+ghost use Rattle.apsim.specs.Asked.{calm_command};
 ghost use Rattle.apsim.specs.Cause.{HasCause};
 ghost use Rattle.apsim.specs.Answers.{Tells, Answers};
 
@@ -17,9 +18,10 @@ pub struct Ended {
     pub history: Option<History>,
 }
 
-/// Does what the words ask for, on the calling thread: reads a scenario from the source, runs it in
-/// fixed order up to 1,000,000 entries, and writes the summary of its history to the sink. It waits
-/// for nobody.
+/// Does what the words ask for, on the calling thread. For `solo` it reads a scenario from the source,
+/// runs it in fixed order up to the named limit, and writes the named report of its history to the
+/// sink. For `gen` it reads nothing, and writes the text of the scenario that is generated from the
+/// named numbers. It waits for nobody. Commands that need other threads are refused as words.
 ///
 /// What comes to nothing is said in the sink too, and each status has its one cause: see `Status`.
 /// A fault of the sink leaves a prefix of the text there, and so does want of memory.
@@ -32,11 +34,13 @@ pub fn calm_top<S: Source, K: Sink>(
     // The call came to an outcome that its words and its input are the cause of, and told that.
     ensures outcome { (bytes : List ℕ) × (outcome : Outcome) × Consumes (S.left source.old) (S.left source.new) bytes
         × HasCause (record {
-          words = map string_bytes words.now;
-          bytes = bytes;
-          left = S.left source.new;
-          faults_before = S.faults source.old;
-          faults = S.faults source.new;
+          asked = calm_command (map string_bytes words.now);
+          reading = record {
+            bytes = bytes;
+            left = S.left source.new;
+            faults_before = S.faults source.old;
+            faults = S.faults source.new;
+          };
         }) outcome
         × Tells outcome (record {
           before = K.written sink.old;
@@ -47,11 +51,13 @@ pub fn calm_top<S: Source, K: Sink>(
     // So each status comes in its case.
     ensures statuses { (bytes : List ℕ) × Consumes (S.left source.old) (S.left source.new) bytes
         × Answers (record {
-          words = map string_bytes words.now;
-          bytes = bytes;
-          left = S.left source.new;
-          faults_before = S.faults source.old;
-          faults = S.faults source.new;
+          asked = calm_command (map string_bytes words.now);
+          reading = record {
+            bytes = bytes;
+            left = S.left source.new;
+            faults_before = S.faults source.old;
+            faults = S.faults source.new;
+          };
         }) (record {
           before = K.written sink.old;
           after = K.written sink.new;

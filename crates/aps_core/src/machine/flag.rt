@@ -1,7 +1,6 @@
 ghost use Rattle.std.specs.Prelude.{◌≡◌, ◌<◌, ◌≤◌, length, All, IfSome};
 ghost use Rattle.aps_model.specs.Flag.{rank_of, looked_at, flag_for, with_flag};
 ghost use Rattle.aps_model.specs.History.{IsEntry};
-ghost use Rattle.aps_core.specs.Plain.{IsPlainPick};
 ghost use Rattle.aps_core.specs.Small.{IsSmall};
 
 use super::Machine;
@@ -17,18 +16,15 @@ impl Machine {
         left: &Contender,
         running: &Option<Pick>,
     ) -> Option<(u8, u8)>
-        requires one_each { length parts.now ≡ length self.now.rows }
-        requires small { All IsSmall parts.now }
-        requires left { left.now.facts.partition < length parts.now }
-        requires running { IsPlainPick (length self.now.threads) (length self.now.rows) running.now }
+        requires { All IsSmall parts.now }
         ensures { result ≡ rank_of self.now parts.now (merit_among parts.now left.now) running.now }
     {
         let Some(pick) = running else {
             return Some((0, 0));
         };
-        let thread = &self.threads[pick.thread.index()];
-        let facts = thread.own;
-        let merit = merit_of(facts, thread.stamp, &parts[facts.partition.index()]);
+        let facts = self.facts_of(pick.thread);
+        let stamp = self.thread(pick.thread).stamp;
+        let merit = merit_of(facts, stamp, &merit::part_at(parts, facts.partition));
         if is_below(&merit, &merit::merit_among(parts, left), self.shape.free) {
             Some((merit.class + 1, merit.priority))
         } else {
@@ -48,9 +44,7 @@ impl Machine {
         now: Nanos,
         d: CpuId,
     ) -> Option<(u8, u8)>
-        requires one_each { length parts.now ≡ length self.now.rows }
         requires small { All IsSmall parts.now }
-        requires left { left.now.facts.partition < length parts.now }
         requires entries { All IsEntry entries.now }
         requires d { d < length self.now.cpus }
         ensures { result ≡ looked_at self.now entries.now parts.now (merit_among parts.now left.now) c now d }
@@ -71,9 +65,7 @@ impl Machine {
         now: Nanos,
         left: &Option<Contender>,
     ) -> Option<CpuId>
-        requires one_each { length parts.now ≡ length self.now.rows }
         requires small { All IsSmall parts.now }
-        requires left { IfSome left.now (λ b. b.facts.partition < length parts.now) }
         requires entries { All IsEntry entries.now }
         ensures same { result ≡ flag_for self.now entries.now parts.now c now left.now }
         ensures within { IfSome result (λ d. d < length self.now.cpus) }

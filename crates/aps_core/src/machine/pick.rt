@@ -8,23 +8,19 @@ ghost use Rattle.aps_core.specs.Small.{IsSmall};
 
 use super::Machine;
 use crate::merit;
-use aps_model::{
-    Contender, CpuId, CpuNow, PartFacts, PartitionId, Pick, State, ThreadId, ThreadNow,
-};
+use aps_model::{Contender, CpuId, CpuNow, PartFacts, PartitionId, Pick, State, ThreadId};
 
 impl Machine {
-    /// The thread of this number, if it is ready.
-    fn ready_at(&self, x: usize) -> Option<Contender>
-        requires { x < length self.now.threads }
+    /// The thread as a contender, if it is ready.
+    fn ready_at(&self, x: ThreadId) -> Option<Contender>
         ensures ready { IfSome result (λ c. (c ≡ contender_of self.now x) × IsTrue (is_ready (thread_at self.now x).state)) }
-        ensures within { IfSome result (λ c. (c.thread < length self.now.threads) × (c.facts.partition < length self.now.rows) × (c.facts.critical ≡ false)) }
         ensures other { IfNone result (is_ready (thread_at self.now x).state ≡ false) }
     {
-        let thread = &self.threads[x];
+        let thread = self.thread(x);
         match thread.state {
             State::Ready => Some(Contender {
-                thread: ThreadId::at(x),
-                facts: thread.own,
+                thread: x,
+                facts: self.facts_of(x),
                 stamp: thread.stamp,
             }),
             _ => None,
@@ -33,14 +29,12 @@ impl Machine {
 
     /// The greatest candidate.
     pub fn greatest(&self, parts: &[PartFacts]) -> Option<Contender>
-        requires one_each { length parts.now ≡ length self.now.rows }
-        requires small { All IsSmall parts.now }
-        ensures same { result ≡ greatest self.now.shape.free parts.now (contenders self.now) }
-        ensures within { IfSome result (λ b. (b.thread < length self.now.threads) × (b.facts.partition < length self.now.rows) × (b.facts.critical ≡ false)) }
+        requires { All IsSmall parts.now }
+        ensures { result ≡ greatest self.now.shape.free parts.now (contenders self.now) }
     {
         let mut best = None;
         for x in 0..self.threads.len() {
-            if let Some(c) = self.ready_at(x) {
+            if let Some(c) = self.ready_at(ThreadId::at(x)) {
                 best = merit::better(parts, self.shape.free, best, c);
             }
         }
@@ -49,12 +43,11 @@ impl Machine {
 
     /// Whether a ready thread is a candidate of the partition.
     fn has_candidate(&self, parts: &[PartFacts], p: PartitionId) -> bool
-        requires one_each { length parts.now ≡ length self.now.rows }
         ensures { result ≡ list_any (λ c. nat_eq c.facts.partition p) (candidates parts.now (contenders self.now)) }
     {
         let mut found = false;
         for x in 0..self.threads.len() {
-            if let Some(c) = self.ready_at(x) {
+            if let Some(c) = self.ready_at(ThreadId::at(x)) {
                 found = merit::either(found, merit::is_candidate_of(parts, &c, p));
             }
         }
@@ -63,8 +56,7 @@ impl Machine {
 
     /// Whether the partition has a budget and no candidate.
     fn is_missing(&self, parts: &[PartFacts], p: PartitionId) -> bool
-        requires one_each { length parts.now ≡ length self.now.rows }
-        requires p { p < length parts.now }
+        requires { p < length parts.now }
         ensures { result ≡ (nat_lt 0 (part_at parts.now p).budget && not (list_any (λ c. nat_eq c.facts.partition p) (candidates parts.now (contenders self.now)))) }
     {
         parts[p.index()].budget > 0 && !self.has_candidate(parts, p)
@@ -72,8 +64,7 @@ impl Machine {
 
     /// The lowest partition with a budget that has no candidate.
     pub fn missing(&self, parts: &[PartFacts]) -> Option<PartitionId>
-        requires one_each { length parts.now ≡ length self.now.rows }
-        requires few { length parts.now ≤ 32 }
+        requires { length parts.now ≤ 32 }
         ensures { result ≡ missing parts.now (contenders self.now) }
     {
         let mut lowest = None;
@@ -86,21 +77,14 @@ impl Machine {
 
     /// The processor keeps the greatest candidate, or nobody.
     pub fn choose(&mut self, parts: &[PartFacts], cpu: CpuId, best: Option<Contender>)
-        requires one_each { length parts.now ≡ length self.old.rows }
-        requires cpu { cpu < length self.old.cpus }
-        requires best { IfSome best (λ b. (b.thread < length self.old.threads) × (b.facts.partition < length self.old.rows) × (b.facts.critical ≡ false)) }
+        requires { cpu < length self.old.cpus }
         ensures { self.new ≡ chosen self.old parts.now cpu best }
     {
         let running = match best {
             None => None,
             Some(b) => {
                 let critical = merit::is_critical_among(parts, &b);
-                let x = b.thread.index();
-                let thread = self.threads[x];
-                self.threads[x] = ThreadNow {
-                    state: State::Running(cpu),
-                    ..thread
-                };
+                self.set_state(b.thread, State::Running(cpu));
                 Some(Pick {
                     thread: b.thread,
                     partition: b.facts.partition,

@@ -1,61 +1,108 @@
-ghost use Rattle.std.specs.Prelude.{◌≡◌, [], ◌∷◌, length, replicate, All, IfOk};
-ghost use Rattle.aps_model.specs.declared.program.Op.TheVariants.{Forever};
-ghost use Rattle.aps_model.specs.declared.scenario.ThreadRow.{ThreadRow};
-ghost use Rattle.aps_model.specs.declared.shape.Shape.{Shape};
-ghost use Rattle.aps_model.specs.Opening.{opening, start_threads};
-ghost use Rattle.aps_model.specs.SchedulerState.{idle};
-ghost use Rattle.aps_core.specs.Plain.{IsPlainScenario};
+ghost use Rattle.std.specs.Prelude.{◌≡◌, length, replicate, IfOk};
+ghost use Rattle.aps_model.specs.Opening.{first_op, opening, start_stamps, start_threads, started};
+ghost use Rattle.aps_model.specs.SchedulerState.{idle, no_channel};
 
-use super::Machine;
-use aps_model::{CpuNow, Facts, NoMemory, Scenario, State, ThreadNow, ThreadRow};
+use super::channel::Channel;
+use super::triple::Triples;
+use super::{Machine, operation};
+use aps_model::{CpuNow, Facts, NoMemory, Scenario, Shape, State, ThreadId, ThreadNow, ThreadRow};
 use std::alloc::Global;
 
 impl Machine {
     /// The state at the start of a scenario. It takes all the memory that the steps need.
     pub fn boot(alloc: Global, scenario: &Scenario) -> Result<Machine, NoMemory>
-        requires { IsPlainScenario scenario.now }
         ensures { IfOk result (λ m. m ≡ opening scenario.now) }
     {
         let mut rows = Vec::with_capacity(alloc, 32)?;
         rows.extend_from_slice(scenario.partitions())?;
         let shape = *scenario.shape();
-        let threads = start_threads(alloc, scenario.threads())?;
-        let stamps = threads.len() as u64;
+        let (threads, stamps) = start_threads(alloc, scenario)?;
+        let channels = start_channels(alloc, scenario.channels().len())?;
+        let triples = Triples::new(alloc)?;
         let cpus = start_cpus(alloc, shape.cpus)?;
         Ok(Machine {
             rows,
             shape,
             threads,
             stamps,
-            channels: scenario.channels().len() as u16,
+            channels,
+            triples,
             cpus,
         })
     }
 }
 
-/// The threads of a plain scenario at its start, ready in this order.
-fn start_threads(alloc: Global, rows: &[ThreadRow]) -> Result<Vec<ThreadNow>, NoMemory>
-    requires { All (λ (row : ThreadRow). row.program ≡ Forever ∷ []) rows.now }
-    ensures same { IfOk result (λ v. (shape : Shape) → v.items ≡ start_threads shape 0 0 rows.now) }
-    ensures length { IfOk result (λ v. length v.items ≡ length rows.now) }
+/// A thread in its first operation.
+fn started(scenario: &Scenario, x: ThreadId, next: u64, row: &ThreadRow) -> ThreadNow
+    requires row { row.now ≡ thread_row scenario.now x }
+    ensures { result ≡ started scenario.now.shape x next row.now }
 {
-    let mut threads = Vec::with_capacity(alloc, rows.len())?;
-    for row in rows {
-        let stamp = threads.len() as u64;
-        threads.push(ThreadNow {
-            own: Facts {
-                partition: row.partition,
-                priority: row.priority,
-                critical: row.critical,
-            },
-            state: State::Ready,
-            place: 0,
-            left: None,
-            stamp,
-            since: 0,
-        })?;
+    let own = Facts {
+        partition: row.partition,
+        priority: row.priority,
+        critical: row.critical,
+    };
+    let waiting = ThreadNow {
+        own,
+        state: State::Ready,
+        place: 0,
+        left: None,
+        stamp: next,
+        since: 0,
+    };
+    let thread = operation::enter(scenario, scenario.shape(), x, 0, 0, State::Ready, waiting);
+    let stamp = match thread.state {
+        State::Ready => next,
+        _ => FIRST_SLEEPER_STAMP + x.index() as u64,
+    };
+    ThreadNow { stamp, ..thread }
+}
+
+ghost use Rattle.aps_model.specs.Scenario.{thread_row};
+
+/// A thread that begins with a sleep has this stamp and its number, until it wakes.
+const FIRST_SLEEPER_STAMP: u64 = 1 << 63;
+
+/// The next stamp after a thread that has started.
+fn stamp_after(state: &State, next: u64) -> u64
+    requires { next ≤ 1024 }
+    ensures { result ≡ stamp_after state.now next }
+{
+    match state {
+        State::Ready => next + 1,
+        _ => next,
     }
-    Ok(threads)
+}
+
+ghost use Rattle.std.specs.Prelude.{◌≤◌};
+ghost use Rattle.aps_model.specs.Opening.{stamp_after};
+
+/// The threads in their first operation, the ready ones with stamps in this order, and the next stamp after them.
+fn start_threads(alloc: Global, scenario: &Scenario) -> Result<(Vec<ThreadNow>, u64), NoMemory>
+    ensures threads { IfOk result (λ r. r.0.items ≡ start_threads scenario.now.shape 0 0 scenario.now.threads) }
+    ensures stamps { IfOk result (λ r. r.1 ≡ start_stamps 0 scenario.now.threads) }
+{
+    let rows = scenario.threads();
+    let mut threads = Vec::with_capacity(alloc, rows.len())?;
+    let mut next = 0;
+    for row in rows {
+        let x = ThreadId::at(threads.len());
+        let thread = started(scenario, x, next, row);
+        next = stamp_after(&thread.state, next);
+        threads.push(thread)?;
+    }
+    Ok((threads, next))
+}
+
+/// Channels at which nobody waits.
+fn start_channels(alloc: Global, count: usize) -> Result<Vec<Channel>, NoMemory>
+    ensures { IfOk result (λ v. v.items ≡ replicate count no_channel) }
+{
+    let mut channels = Vec::with_capacity(alloc, count)?;
+    for _ in 0..count {
+        channels.push(Channel::new(alloc)?)?;
+    }
+    Ok(channels)
 }
 
 /// Idle processors.

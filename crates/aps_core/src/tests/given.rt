@@ -1,5 +1,6 @@
 //! Scenarios of endless threads, in partitions right below the root.
 ghost use Rattle.std.specs.Prelude.{◌≡◌, ◌<◌, ◌≤◌, ◌∷◌, length, All, IfOk, IsTrue};
+ghost use Rattle.aps_model.specs.declared.shape.Bankruptcy.TheVariants.{Basic};
 ghost use Rattle.aps_model.specs.Name.{IsName};
 ghost use lib.Chars.{codes};
 ghost use Rattle.aps_core.specs.Given.{Endless as EndlessOf, is_given, letters, rows_from, row_of, threads_from};
@@ -21,7 +22,8 @@ pub fn given(
     budgets: &[u16],
     threads: &[Endless],
 ) -> Result<Scenario, Fail>
-    requires { IsTrue (is_given shape root budgets.now threads.now) }
+    requires given { IsTrue (is_given shape root budgets.now threads.now) }
+    requires basic { shape.bankruptcy ≡ Basic }
     ensures plain { IfOk result IsPlainScenario }
     ensures shape { IfOk result (λ s. s.shape ≡ shape) }
 {

@@ -1,4 +1,4 @@
-use Rattle.std.proofs.Common.{arith, rules}
+use Rattle.std.proofs.Common.{arith}
 use Rattle.std.proofs.lemmas.Grind.{common_steps}
 use Rattle.aps_core.proofs.Scan.{greatest_ready, greatest_other}
 use Rattle.aps_core.proofs.machine.Machine.greatest.Goals as goal
@@ -7,16 +7,6 @@ use Rattle.aps_core.proofs.machine.Machine.greatest.Goals.{in-Some, in_default}
 pub loop-x-preserved : goal.loop-x-preserved
 loop-x-preserved c =
     elim c.match-ready_at.branch [
-      | in-Some w ↦ record {
-        same = grind (arith, common_steps, greatest_ready c.args.self.now.shape.free c.args.parts.now c.args.self.now c.loop-x.x);
-        partition = search rules;
-        uncritical = rw w.best-is (w.better-best.ensures.uncritical w.in-Some.ensures.within.2 c.loop-x.invariant.uncritical);
-        thread = rw w.best-is (w.better-best.ensures.below _ w.in-Some.ensures.within.0 c.loop-x.invariant.thread);
-      }
-      | in_default w ↦ record {
-        same = grind (arith, common_steps, greatest_other c.args.self.now.shape.free c.args.parts.now c.args.self.now c.loop-x.x);
-        partition = search rules;
-        uncritical = search rules;
-        thread = search rules;
-      }
+      | in-Some w ↦ grind (arith, common_steps, greatest_ready c.args.self.now.shape.free c.args.parts.now c.args.self.now c.loop-x.x)
+      | in_default w ↦ grind (arith, common_steps, greatest_other c.args.self.now.shape.free c.args.parts.now c.args.self.now c.loop-x.x)
     ]

@@ -14,4 +14,4 @@ pub returns-clause-same : goal.returns-clause-same
 returns-clause-same c =
     pick_by_parts c.args.self.now c.args.entries.now c.args.cpu c.args.e.to c.args.e
     c.fill_parts.new.parts c.missing-starved.result c.greatest-best.result c.thread_of-picked.result c.choose.new.self c.greatest-left.result c.flag_for-flagged.result c.flag.new.self
-    (parts c) c.missing-starved.ensures c.greatest-best.ensures.same c.thread_of-picked.ensures c.choose.ensures c.greatest-left.ensures.same c.flag_for-flagged.ensures.same c.flag.ensures
+    (parts c) c.missing-starved.ensures c.greatest-best.ensures c.thread_of-picked.ensures c.choose.ensures c.greatest-left.ensures c.flag_for-flagged.ensures.same c.flag.ensures

@@ -1,0 +1,20 @@
+use Rattle.std.specs.Prelude.{◌≡◌, ℕ, ◌-◌, ◌<◌, ◌≤◌, List, length, Some}
+use Rattle.aps_model.specs.declared.entry.Entry.{Entry}
+use Rattle.aps_model.specs.declared.state.Pick.{Pick}
+use Rattle.aps_model.specs.Due.{due, last_end}
+use Rattle.aps_model.specs.Scenario.{Scenario}
+use Rattle.aps_model.specs.SchedulerState.{SchedulerState, cpu_at, thread_at}
+use Rattle.aps_model.specs.Shape.{horizon}
+use Rattle.aps_laws.specs.Between.{after_bill, after_tick}
+use Rattle.aps_core.specs.Room.{HasRoom, HasRoomToWake}
+
+-- what a step of processor c rests on: the processor exists, its moments fit, and so does what its parts make greater
+pub record IsReady (scenario : Scenario) (s : SchedulerState) (h : List Entry) (c : ℕ) : Type 0 where
+  pub exists : c < length s.cpus
+  pub forward : last_end h c ≤ due s h c
+  pub short : due s h c - last_end h c ≤ 10000000
+  pub within : due s h c ≤ horizon s.shape
+  pub early : due s h c ≤ 10000000000000
+  pub wakes : HasRoomToWake 256 6000000000 s
+  pub since : (x : ℕ) → (thread_at (after_tick scenario s h c) x).since ≤ 10000000000000
+  pub room : (p : Pick) → (cpu_at s c).running ≡ Some p → HasRoom (after_bill scenario s h c)

@@ -1,0 +1,100 @@
+ghost use Rattle.std.specs.Prelude.{◌≡◌, ◌<◌, ◌^◌};
+ghost use Rattle.aps_model.specs.Operation.{with_ready, with_stamped};
+ghost use Rattle.aps_model.specs.SchedulerState.{thread_at, with_thread, with_state, with_own};
+
+use super::Machine;
+use aps_model::{Facts, PartitionId, State, ThreadId, ThreadNow};
+
+/// What is read where there is no such thread.
+fn no_thread() -> ThreadNow
+    ensures { result ≡ no_thread }
+{
+    ThreadNow {
+        own: no_facts(),
+        state: State::Gone,
+        place: 0,
+        left: None,
+        stamp: 0,
+        since: 0,
+    }
+}
+
+ghost use Rattle.aps_model.specs.SchedulerState.{no_facts, no_thread};
+
+/// Its values.
+fn no_facts() -> Facts
+    ensures { result ≡ no_facts }
+{
+    Facts {
+        partition: PartitionId::at(0),
+        priority: 0,
+        critical: false,
+    }
+}
+
+impl Machine {
+    /// The thread of this number as it stands.
+    pub fn thread(&self, x: ThreadId) -> ThreadNow
+        ensures { result ≡ thread_at self.now x }
+    {
+        match self.threads.get(x.index()) {
+            Some(thread) => *thread,
+            None => no_thread(),
+        }
+    }
+
+    /// The thread is this one from now on.
+    pub fn set_thread(&mut self, x: ThreadId, thread: ThreadNow)
+        ensures { self.new ≡ with_thread self.old x thread }
+    {
+        let index = x.index();
+        if index < self.threads.len() {
+            self.threads[index] = thread;
+        }
+    }
+
+    /// The thread is in this state from now on.
+    pub fn set_state(&mut self, x: ThreadId, state: State)
+        ensures { self.new ≡ with_state self.old x state }
+    {
+        let thread = self.thread(x);
+        self.set_thread(x, ThreadNow { state, ..thread });
+    }
+
+    /// The thread has these values of its own from now on.
+    pub fn set_own(&mut self, x: ThreadId, own: Facts)
+        ensures { self.new ≡ with_own self.old x own }
+    {
+        let thread = self.thread(x);
+        self.set_thread(x, ThreadNow { own, ..thread });
+    }
+
+    /// The thread is this one, with the next stamp.
+    pub fn set_stamped(&mut self, x: ThreadId, thread: ThreadNow)
+        requires { self.old.stamps < 2 ^ 63 }
+        ensures { self.new ≡ with_stamped self.old x thread }
+    {
+        let stamp = self.stamps;
+        self.stamps += 1;
+        self.set_thread(
+            x,
+            ThreadNow {
+                stamp,
+                since: 0,
+                ..thread
+            },
+        );
+    }
+
+    /// The thread is this one; if it is ready now, with the next stamp.
+    pub fn set_ready(&mut self, x: ThreadId, thread: ThreadNow)
+        requires { self.old.stamps < 2 ^ 63 }
+        ensures { self.new ≡ with_ready self.old x thread thread.state }
+    {
+        let state = thread.state;
+        match state {
+            State::Ready => self.set_stamped(x, thread),
+            _ => self.set_thread(x, thread),
+        }
+    }
+}

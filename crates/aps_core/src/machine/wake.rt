@@ -1,0 +1,177 @@
+ghost use Rattle.std.specs.Prelude.{◌≡◌, ◌+◌, ◌/◌, ◌%◌, ◌<◌, ◌≤◌, ◌^◌, [], length, All, IfOk, vec_capacity};
+ghost use Rattle.std.specs.Prelude.{nat_eq};
+ghost use Rattle.std.specs.List.{list_any};
+ghost use Rattle.aps_model.specs.History.{IsEntry};
+ghost use Rattle.aps_model.specs.TickWork.{has_tick_work, insert_sleeper, is_earlier, tick_work, wake_all, waking, wakes_at};
+ghost use Rattle.aps_core.specs.Rising.{IsRising};
+ghost use Rattle.aps_core.specs.Room.{HasRoomToWake};
+
+use super::Machine;
+use super::channel::MOST_THREADS;
+use crate::due;
+use crate::room::insert_at;
+use aps_model::{Entry, Nanos, NoMemory, Scenario, State, ThreadId};
+use std::alloc::Global;
+use std::marker::Model;
+
+/// A thread that sleeps, and the moment until which it does.
+#[derive(Clone, Copy, Debug, PartialEq, Eq)]
+pub struct Sleeper {
+    until: Nanos,
+    thread: ThreadId,
+}
+
+impl Model for Sleeper {
+    ghost use Rattle.std.specs.Prelude.{ℕ};
+
+    ghost Value = { ℕ × ℕ };
+
+    ghost view = { λ s. (s.until, s.thread) };
+
+    ghost inverse = { λ s. record { until = s.0; thread = s.1 } };
+}
+
+/// Whether the first sleeper wakes before the other: earlier, or at the same moment with the lower number.
+fn is_earlier(a: &Sleeper, b: &Sleeper) -> bool
+    ensures { result ≡ is_earlier a.now b.now }
+{
+    a.until < b.until || (a.until == b.until && a.thread.index() < b.thread.index())
+}
+
+/// The sleepers of a moment, in the order in which they wake. There is room for every thread.
+#[derive(Drop)]
+pub struct Sleepers {
+    list: Vec<Sleeper>,
+}
+
+impl Model for Sleepers {
+    ghost use Rattle.std.specs.Prelude.{ℕ, List};
+
+    ghost Value = { List (ℕ × ℕ) };
+
+    ghost view = { λ s. s.list.items };
+
+    ghost use Rattle.std.specs.Prelude.{◌≤◌, vec_capacity};
+
+    ghost invariant = { λ s. 1024 ≤ vec_capacity s.list };
+}
+
+impl Sleepers {
+    /// No sleepers.
+    pub fn new(alloc: Global) -> Result<Self, NoMemory>
+        ensures { IfOk result (λ s. s ≡ []) }
+    {
+        Ok(Sleepers {
+            list: Vec::with_capacity(alloc, MOST_THREADS)?,
+        })
+    }
+
+    /// The same, so that others can be put in.
+    fn clear(&mut self)
+        ensures { self.new ≡ [] }
+    {
+        self.list.clear();
+    }
+
+    /// Puts a sleeper at its place in the order. There is room for it.
+    fn insert(&mut self, sleeper: Sleeper)
+        requires { length self.old < 1024 }
+        ensures { self.new ≡ insert_sleeper sleeper self.old }
+    {
+        let mut place = 0;
+        while place < self.list.len() && !is_earlier(&sleeper, &self.list[place]) {
+            place += 1;
+        }
+        insert_at(&mut self.list, place, sleeper);
+    }
+
+    /// How many there are.
+    fn len(&self) -> usize
+        ensures { result ≡ length self.now }
+    {
+        self.list.len()
+    }
+
+    /// The thread of the sleeper at a place.
+    fn thread_at(&self, place: usize) -> ThreadId
+        requires { place < length self.now }
+        ensures { result ≡ (slice_index_or self.now place (0, 0)).1 }
+    {
+        self.list[place].thread
+    }
+
+    ghost use Rattle.std.specs.Prelude.{slice_index_or};
+}
+
+impl Machine {
+    /// The sleeper of this thread, if it has slept long enough.
+    fn wakes_at(&self, now: Nanos, x: ThreadId) -> Option<Sleeper>
+        ensures { result ≡ wakes_at now x (thread_at self.now x).state }
+    {
+        match self.thread(x).state {
+            State::Sleeping(until) => {
+                if until <= now {
+                    Some(Sleeper { until, thread: x })
+                } else {
+                    None
+                }
+            }
+            _ => None,
+        }
+    }
+
+    ghost use Rattle.aps_model.specs.SchedulerState.{thread_at};
+
+    /// Finds the sleepers whose moment has come, in order of moment, then of number.
+    fn find_waking(&self, now: Nanos, sleepers: &mut Sleepers)
+        ensures same { sleepers.new ≡ waking self.now now }
+        ensures few { length sleepers.new ≤ 1024 }
+    {
+        sleepers.clear();
+        for x in 0..self.threads.len() {
+            if let Some(sleeper) = self.wakes_at(now, ThreadId::at(x)) {
+                sleepers.insert(sleeper);
+            }
+        }
+    }
+
+    /// The sleepers whose moment has come go on.
+    fn wake_all(&mut self, scenario: &Scenario, now: Nanos, sleepers: &mut Sleepers)
+        requires now { now ≤ 10000000000000 }
+        requires room { HasRoomToWake 256 6000000000 self.old }
+        ensures { self.new ≡ wake_all scenario.now now self.old }
+    {
+        self.find_waking(now, sleepers);
+        for i in 0..sleepers.len() {
+            self.go_on(scenario, sleepers.thread_at(i), now);
+        }
+    }
+
+    /// Whether this is the first step at a boundary below the horizon.
+    fn has_tick_work(&self, entries: &[Entry], now: Nanos) -> bool
+        requires { IsRising entries.now }
+        ensures { result ≡ has_tick_work self.now entries.now now }
+    {
+        now % self.shape.tick == 0 && now < self.horizon() && !due::is_met(entries, now)
+    }
+
+    /// The work of the tick, if it begins with this step: the commands of the tick, of which there are none yet, and then
+    /// the wakes.
+    pub fn work_tick(
+        &mut self,
+        scenario: &Scenario,
+        entries: &[Entry],
+        sleepers: &mut Sleepers,
+        now: Nanos,
+    )
+        requires commands { scenario.now.commands ≡ [] }
+        requires rising { IsRising entries.now }
+        requires now { now ≤ 10000000000000 }
+        requires room { HasRoomToWake 256 6000000000 self.old }
+        ensures { self.new ≡ tick_work scenario.now self.old entries.now now }
+    {
+        if self.has_tick_work(entries, now) {
+            self.wake_all(scenario, now, sleepers);
+        }
+    }
+}

@@ -1,0 +1,4 @@
+pub mod Next
+pub mod Refused
+pub mod Changes
+pub mod InTurn
