@@ -10,6 +10,8 @@ mod commands;
 mod operations;
 mod partitions;
 mod table;
+#[cfg(test)]
+mod tests;
 mod threads;
 mod words;
 
