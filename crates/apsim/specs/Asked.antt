@@ -18,6 +18,15 @@ calm (Some (Gen seed cpus partitions ticks)) = None
 abbrev pub calm_command : List (List ℕ) → Option Command
 calm_command words = calm (command words)
 
+-- the commands of the program: those that need no other thread, and runs with a thread for each processor
+abbrev pub known : Option Command → Option Command
+known (Some (Run order report limit)) = Some (Run order report limit)
+known asked = calm asked
+
+-- the command of the program that these words are
+abbrev pub known_command : List (List ℕ) → Option Command
+known_command words = known (command words)
+
 -- a run in this order, up to so many entries, of which this report is to be written
 pub record RunAsked : Type 0 where
   pub order : Order
