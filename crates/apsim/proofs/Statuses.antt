@@ -1,5 +1,5 @@
 -- The case of each status, from what the call came to.
-use Rattle.std.proofs.Common.{rules, ◌≡◌, ℕ, List, ◌⊎◌, inl, inr, Some, None, refl, ap, ◌∙◌}
+use Rattle.std.proofs.Common.{rules, String, Global, string_bytes, ◌≡◌, ℕ, List, ◌⊎◌, inl, inr, Some, None, refl, ap, ◌∙◌}
 use Rattle.aps_model.specs.declared.entry.End.TheVariants.{Horizon, Limit, Reboot}
 use Rattle.aps_model.specs.History.{History}
 use Rattle.aps_scenario.specs.declared.kind.Kind.{Kind}
@@ -11,7 +11,7 @@ use Rattle.apsim.specs.declared.outcome.Outcome.TheVariants as outcome
 use Rattle.apsim.specs.declared.top.Ended.{Ended}
 use Rattle.apsim.specs.Outcome.{report_text}
 use Rattle.apsim.specs.Status.{code, or_write_fault}
-use Rattle.apsim.specs.Cause.{Input, HasCause, RanAsRead}
+use Rattle.apsim.specs.Cause.{Input, HasCause, RanAsRead, GeneratedAsAsked}
 use Rattle.apsim.specs.Printing.{Output, Prints}
 use Rattle.apsim.specs.Answers.{Tells, Answers, OrNoMemory, end_told}
 
@@ -42,6 +42,8 @@ words_refused input output ended cause told none = record {
   done = search rules;
   no_history = search rules;
   history = search rules;
+  no_run = search rules;
+  generated = search rules;
   reported = search rules;
   complete = search rules;
 }
@@ -61,6 +63,8 @@ read_fault input output ended cause told none = record {
   done = search rules;
   no_history = search rules;
   history = search rules;
+  no_run = search rules;
+  generated = search rules;
   reported = search rules;
   complete = search rules;
 }
@@ -80,6 +84,8 @@ too_long input output ended cause told none = record {
   done = search rules;
   no_history = search rules;
   history = search rules;
+  no_run = search rules;
+  generated = search rules;
   reported = search rules;
   complete = search rules;
 }
@@ -100,6 +106,8 @@ refused input output ended kind path cause told none = record {
   done = search rules;
   no_history = search rules;
   history = search rules;
+  no_run = search rules;
+  generated = search rules;
   reported = search rules;
   complete = search rules;
 }
@@ -119,6 +127,8 @@ no_memory input output ended told none = record {
   done = search rules;
   no_history = search rules;
   history = search rules;
+  no_run = search rules;
+  generated = search rules;
   reported = search rules;
   complete = search rules;
 }
@@ -138,6 +148,8 @@ limited input output ended report h cause told some = record {
   done = search rules;
   no_history = search rules;
   history = search rules;
+  no_run = search rules;
+  generated = search rules;
   reported = search rules;
   complete = search rules;
 }
@@ -157,6 +169,8 @@ rebooted input output ended report h p cause told some = record {
   done = search rules;
   no_history = search rules;
   history = search rules;
+  no_run = search rules;
+  generated = search rules;
   reported = search rules;
   complete = search rules;
 }
@@ -176,6 +190,29 @@ reached input output ended report h status cause told printed some = record {
   done = search rules;
   no_history = search rules;
   history = search rules;
+  no_run = search rules;
+  generated = search rules;
+  reported = search rules;
+  complete = search rules;
+}
+
+-- a scenario was generated
+generated : (input : Input) (output : Output) (ended : Ended) (text : String Global) (status : Status) → GeneratedAsAsked input (string_bytes text)
+    → ended.status ≡ code status → Prints output (string_bytes text) Done status → ended.history ≡ None → Answers input output ended
+generated input output ended text status cause told printed none = record {
+  words_refused = search rules;
+  read_fault = search rules;
+  too_long = search rules;
+  refused = search rules;
+  refused_always = search rules;
+  limited = search rules;
+  rebooted = search rules;
+  write_fault = search rules;
+  done = search rules;
+  no_history = search rules;
+  history = search rules;
+  no_run = search rules;
+  generated = search rules;
   reported = search rules;
   complete = search rules;
 }
@@ -196,5 +233,7 @@ answers input output (outcome.Ran report Limit h) ended cause tells =
     limited input output ended report h cause (told_or_memory output _ Limited tells.status _ refl tells.told tells.printed) tells.history
 answers input output (outcome.Ran report (Reboot p) h) ended cause tells =
     rebooted input output ended report h p cause (told_or_memory output _ Rebooted tells.status _ refl tells.told tells.printed) tells.history
+answers input output (outcome.Generated text) ended cause tells =
+    generated input output ended text tells.status cause tells.told tells.printed tells.history
 answers input output outcome.NoMemory ended cause tells =
     no_memory input output ended (either (told_or_memory output _ NoMemory tells.status _ refl tells.told tells.printed)) tells.history

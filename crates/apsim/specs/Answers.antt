@@ -1,5 +1,5 @@
 -- What the answer of a call tells.
-use Rattle.std.specs.Prelude.{◌≡◌, ◌≢◌, ℕ, ◌<◌, ◌≤◌, ◌⊎◌, length, Option, Some, None, IsSome, IfSome, IsErr, Ok}
+use Rattle.std.specs.Prelude.{◌≡◌, ◌≢◌, ℕ, List, ◌<◌, ◌≤◌, ◌⊎◌, length, Option, Some, None, IsSome, IfSome, IsErr, Ok}
 use Rattle.aps_io.specs.Causes.{Rose}
 use Rattle.aps_model.specs.declared.entry.End.{End}
 use Rattle.aps_model.specs.declared.entry.End.TheVariants.{Horizon, Limit, Reboot}
@@ -9,12 +9,15 @@ use Rattle.aps_model.specs.History.{History}
 use Rattle.aps_model.specs.Legal.{fixed_run}
 use Rattle.aps_model.specs.Scenario.{Scenario}
 use Rattle.aps_scenario.specs.Reading.{reads}
+use Rattle.aps_gen.specs.Generated.{generated}
+use Rattle.aps_words.specs.declared.command.Command.{Command}
+use Rattle.aps_words.specs.declared.command.Command.TheVariants.{Gen}
 use Rattle.aps_words.specs.declared.command.Report.{Report}
 use Rattle.apsim.specs.declared.outcome.Outcome.{Outcome}
 use Rattle.apsim.specs.declared.status.Status.{Status}
 use Rattle.apsim.specs.declared.status.Status.TheVariants.{Done, WordsRefused, ScenarioRefused, Rebooted, ReadFault, WriteFault, Limited, NoMemory, TooLong}
 use Rattle.apsim.specs.declared.top.Ended.{Ended}
-use Rattle.apsim.specs.Asked.{RunAsked, run_asked}
+use Rattle.apsim.specs.Asked.{RunAsked, run_asked, AsksScenario}
 use Rattle.apsim.specs.Status.{code}
 use Rattle.apsim.specs.Outcome.{status_of, text_of, history_of, report_text}
 use Rattle.apsim.specs.Reading.{most_bytes, IsReadWhole}
@@ -55,6 +58,12 @@ abbrev pub ReportsWhole : Option RunAsked → Output → Option History → Type
 ReportsWhole (Some asked) output (Some h) = WritesWhole output (report_text asked.report h)
 ReportsWhole asked output history = ⊥
 
+-- a whole text that reads as the scenario to be generated was written
+abbrev pub GeneratesWhole : Option Command → Output → Type 0
+GeneratesWhole (Some (Gen seed cpus partitions ticks)) output =
+    (text : List ℕ) × (reads text ≡ Ok (generated seed cpus partitions ticks)) × WritesWhole output text
+GeneratesWhole asked output = ⊥
+
 -- the statuses, each by its case
 pub record Answers (input : Input) (output : Output) (ended : Ended) : Type 0 where
   pub words_refused : Exactly ended WordsRefused (input.asked ≡ None)
@@ -66,12 +75,16 @@ pub record Answers (input : Input) (output : Output) (ended : Ended) : Type 0 wh
   pub limited : Exactly ended Limited (end_told ended.history ≡ Some Limit)
   pub rebooted : Exactly ended Rebooted ((p : ℕ) × (end_told ended.history ≡ Some (Reboot p)))
   pub write_fault : ended.status ≡ code WriteFault
-      → Rose output.faults_before output.faults × (end_told ended.history ≡ Some Horizon)
+      → Rose output.faults_before output.faults × ((end_told ended.history ≡ Some Horizon) ⊎ AsksScenario input.asked)
   pub done : ended.status ≡ code Done
-      → (end_told ended.history ≡ Some Horizon) × ReportsWhole (run_asked input.asked) output ended.history
+      → ((end_told ended.history ≡ Some Horizon) × ReportsWhole (run_asked input.asked) output ended.history)
+      ⊎ GeneratesWhole input.asked output
   pub no_history : (ended.status ≡ code WordsRefused) ⊎ (ended.status ≡ code ScenarioRefused)
       ⊎ (ended.status ≡ code ReadFault) ⊎ (ended.status ≡ code TooLong) → ended.history ≡ None
   pub history : IfSome ended.history (λ h. (report : Report) × (end : End) × RanAsRead input report end h)
+  pub no_run : AsksScenario input.asked → ended.history ≡ None
+  -- a scenario that is asked for is written whole, where nothing fails
+  pub generated : AsksScenario input.asked → ended.status ≢ code WriteFault → OrNoMemory ended Done
   -- a run that reaches the horizon is reported whole, where nothing fails
   pub reported : end_told ended.history ≡ Some Horizon → ended.status ≢ code WriteFault → OrNoMemory ended Done
   pub complete : ReachesHorizon input → ended.status ≢ code ReadFault → ended.status ≢ code WriteFault

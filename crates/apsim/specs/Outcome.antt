@@ -1,5 +1,5 @@
 -- What the program comes to, and what it says of it.
-use Rattle.std.specs.Prelude.{ℕ, List, [], ◌++◌, codes, Option, Some, None}
+use Rattle.std.specs.Prelude.{ℕ, List, [], ◌++◌, codes, string_bytes, Option, Some, None}
 use Rattle.aps_model.specs.Audit.{audit_of}
 use Rattle.aps_model.specs.History.{History}
 use Rattle.aps_model.specs.Journal.{journal_text}
@@ -13,7 +13,7 @@ use Rattle.aps_words.specs.declared.command.Report.TheVariants.{Summary, Windows
 use Rattle.apsim.specs.declared.status.Status.{Status}
 use Rattle.apsim.specs.declared.status.Status.TheVariants as status
 use Rattle.apsim.specs.declared.outcome.Outcome.{Outcome}
-use Rattle.apsim.specs.declared.outcome.Outcome.TheVariants.{WordsRefused, ReadFault, TooLong, ScenarioRefused, Ran, NoMemory}
+use Rattle.apsim.specs.declared.outcome.Outcome.TheVariants.{WordsRefused, ReadFault, TooLong, ScenarioRefused, Ran, Generated, NoMemory}
 use Rattle.apsim.specs.Status.{status_of_end}
 
 abbrev pub status_of : Outcome → Status
@@ -22,6 +22,7 @@ status_of ReadFault = status.ReadFault
 status_of TooLong = status.TooLong
 status_of (ScenarioRefused kind path) = status.ScenarioRefused
 status_of (Ran report end history) = status_of_end end
+status_of (Generated text) = status.Done
 status_of NoMemory = status.NoMemory
 
 abbrev pub refusal_text : Kind → List ℕ → List ℕ
@@ -45,6 +46,7 @@ text_of ReadFault = codes "aps: read fault\n"
 text_of TooLong = codes "aps: input too long\n"
 text_of (ScenarioRefused kind path) = refusal_text kind path
 text_of (Ran report end history) = report_text report history
+text_of (Generated text) = string_bytes text
 text_of NoMemory = []
 
 -- the history that is handed back
@@ -54,4 +56,5 @@ history_of ReadFault = None
 history_of TooLong = None
 history_of (ScenarioRefused kind path) = None
 history_of (Ran report end history) = Some history
+history_of (Generated text) = None
 history_of NoMemory = None

@@ -1,18 +1,21 @@
 //! What the program comes to, by its words and its input.
-ghost use Rattle.std.specs.Prelude.{◌≡◌, ◌≤◌, ℕ, List, map, string_bytes, vec_items, IfOk};
+ghost use Rattle.std.specs.Prelude.{◌≡◌, ◌≤◌, ℕ, List, map, string_bytes, vec_items, IfOk, Ok};
 ghost use Rattle.std.specs.Io.KnownBytes.{Consumes};
+ghost use Rattle.aps_gen.specs.Generated.{generated};
+ghost use Rattle.aps_scenario.specs.Reading.{reads};
 ghost use Rattle.aps_model.specs.declared.entry.Order.TheVariants.{Fixed};
 ghost use Rattle.apsim.specs.Asked.{calm_command};
-ghost use Rattle.apsim.specs.Cause.{HasCause, FollowsReading};
+ghost use Rattle.apsim.specs.Cause.{HasCause, FollowsReading, FollowsNumbers};
 ghost use Rattle.apsim.specs.Outcome.{history_of, status_of, text_of, refusal_text};
 ghost use Rattle.apsim.specs.Printing.{Prints};
 
 use crate::printing::print;
 use crate::report::print_report;
 use crate::run::{begin, run_to_end};
-use crate::threads::run_on_threads;
 use crate::status::Status;
+use crate::threads::run_on_threads;
 use aps_cpu::Gate;
+use aps_gen::generate;
 use aps_io::{Sink, Source};
 use aps_model::{End, History, NoMemory, Order};
 use aps_scenario::{Kind, PathText};
@@ -41,6 +44,8 @@ pub enum Outcome {
         end: End,
         history: History,
     },
+    /// This is the text of the scenario that was asked for.
+    Generated { text: String },
     /// There was no memory.
     NoMemory,
 }
@@ -62,7 +67,13 @@ impl Outcome {
     {
         match command_of(alloc, words) {
             Ok(Command::Solo { report, limit }) => Outcome::of_solo(alloc, report, limit, source),
-            Ok(_) | Err(WordsRefusal::Words) => Outcome::WordsRefused,
+            Ok(Command::Gen {
+                seed,
+                cpus,
+                partitions,
+                ticks,
+            }) => Outcome::of_gen(alloc, seed, cpus, partitions, ticks),
+            Ok(Command::Run { .. }) | Err(WordsRefusal::Words) => Outcome::WordsRefused,
             Err(WordsRefusal::NoMemory) => Outcome::NoMemory,
         }
     }
@@ -125,6 +136,22 @@ impl Outcome {
         }
     }
 
+    /// Generates a scenario from these numbers.
+    fn of_gen(alloc: Global, seed: u64, cpus: u8, partitions: u8, ticks: u32) -> Outcome
+        requires some_cpu { 1 ≤ cpus }
+        requires few_cpus { cpus ≤ 16 }
+        requires some_partition { 1 ≤ partitions }
+        requires few_partitions { partitions ≤ 32 }
+        requires some_tick { 1 ≤ ticks }
+        requires few_ticks { ticks ≤ 1000000 }
+        ensures { FollowsNumbers seed cpus partitions ticks result }
+    {
+        match generated_text(alloc, seed, cpus, partitions, ticks) {
+            Ok(text) => Outcome::Generated { text },
+            Err(_) => Outcome::NoMemory,
+        }
+    }
+
     /// Writes the text of the outcome, and gives the status that comes of it.
     pub fn say<K: Sink>(&self, alloc: Global, sink: &mut K) -> Status
         ensures { Prints (record {
@@ -147,6 +174,7 @@ impl Outcome {
                 end,
                 history,
             } => print_report(alloc, *report, history, Status::of_end(end), sink),
+            Outcome::Generated { text } => print(sink, text.as_bytes(), Status::Done),
             Outcome::NoMemory => Status::NoMemory,
         }
     }
@@ -160,6 +188,26 @@ impl Outcome {
             _ => None,
         }
     }
+}
+
+/// The text of the scenario that is generated from these numbers.
+fn generated_text(
+    alloc: Global,
+    seed: u64,
+    cpus: u8,
+    partitions: u8,
+    ticks: u32,
+) -> Result<String, NoMemory>
+    requires some_cpu { 1 ≤ cpus }
+    requires few_cpus { cpus ≤ 16 }
+    requires some_partition { 1 ≤ partitions }
+    requires few_partitions { partitions ≤ 32 }
+    requires some_tick { 1 ≤ ticks }
+    requires few_ticks { ticks ≤ 1000000 }
+    ensures { IfOk result (λ text. reads (string_bytes text) ≡ Ok (generated seed cpus partitions ticks)) }
+{
+    let scenario = generate(alloc, seed, cpus, partitions, ticks)?;
+    aps_scenario::print(alloc, &scenario)
 }
 
 /// The line that says why the input is no scenario.

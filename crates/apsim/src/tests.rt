@@ -91,6 +91,24 @@ fn a_run_stops_at_its_limit(rt: HostRuntime) -> Result<(), Fail> {
 }
 
 #[test]
+fn a_scenario_is_generated(rt: HostRuntime) -> Result<(), Fail> {
+    let alloc = rt.alloc();
+    let words = ["gen", "--seed=7", "--cpus=2", "--partitions=3", "--ticks=100"];
+    let (ended, sink) = calm(alloc, &words, Vec::new(alloc))?;
+    assert_eq!(rt; ended.status, 0);
+    assert_eq!(rt; entries_of(&ended.history), None);
+    let text = sink.written().to_vec(alloc)?;
+    let again = text.clone()?;
+    let (whole, summary) = calm(alloc, &["solo"], text)?;
+    assert_eq!(rt; whole.status, 0);
+    assert_eq!(rt; summary.written().starts_with(b"aps summary 1\nend horizon\n".as_slice()), true);
+    let (limited, _) = calm(alloc, &["solo", "--limit", "100"], again)?;
+    assert_eq!(rt; limited.status, 6);
+    assert_eq!(rt; entries_of(&limited.history), Some(100));
+    Ok(())
+}
+
+#[test]
 fn other_words_are_refused(rt: HostRuntime) -> Result<(), Fail> {
     let alloc = rt.alloc();
     let lists: [&[&str]; 4] = [&["fly"], &[], &["solo", "--limit=0"], &["run"]];
@@ -110,7 +128,7 @@ fn an_input_that_is_no_scenario_is_refused(rt: HostRuntime) -> Result<(), Fail> 
     assert_eq!(rt; ended.status, 2);
     assert_eq!(rt;
         sink.written(),
-        b"aps: scenario refused: not-built -\n".as_slice()
+        b"aps: scenario refused: missing version\n".as_slice()
     );
     let (ended, sink) = solo(alloc, "version = \"1")?;
     assert_eq!(rt; ended.status, 2);

@@ -1,8 +1,9 @@
 //! The whole program as one call: the words, the reading, the run and the printing.
 ghost use Rattle.std.specs.Prelude.{◌≡◌, ℕ, List, map, string_bytes};
 ghost use Rattle.std.specs.Io.KnownBytes.{Consumes};
+ghost use Rattle.aps_words.specs.Command.{command};
 ghost use Rattle.apsim.specs.declared.outcome.Outcome.{Outcome};
-ghost use Rattle.apsim.specs.Asked.{calm_command, known_command};
+ghost use Rattle.apsim.specs.Asked.{calm_command};
 ghost use Rattle.apsim.specs.Cause.{HasCause};
 ghost use Rattle.apsim.specs.Answers.{Tells, Answers};
 
@@ -24,7 +25,8 @@ pub struct Ended {
 
 /// Does what the words ask for, on the calling thread. For `solo` it reads a scenario from the source,
 /// runs it in fixed order up to the named limit, and writes the named report of its history to the
-/// sink. It waits for nobody. Commands that need other threads are refused as words.
+/// sink. For `gen` it reads nothing, and writes the text of the scenario that is generated from the
+/// named numbers. It waits for nobody. Commands that need other threads are refused as words.
 ///
 /// What comes to nothing is said in the sink too, and each status has its one cause: see `Status`.
 /// A fault of the sink leaves a prefix of the text there, and so does want of memory.
@@ -86,7 +88,7 @@ pub fn top<R: Threads + Wait + Sync, S: Source, K: Sink, G: Gate + Sync>(
     // The call came to an outcome that its words and its input are the cause of, and told that.
     ensures outcome { (bytes : List ℕ) × (outcome : Outcome) × Consumes (S.left source.old) (S.left source.new) bytes
         × HasCause (record {
-          asked = known_command (map string_bytes words.now);
+          asked = command (map string_bytes words.now);
           reading = record {
             bytes = bytes;
             left = S.left source.new;
@@ -103,7 +105,7 @@ pub fn top<R: Threads + Wait + Sync, S: Source, K: Sink, G: Gate + Sync>(
     // So each status comes in its case.
     ensures statuses { (bytes : List ℕ) × Consumes (S.left source.old) (S.left source.new) bytes
         × Answers (record {
-          asked = known_command (map string_bytes words.now);
+          asked = command (map string_bytes words.now);
           reading = record {
             bytes = bytes;
             left = S.left source.new;

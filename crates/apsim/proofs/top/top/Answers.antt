@@ -3,7 +3,7 @@ use Rattle.aps_words.specs.declared.command.Command.{Command}
 use Rattle.aps_words.specs.declared.command.Command.TheVariants.{Run}
 use Rattle.aps_words.specs.Command.{command}
 
-use Rattle.apsim.specs.Asked.{RunAsked, calm_command, known, known_command, run_asked}
+use Rattle.apsim.specs.Asked.{RunAsked, calm_command, run_asked}
 use Rattle.apsim.specs.declared.outcome.Outcome.TheVariants.{NoMemory}
 use Rattle.apsim.proofs.Caused.{asked_as, caused}
 use Rattle.apsim.proofs.Statuses.{answers}
@@ -13,14 +13,14 @@ pub returns-in-Ok-Run-clause-outcome : goal.returns-in-Ok-Run-clause-outcome
 returns-in-Ok-Run-clause-outcome g c =
     let of = c.of_run-outcome.ensures in
     let asked : RunAsked = record { order = c.in-Ok-Run.order; report = c.in-Ok-Run.report; limit = c.in-Ok-Run.limit } in
-    let meant : run_asked (known_command (map string_bytes c.args.words.now)) ≡ Some asked = ap (λ said. run_asked (known said)) (c.in-Ok-Run.ensures.same ∙ ap Some c.in-Ok-Run.field-0-is) in
+    let meant : run_asked (command (map string_bytes c.args.words.now)) ≡ Some asked = ap (λ said. run_asked said) (c.in-Ok-Run.ensures.same ∙ ap Some c.in-Ok-Run.field-0-is) in
     (of.0, c.of_run-outcome.result, of.1, caused _ asked c.of_run-outcome.result meant of.2, c.tell.ensures)
 
 pub returns-in-Ok-Run-clause-statuses : goal.returns-in-Ok-Run-clause-statuses
 returns-in-Ok-Run-clause-statuses g c =
     let of = c.of_run-outcome.ensures in
     let asked : RunAsked = record { order = c.in-Ok-Run.order; report = c.in-Ok-Run.report; limit = c.in-Ok-Run.limit } in
-    let meant : run_asked (known_command (map string_bytes c.args.words.now)) ≡ Some asked = ap (λ said. run_asked (known said)) (c.in-Ok-Run.ensures.same ∙ ap Some c.in-Ok-Run.field-0-is) in
+    let meant : run_asked (command (map string_bytes c.args.words.now)) ≡ Some asked = ap (λ said. run_asked said) (c.in-Ok-Run.ensures.same ∙ ap Some c.in-Ok-Run.field-0-is) in
     (of.0, of.1, answers _ _ c.of_run-outcome.result _ (caused _ asked c.of_run-outcome.result meant of.2) c.tell.ensures)
 
 pub returns-in-Err-NoMemory-clause-outcome : goal.returns-in-Err-NoMemory-clause-outcome
@@ -32,5 +32,5 @@ returns-in-Err-NoMemory-clause-statuses g c = ([], search rules, answers _ _ NoM
 pub returns-in-Ok-Solo-clause-statuses : goal.returns-in-Ok-Solo-clause-statuses
 returns-in-Ok-Solo-clause-statuses g c =
     let told = c.calm_top.ensures.statuses in
-    let same : calm_command (map string_bytes c.args.words.now) ≡ known_command (map string_bytes c.args.words.now) = search rules in
+    let same : calm_command (map string_bytes c.args.words.now) ≡ command (map string_bytes c.args.words.now) = search rules in
     (told.0, told.1, asked_as _ _ _ _ _ same told.2)
