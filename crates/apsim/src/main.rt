@@ -8,15 +8,16 @@ mod run;
 mod status;
 #[cfg(test)]
 mod tests;
+mod threads;
 mod top;
 
+use aps_cpu::OpenGate;
 use aps_io::{StdSink, StdSource};
 use status::Status;
 use std::alloc::AllocError;
 use std::env;
 use std::io::ErrorKind;
 use std::process::ExitCode;
-use top::calm_top;
 
 /// The words after the program's name, or none where one of them isn't UTF-8: no command has such a word.
 fn words_of(rt: &HostRuntime) -> Result<Vec<String>, AllocError> {
@@ -39,6 +40,6 @@ fn main(rt: HostRuntime) -> ExitCode {
     let mut source = StdSource::new(rt.stdin());
     // standard output takes each piece at once, so that no fault comes after the last answer
     let mut sink = StdSink::new(rt.stdout());
-    let ended = calm_top(alloc, &words, &mut source, &mut sink);
+    let ended = top::top(&rt, alloc, &words, &mut source, &mut sink, &OpenGate);
     ExitCode::from(ended.status)
 }

@@ -13,12 +13,16 @@ use crate::printing::print;
 use crate::report::print_report;
 use crate::run::{begin, run_to_end};
 use crate::status::Status;
+use crate::threads::run_on_threads;
+use aps_cpu::Gate;
 use aps_gen::generate;
 use aps_io::{Sink, Source};
 use aps_model::{End, History, NoMemory, Order};
 use aps_scenario::{Kind, PathText};
 use aps_words::{Command, Report, WordsRefusal, command_of};
 use std::alloc::Global;
+use std::sync::Wait;
+use std::thread::Threads;
 
 /// What the program comes to.
 #[derive(Drop)]
@@ -89,6 +93,39 @@ impl Outcome {
         match begin(alloc, Order::Fixed, limit, source) {
             Ok(core) => {
                 let (end, history) = run_to_end(core);
+                Outcome::Ran {
+                    report,
+                    end,
+                    history,
+                }
+            }
+            Err(outcome) => outcome,
+        }
+    }
+
+    /// Runs the scenario of the source in this order, with a thread for each processor.
+    pub fn of_run<R: Threads + Wait + Sync, S: Source, G: Gate + Sync>(
+        rt: &R,
+        alloc: Global,
+        order: Order,
+        report: Report,
+        limit: u32,
+        source: &mut S,
+        gate: &G,
+    ) -> Outcome
+        requires some { 1 ≤ limit }
+        requires few { limit ≤ 4000000 }
+        ensures { (bytes : List ℕ) × Consumes (S.left source.old) (S.left source.new) bytes
+            × FollowsReading (record {
+              bytes = bytes;
+              left = S.left source.new;
+              faults_before = S.faults source.old;
+              faults = S.faults source.new;
+            }) (record { order = order; report = report; limit = limit }) result }
+    {
+        match begin(alloc, order, limit, source) {
+            Ok(core) => {
+                let (end, history) = run_to_end(run_on_threads(rt, alloc, core, gate));
                 Outcome::Ran {
                     report,
                     end,

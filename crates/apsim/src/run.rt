@@ -3,7 +3,6 @@ ghost use Rattle.std.specs.Prelude.{◌≡◌, ◌≤◌, ℕ, List, []};
 ghost use Rattle.std.specs.Io.KnownBytes.{Consumes};
 ghost use Rattle.apsim.specs.Outcome.{of_refusal};
 ghost use Rattle.apsim.specs.Reading.{Begins, StartsText};
-ghost use Rattle.aps_model.specs.declared.entry.Order.TheVariants.{Fixed};
 ghost use Rattle.apsim.specs.Run.{IsRun};
 
 use crate::outcome::Outcome;
@@ -72,13 +71,13 @@ fn of_refusal(refusal: &ScenarioRefusal) -> Outcome
     }
 }
 
-/// Runs to the end in fixed order, from no entries on.
+/// Runs to the end by steps of the lowest processor that has the turn, and gives that end and what was recorded.
 pub fn run_to_end(mut core: Core) -> (End, History)
-    requires new { core.entries ≡ [] }
-    requires fixed { core.setup.order ≡ Fixed }
     ensures scenario { result.1.scenario ≡ core.setup.scenario }
-    ensures run { IsRun Fixed core.setup.limit result.0 result.1 }
+    ensures run { IsRun core.setup.order core.setup.limit result.0 result.1 }
 {
     let end = core.finish();
+    // that a scenario is valid is said where its shape is read
+    let _shape = core.history().scenario().shape();
     (end, core.into_history())
 }

@@ -1,4 +1,6 @@
 //! Whole calls of the program in memory: what they write, and the statuses.
+mod threads;
+
 use crate::top::{Ended, calm_top};
 use aps_io::{CalmSink, CalmSource, MemSink, MemSource, Sink, Source};
 use aps_model::History;
@@ -28,17 +30,21 @@ fn bytes_of(alloc: Global, text: &str) -> Result<Vec<u8>, AllocError> {
     text.as_bytes().to_vec(alloc)
 }
 
+fn owned(alloc: Global, words: &[&str]) -> Result<Vec<String>, AllocError> {
+    let mut owned = Vec::new(alloc);
+    for word in words {
+        owned.push(word.to_string(alloc)?)?;
+    }
+    Ok(owned)
+}
+
 fn call<S: Source, K: Sink>(
     alloc: Global,
     words: &[&str],
     source: &mut S,
     sink: &mut K,
 ) -> Result<Ended, AllocError> {
-    let mut owned = Vec::new(alloc);
-    for word in words {
-        owned.push(word.to_string(alloc)?)?;
-    }
-    Ok(calm_top(alloc, &owned, source, sink))
+    Ok(calm_top(alloc, &owned(alloc, words)?, source, sink))
 }
 
 /// How a call with these words and this input ended, and what it wrote.
