@@ -3,6 +3,9 @@ pub mod Scan
 pub mod PickStep
 pub mod Numbers
 pub mod Frame
+pub mod Commands
+pub mod Rows
+pub mod Bankrupt
 pub mod StepParts
 pub mod Boot
 pub mod Waking

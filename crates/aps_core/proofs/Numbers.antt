@@ -1,5 +1,5 @@
 -- How far an operation and a wake raise places and stamps.
-use Rattle.std.proofs.Common.{◌≡◌, ◌≢◌, ℕ, zero, suc, ◌+◌, ◌<◌, ◌≤◌, List, [], ◌∷◌, length, refl, sym, ◌∙◌, ap, subst, cond, Bool, true, false, Option, Some, None, arith, inl, inr, slice_index_or, slice_set}
+use Rattle.std.proofs.Common.{◌≡◌, ℕ, zero, suc, ◌+◌, ◌≤◌, List, [], ◌∷◌, length, refl, sym, ◌∙◌, ap, subst, Option, Some, None, arith, inl, inr, slice_index_or, slice_set}
 use Rattle.std.proofs.lemmas.Bool.{cases_eq, cases_lt}
 use Rattle.std.proofs.lemmas.List.{set_past, get_or-set_same, get_or-set_other}
 use Rattle.aps_model.specs.declared.program.Op.{Op}
@@ -14,7 +14,7 @@ use Rattle.aps_model.specs.Operation.{enter, go_on, with_ready, with_stamped}
 use Rattle.aps_model.specs.Partition.{partition_named}
 use Rattle.aps_model.specs.Scenario.{Scenario, op_at}
 use Rattle.aps_model.specs.SchedulerState.{Message, SchedulerState, channel_at, no_thread, thread_at, with_state, with_thread}
-use Rattle.aps_model.specs.Step.{do_op, enter_next, finish_op}
+use Rattle.aps_model.specs.Step.{enter_next, finish_op}
 use Rattle.aps_core.specs.Room.{HasRoomToWake}
 
 -- the places of these threads are at most so far

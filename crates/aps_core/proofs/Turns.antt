@@ -1,16 +1,15 @@
 -- The step of a processor that has the turn.
 use Rattle.std.proofs.Common.{◌≡◌, ℕ, ◌<◌, ◌≤◌, List, [], ◌∷◌, ◌++◌, length, sym, ap, subst, None, All, arith}
 use Rattle.std.proofs.Math.Seq.{get_or-append_seam}
-use Rattle.std.proofs.lemmas.List.{get_or_default, length-append}
+use Rattle.std.proofs.lemmas.List.{length-append}
 use Rattle.aps_model.specs.declared.entry.Entry.{Entry}
 use Rattle.aps_model.specs.declared.entry.Order.{Order}
-use Rattle.aps_model.specs.declared.state.ThreadNow.{ThreadNow}
 use Rattle.aps_model.specs.After.{after, over, state_after}
 use Rattle.aps_model.specs.Due.{HasTurn, due, last_end}
 use Rattle.aps_model.specs.History.{IsEntry}
 use Rattle.aps_model.specs.Legal.{IsLegal}
 use Rattle.aps_model.specs.Scenario.{Scenario}
-use Rattle.aps_model.specs.SchedulerState.{SchedulerState, no_thread}
+use Rattle.aps_model.specs.SchedulerState.{SchedulerState}
 use Rattle.aps_model.specs.Shape.{horizon}
 use Rattle.aps_model.specs.Step.{step}
 use Rattle.aps_model.specs.Valid.{IsScenario}
@@ -20,8 +19,6 @@ use Rattle.aps_laws.proofs.Counts.{counts_law}
 use Rattle.aps_laws.proofs.Prefixes.{legal_more}
 use Rattle.aps_laws.proofs.SmallNumbers.{moments_small}
 use Rattle.aps_laws.proofs.Sound.{next_law, sound, sound_step_of}
-use Rattle.aps_laws.proofs.StampCounts.{few_stamps}
-use Rattle.aps_laws.proofs.ThreadFit.{fits_law}
 
 -- ---- what is small in each legal history
 

@@ -1,5 +1,5 @@
 -- The sleepers that wake at a moment, found in one pass over the threads and woken one after the other.
-use Rattle.std.proofs.Common.{◌≡◌, ℕ, ◌+◌, ◌<◌, List, [], ◌∷◌, ◌++◌, length, take, refl, sym, ◌∙◌, ap, Option, Some, None, Bool, true, false, cond, zero-add, get_or, arith}
+use Rattle.std.proofs.Common.{◌≡◌, ℕ, ◌+◌, ◌<◌, List, [], ◌∷◌, length, take, refl, ◌∙◌, ap, Option, Some, None, Bool, true, false, cond, zero-add, get_or, arith}
 use Rattle.std.specs.List.{filter_map, fold, range_with_len}
 use Rattle.std.proofs.lemmas.List.{take_more}
 use Rattle.std.proofs.lemmas.List.Elements.{filter_map-append}

@@ -1,4 +1,4 @@
-use Rattle.std.specs.Prelude.{ℕ, ◌+◌, ◌<◌, ◌≤◌, ◌^◌, length}
+use Rattle.std.specs.Prelude.{ℕ, ◌<◌, ◌≤◌, length}
 use Rattle.aps_model.specs.SchedulerState.{SchedulerState, channel_at, thread_at}
 
 -- the numbers that one wake more raises have room

@@ -4,6 +4,7 @@ ghost use Rattle.aps_model.specs.History.{IsEntry};
 ghost use Rattle.aps_model.specs.Shape.{horizon};
 ghost use Rattle.aps_core.specs.Rising.{IsRising};
 
+mod bankruptcy;
 mod bill;
 mod channel;
 mod commands;
@@ -187,8 +188,11 @@ impl Machine {
         let e = bill::bill_of(cpu, from, now, &running);
         self.bill(&e, &running);
         let reboot = self.test(entries, &e);
-        if reboot.is_some() || now == self.horizon() {
+        if reboot.is_some() {
             return (e, reboot);
+        }
+        if now == self.horizon() {
+            return (e, None);
         }
         let done = self.settle(scenario, now, &running);
         let count = self.tree.count() as usize;

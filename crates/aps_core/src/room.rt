@@ -22,7 +22,7 @@ pub fn insert_at<T: Drop>(items: &mut Vec<T>, place: usize, item: T)
 
 /// Appends a reply. There is room for it.
 pub fn push_reply(replies: &mut Vec<Reply>, reply: Reply)
-    requires room { vec_len replies.old < vec_capacity replies.old }
+    requires room { length replies.old.items < vec_capacity replies.old }
     ensures items { replies.new.items ≡ replies.old.items ++ reply ∷ [] }
     ensures room { vec_capacity replies.new ≡ vec_capacity replies.old }
 {
@@ -51,7 +51,7 @@ pub fn push_reply(replies: &mut Vec<Reply>, reply: Reply)
 
 /// Appends a change. There is room for it.
 pub fn push_change(changes: &mut Vec<Change>, change: Change)
-    requires room { vec_len changes.old < vec_capacity changes.old }
+    requires room { length changes.old.items < vec_capacity changes.old }
     ensures items { changes.new.items ≡ changes.old.items ++ change ∷ [] }
     ensures room { vec_capacity changes.new ≡ vec_capacity changes.old }
 {

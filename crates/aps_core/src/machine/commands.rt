@@ -5,7 +5,7 @@ ghost use Rattle.aps_model.specs.History.{IsEntry};
 ghost use Rattle.aps_model.specs.Shape.{IsShape};
 ghost use Rattle.aps_model.specs.TickWork.{do_command, do_commands, thread_named, thread_view, view_of, with_mark};
 ghost use Rattle.aps_model.specs.Usage.{window_used, window_critical};
-ghost use Rattle.aps_model.specs.Valid.{IsCall};
+ghost use Rattle.aps_core.specs.Calls.{IsInRange};
 ghost use Rattle.aps_core.specs.Rising.{IsRising};
 
 use super::Machine;
@@ -107,7 +107,7 @@ impl Machine {
         requires rising { IsRising entries.now }
         requires few { length entries.now ≤ 4000000 }
         requires tick { tick ≤ 1000000 }
-        requires call { IsCall self.old.shape.parts (length self.old.threads) row.now.call }
+        requires call { IsInRange row.now.call }
         requires replies { length self.old.replies < 1024 }
         requires changes { length (do_command entries.now tick self.old (place, row.now)).changes ≤ 2079 }
         ensures { self.new ≡ do_command entries.now tick self.old (place, row.now) }
@@ -125,6 +125,25 @@ impl Machine {
         if let Some(kind) = change {
             let tick = tick as u32;
             push_change(&mut self.changes, Change { tick, kind });
+        }
+    }
+
+    /// Does the commands of a tick, in order of the scenario.
+    pub fn do_commands(&mut self, scenario: &Scenario, entries: &[Entry], tick: u64)
+        requires entries { All IsEntry entries.now }
+        requires rising { IsRising entries.now }
+        requires few { length entries.now ≤ 4000000 }
+        requires tick { tick ≤ 1000000 }
+        requires replies { length (do_commands scenario.now entries.now tick self.old).replies ≤ 1024 }
+        requires changes { length (do_commands scenario.now entries.now tick self.old).changes ≤ 2079 }
+        ensures { self.new ≡ do_commands scenario.now entries.now tick self.old }
+    {
+        let commands = scenario.commands();
+        for i in 0..commands.len() {
+            let row = &commands[i];
+            if u64::from(row.tick) == tick {
+                self.do_command(entries, tick, i as u16, row);
+            }
         }
     }
 }

@@ -3,7 +3,6 @@ ghost use Rattle.std.specs.Prelude.{◌≡◌, ◌<◌, ◌≤◌, ◌∷◌, le
 ghost use Rattle.aps_model.specs.Name.{IsName};
 ghost use lib.Chars.{codes};
 ghost use Rattle.aps_core.specs.Given.{Endless as EndlessOf, is_given, letters, rows_from, row_of, threads_from};
-ghost use Rattle.aps_core.specs.Plain.{IsPlainScenario};
 
 use aps_model::{Name, Op, PartitionId, PartitionRow, Policy, Program, Scenario, Shape, ThreadRow};
 use std::alloc::Global;
@@ -22,7 +21,6 @@ pub fn given(
     threads: &[Endless],
 ) -> Result<Scenario, Fail>
     requires { IsTrue (is_given shape root budgets.now threads.now) }
-    ensures plain { IfOk result IsPlainScenario }
     ensures shape { IfOk result (λ s. s.shape ≡ shape) }
 {
     let partitions = partitions(alloc, root, budgets)?;
