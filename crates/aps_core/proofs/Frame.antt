@@ -1,5 +1,5 @@
--- What the work of a tick without commands, the bill and the operation leave as it was.
-use Rattle.std.proofs.Common.{◌≡◌, ℕ, zero, suc, ◌-◌, ◌/◌, List, [], ◌∷◌, refl, sym, ◌∙◌, ap, cond, Bool, true, false, Option, Some, None, length-set, subst}
+-- What the wakes, the bill and the operation leave as it was.
+use Rattle.std.proofs.Common.{◌≡◌, ℕ, zero, suc, ◌-◌, ◌/◌, List, [], ◌∷◌, length, refl, sym, ◌∙◌, ap, cond, Bool, true, false, Option, Some, None, length-set, slice_set, subst}
 use Rattle.std.specs.List.{enumerate_from, filter, fold}
 use Rattle.std.specs.Prelude.{nat_eq}
 use Rattle.aps_model.specs.declared.command.CommandRow.{CommandRow}
@@ -23,9 +23,9 @@ use Rattle.aps_model.specs.Scenario.{Scenario, op_at, thread_row}
 use Rattle.aps_model.specs.SchedulerState.{Message, SchedulerState, channel_at, cpu_at, thread_at, with_cpu, with_state, with_thread}
 use Rattle.aps_model.specs.Step.{begun, billed, chosen, enter_next, finish_op, give_back, settled}
 use Rattle.aps_model.specs.TickWork.{do_command, do_commands, has_tick_work, tick_work, wake_all, waking}
-use Rattle.aps_core.specs.Plain.{IsKept}
+use Rattle.aps_core.specs.Kept.{IsKept}
 
-kept_self : (s : SchedulerState) → IsKept s s
+pub kept_self : (s : SchedulerState) → IsKept s s
 kept_self s = record { rows = refl; shape = refl; threads = refl; cpus = refl; replies = refl; changes = refl }
 
 pub kept_then : {s t u : SchedulerState} → IsKept s t → IsKept t u → IsKept s u
@@ -62,33 +62,23 @@ all_woken_kept : (scenario : Scenario) (now : ℕ) (sleepers : List (ℕ × ℕ)
 all_woken_kept scenario now [] s = kept_self s
 all_woken_kept scenario now (z ∷ zs) s = kept_then (woken_kept scenario s z.1 now) (all_woken_kept scenario now zs (go_on scenario s z.1 now))
 
--- without commands
-no_commands : (scenario : Scenario) (h : List Entry) (j : ℕ) (s : SchedulerState) → scenario.commands ≡ [] → do_commands scenario h j s ≡ s
-no_commands scenario h j s empty =
-    ap (λ cs. fold (do_command h j) s (filter (λ (c : ℕ × CommandRow). nat_eq c.1.tick j) (enumerate_from 0 cs))) empty
+pub wake_kept : (scenario : Scenario) (now : ℕ) (s : SchedulerState) → IsKept s (wake_all scenario now s)
+wake_kept scenario now s = all_woken_kept scenario now (waking s now) s
 
-tick_kept : (scenario : Scenario) (s : SchedulerState) (h : List Entry) (now : ℕ) → scenario.commands ≡ [] → IsKept s (tick_work scenario s h now)
-tick_kept scenario s h now empty = by_test (has_tick_work s h now)
-  where
-    by_test : (t : Bool) → IsKept s (elim t as (λ _. SchedulerState) [ true ↦ wake_all scenario now (do_commands scenario h (now / s.shape.tick) s) | false ↦ s ])
-    by_test true = rw (no_commands scenario h (now / s.shape.tick) s empty) (all_woken_kept scenario now (waking s now) s)
-    by_test false = kept_self s
+-- where the tick begins with this step
+pub ticked : (scenario : Scenario) (s : SchedulerState) (h : List Entry) (now : ℕ) → has_tick_work s h now ≡ true → tick_work scenario s h now ≡ wake_all scenario now (do_commands scenario h (now / s.shape.tick) s)
+ticked scenario s h now works =
+    ap (λ t. elim t as (λ _. SchedulerState) [ true ↦ wake_all scenario now (do_commands scenario h (now / s.shape.tick) s) | false ↦ s ]) works
+
+pub unticked : (scenario : Scenario) (s : SchedulerState) (h : List Entry) (now : ℕ) → has_tick_work s h now ≡ false → tick_work scenario s h now ≡ s
+unticked scenario s h now idle =
+    ap (λ t. elim t as (λ _. SchedulerState) [ true ↦ wake_all scenario now (do_commands scenario h (now / s.shape.tick) s) | false ↦ s ]) idle
 
 -- ---- the bill
 
-unflagged_kept : (s : SchedulerState) (c : ℕ) → IsKept s (with_cpu s c (record (cpu_at s c) { flag = None }))
-unflagged_kept s c = record { rows = refl; shape = refl; threads = refl; cpus = length-set s.cpus c _; replies = refl; changes = refl }
-
-spent_kept : (s : SchedulerState) (ns : ℕ) (running : Option Pick) → IsKept s (spend s ns running)
+pub spent_kept : (s : SchedulerState) (ns : ℕ) (running : Option Pick) → IsKept s (spend s ns running)
 spent_kept s ns None = kept_self s
 spent_kept s ns (Some pick) = thread_kept s pick.thread _
-
--- the parts of a step before the operation
-pub billed_kept : (scenario : Scenario) (s : SchedulerState) (h : List Entry) (c now : ℕ) (e : Entry) (running : Option Pick) (t : SchedulerState)
-    → scenario.commands ≡ [] → t ≡ billed (begun scenario s h c now) e running → IsKept s t
-billed_kept scenario s h c now e running t empty same =
-    subst (IsKept s) (sym same)
-    (kept_then (kept_then (unflagged_kept s c) (tick_kept scenario (with_cpu s c (record (cpu_at s c) { flag = None })) h now empty)) (spent_kept (begun scenario s h c now) (e.to - e.from) running))
 
 -- ---- the operation
 
@@ -174,3 +164,19 @@ chosen_kept s parts c (Some b) = record { rows = refl; shape = refl; threads = l
 pub flagged_kept : (s : SchedulerState) (now : ℕ) (o : Option ℕ) → IsKept s (with_flag s now o)
 flagged_kept s now None = kept_self s
 flagged_kept s now (Some d) = record { rows = refl; shape = refl; threads = refl; cpus = length-set s.cpus d _; replies = refl; changes = refl }
+
+-- where the tick begins, its commands leave no more replies and changes than its work
+pub record HasFewDone (t u : SchedulerState) : Type 0 where
+  pub replies : length u.replies ≡ length t.replies
+  pub changes : length u.changes ≡ length t.changes
+
+pub ticked_lists : (scenario : Scenario) (s : SchedulerState) (h : List Entry) (now tick : ℕ) → has_tick_work s h now ≡ true → tick ≡ now / s.shape.tick
+    → HasFewDone (tick_work scenario s h now) (do_commands scenario h tick s)
+ticked_lists scenario s h now tick works at =
+    let mid = do_commands scenario h (now / s.shape.tick) s in
+    let kept = wake_kept scenario now mid in
+    let whole = ticked scenario s h now works in
+    record {
+      replies = ap (λ j. length (do_commands scenario h j s).replies) at ∙ sym (ap length kept.replies) ∙ ap (λ (u : SchedulerState). length u.replies) (sym whole);
+      changes = ap (λ j. length (do_commands scenario h j s).changes) at ∙ sym (ap length kept.changes) ∙ ap (λ (u : SchedulerState). length u.changes) (sym whole);
+    }

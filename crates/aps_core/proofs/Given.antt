@@ -12,7 +12,6 @@ use Rattle.std.proofs.lemmas.Slice.Eq.{bytes_eq-Decides}
 use Rattle.aps_model.specs.declared.partition.PartitionRow.{PartitionRow}
 use Rattle.aps_model.specs.declared.program.Op.TheVariants.{Forever}
 use Rattle.aps_model.specs.declared.scenario.ThreadRow.{ThreadRow}
-use Rattle.aps_model.specs.declared.shape.Bankruptcy.TheVariants.{Basic}
 use Rattle.aps_model.specs.declared.shape.Shape.{Shape}
 use Rattle.aps_model.specs.Name.{IsName, is_name_byte}
 use Rattle.aps_model.specs.Partition.{IsFundedRow, no_row, row_or_none}
@@ -20,7 +19,6 @@ use Rattle.aps_model.specs.Program.{IsOp}
 use Rattle.aps_model.specs.Shape.{IsShape}
 use Rattle.aps_model.specs.Valid.{IsCommand, IsScenario, IsThreadRow, IsTree, is_within, joinable, subtree_budget}
 use Rattle.aps_core.specs.Given.{Endless, is_endless, is_given, is_shape, letters, row_of, rows_from, scenario_of, thread_of, threads_from}
-use Rattle.aps_core.specs.Plain.{IsPlainScenario}
 
 -- ---- names
 
@@ -262,9 +260,6 @@ threads_count i [] = refl
 threads_count i (t ∷ threads) = ap suc (threads_count (i + 1) threads)
 
 -- ---- the whole
-
-pub scenario_plain : (shape : Shape) (root : ℕ) (budgets : List ℕ) (threads : List Endless) → shape.bankruptcy ≡ Basic → IsPlainScenario (scenario_of shape root budgets threads)
-scenario_plain shape root budgets threads basic = record { commands = refl; basic = basic }
 
 pub scenario_valid : (shape : Shape) (root : ℕ) (budgets : List ℕ) (threads : List Endless) → IsGiven shape root budgets threads → IsScenario (scenario_of shape root budgets threads)
 unfolding given_rows IsDistinct

@@ -8,25 +8,29 @@ use Rattle.aps_model.specs.declared.entry.End.TheVariants.{Limit}
 use Rattle.aps_model.specs.declared.entry.Entry.{Entry}
 use Rattle.aps_model.specs.declared.entry.Order.{Order}
 use Rattle.aps_model.specs.declared.merit.PartFacts.{PartFacts}
-use Rattle.aps_model.specs.declared.shape.Bankruptcy.TheVariants.{Basic}
 use Rattle.aps_model.specs.declared.shape.Shape.{Shape}
-use Rattle.aps_model.specs.After.{After, after, at_start, end_of, left_by, or_limit, over, over_by, stands_at}
+use Rattle.aps_model.specs.After.{After, after, at_start, end_of, left_by, or_limit, over, over_by, stands_at, state_after}
 use Rattle.aps_model.specs.declared.entry.Order.TheVariants.{Fixed, Free}
 use Rattle.aps_model.specs.Due.{HasTurn, due, first_due, last_to}
 use Rattle.aps_model.specs.History.{History, IsEntry}
+use Rattle.aps_model.specs.Legal.{IsLegal}
 use Rattle.aps_model.specs.Opening.{opening}
-use Rattle.aps_model.specs.Recorded.{recorded_from}
+use Rattle.aps_model.specs.Recorded.{recorded, recorded_from}
 use Rattle.aps_model.specs.Scenario.{Scenario}
 use Rattle.aps_model.specs.SchedulerState.{SchedulerState}
 use Rattle.aps_model.specs.Shape.{horizon}
 use Rattle.aps_model.specs.Step.{Step, step}
+use Rattle.aps_model.specs.Valid.{IsScenario}
 use Rattle.aps_model.proofs.AfterLaws.{IsLegal-append, after-append, after_none, legal_none}
+use Rattle.aps_laws.proofs.ChangeLaws.{only_grow, room}
 use Rattle.aps_laws.proofs.Counts.{counts_law}
+use Rattle.aps_laws.proofs.ReplyLaws.{few_answered}
+use Rattle.aps_laws.proofs.RowLaws.{in_order, in_range, rows_stay}
 use Rattle.aps_laws.proofs.Turns.{any_turn, one_turn}
 use Rattle.aps_laws.proofs.WaitFacts.{test_eq, test_ne}
 use Rattle.aps_laws.specs.Runs.{EndsNoSooner}
 use Rattle.aps_core.specs.Core.{IsCore, IsSetup, IsUnderWay}
-use Rattle.aps_core.specs.Plain.{IsKept}
+use Rattle.aps_core.specs.CanRecord.{CanRecord}
 use Rattle.aps_core.specs.Run.{Run, Setup, end_of_run, history_of, rooms_of, state_of, with_last}
 use Rattle.aps_core.specs.Turn.{HasTurnIn, with_entry}
 use Rattle.aps_core.specs.Ready.{IsReady}
@@ -68,9 +72,9 @@ nothing_before (x ∷ before) later e same = cc
 
 pub begun_core : (setup : Setup) (kept : History) (state : SchedulerState) (parts : List PartFacts) → IsSetup setup
     → kept ≡ record { scenario = setup.scenario; entries = []; replies = []; changes = []; rows = setup.scenario.partitions; shape = setup.scenario.shape; end = None; room = rooms_of setup }
-    → state ≡ opening setup.scenario → length parts ≡ length setup.scenario.partitions
+    → state ≡ opening setup.scenario → length parts ≡ 32
     → IsCore (record { setup = setup; entries = [] }) kept state parts
-begun_core setup kept state parts s kept_is state_is one_each =
+begun_core setup kept state parts s kept_is state_is room =
     let run : Run = record { setup = setup; entries = [] } in
     let start = after_none setup.scenario in
     let ended : or_limit (over (at_start setup.scenario) []) setup.limit 0 ≡ None = starts setup s in
@@ -80,15 +84,13 @@ begun_core setup kept state parts s kept_is state_is one_each =
         legal = legal_none setup.scenario setup.order;
         no_sooner = λ before later e same. absurd (nothing_before before later e same);
         fits = omega arith;
-        calm = ap (λ (a : After). a.reboot) start;
-        shape = ap (λ (a : After). a.state.shape) start;
       };
       recorded =
           kept_is
           ∙ ap (λ (o : Option End). record { scenario = setup.scenario; entries = []; replies = []; changes = []; rows = setup.scenario.partitions; shape = setup.scenario.shape; end = o; room = rooms_of setup }) (sym ended)
           ∙ ap (recorded_from setup.scenario setup.limit (rooms_of setup) []) (sym start);
       machine = state_is ∙ sym (ap (λ (a : After). a.state) start);
-      one_each = one_each ∙ sym (ap (λ (t : SchedulerState). length t.rows) state_is);
+      room = room;
     }
 
 -- ---- what the core's parts have at a step
@@ -109,11 +111,6 @@ pub ready_in : (run : Run) (kept : History) (state : SchedulerState) (parts : Li
 ready_in run kept state parts c core goes_on turn =
     subst (λ s. IsReady run.setup.scenario s run.entries c) (sym core.machine)
     (ready run.setup.scenario run.setup.order run.entries c core.keeps.setup.valid core.keeps.legal (omega (arith, core.keeps.fits, core.keeps.setup.few)) (not_over run goes_on) turn)
-
--- nothing follows a bankruptcy, as at the start
-pub basic_in : (run : Run) (kept : History) (state : SchedulerState) (parts : List PartFacts) → IsCore run kept state parts → state.shape.bankruptcy ≡ Basic
-basic_in run kept state parts core =
-    ap (λ (t : SchedulerState). t.shape.bankruptcy) core.machine ∙ ap (λ (shape : Shape). shape.bankruptcy) core.keeps.shape ∙ core.keeps.setup.plain.basic
 
 -- ---- one entry more
 
@@ -150,56 +147,87 @@ no_sooner_more run e first goes_on before later x same =
 pub length_more : (h : List Entry) (e : Entry) → length (h ++ e ∷ []) ≡ length h + 1
 length_more h e = length-append h (e ∷ [])
 
--- the entry of the step, the state that it leaves, and the history with both
-pub record IsMore (run : Run) (kept : History) (state : SchedulerState) (c : ℕ) (e : Entry) (kept' : History) (state' : SchedulerState) : Type 0 where
-  pub steps : step run.setup.scenario state run.entries c ≡ record { entry = e; state = state'; reboot = None }
-  pub same : IsKept state state'
-  pub added : kept' ≡ with_last kept run.setup.limit state' e
+-- the entry of the step, what it leaves, and the history with both
+pub record IsMore (run : Run) (kept : History) (state : SchedulerState) (c : ℕ) (e : Entry) (kept' : History) (left : After) : Type 0 where
+  pub steps : step run.setup.scenario state run.entries c ≡ record { entry = e; state = left.state; reboot = left.reboot }
+  pub added : kept' ≡ with_last kept run.setup.limit left.reboot left.state e
 
-left_more : (run : Run) (kept : History) (state : SchedulerState) (parts : List PartFacts) (c : ℕ) (e : Entry) (kept' : History) (state' : SchedulerState) → IsCore run kept state parts → e.cpu ≡ c
-    → IsMore run kept state c e kept' state' → after run.setup.scenario (run.entries ++ e ∷ []) ≡ record { state = state'; reboot = None }
-left_more run kept state parts c e kept' state' core own m =
-    after-append run.setup.scenario run.entries e
-    ∙ ap (λ s. left_by (step run.setup.scenario s run.entries e.cpu)) (sym core.machine)
-    ∙ ap (λ d. left_by (step run.setup.scenario state run.entries d)) own
-    ∙ ap left_by m.steps
-
-pub own_entry : (run : Run) (kept : History) (state : SchedulerState) (parts : List PartFacts) (c : ℕ) (e : Entry) (state' : SchedulerState) → IsCore run kept state parts → end_of_run run ≡ None → HasTurnIn run c
-    → step run.setup.scenario state run.entries c ≡ record { entry = e; state = state'; reboot = None } → e.cpu ≡ c
-own_entry run kept state parts c e state' core goes_on turn steps =
+pub own_entry : (run : Run) (kept : History) (state : SchedulerState) (parts : List PartFacts) (c : ℕ) (e : Entry) (left : After) → IsCore run kept state parts → end_of_run run ≡ None → HasTurnIn run c
+    → step run.setup.scenario state run.entries c ≡ record { entry = e; state = left.state; reboot = left.reboot } → e.cpu ≡ c
+own_entry run kept state parts c e left core goes_on turn steps =
     sym (ap (λ (out : Step). out.entry.cpu) steps) ∙ (due_in run kept state parts c core goes_on turn).own
 
--- rows, shape, replies and changes stay
-last_recorded : (run : Run) (kept : History) (state : SchedulerState) (parts : List PartFacts) (state' : SchedulerState) (e : Entry) → IsCore run kept state parts → IsKept state state'
-    → with_last (history_of run) run.setup.limit state' e ≡ recorded_from run.setup.scenario run.setup.limit (rooms_of run.setup) (run.entries ++ e ∷ []) (record { state = state'; reboot = None })
-last_recorded run kept state parts state' e core same = rw (same.replies, same.changes, same.rows, same.shape, core.machine) refl
+-- the history with it is legal, and leaves what the step left
+pub record IsOneMore (run : Run) (e : Entry) (left : After) : Type 0 where
+  pub legal : IsLegal run.setup.scenario run.setup.order (run.entries ++ e ∷ [])
+  pub leaves : after run.setup.scenario (run.entries ++ e ∷ []) ≡ left
 
-core_more : (run : Run) (kept : History) (state : SchedulerState) (parts : List PartFacts) (c : ℕ) (e : Entry) (kept' : History) (state' : SchedulerState) (parts' : List PartFacts)
-    → IsCore run kept state parts → end_of_run run ≡ None → HasTurnIn run c → IsMore run kept state c e kept' state' → length parts' ≡ length parts
-    → IsCore (with_entry run e) kept' state' parts'
-core_more run kept state parts c e kept' state' parts' core goes_on turn m count =
-    let own = own_entry run kept state parts c e state' core goes_on turn m.steps in
-    let left = left_more run kept state parts c e kept' state' core own m in
+pub one_more : (run : Run) (kept : History) (state : SchedulerState) (parts : List PartFacts) (c : ℕ) (e : Entry) (left : After) → IsCore run kept state parts → end_of_run run ≡ None → HasTurnIn run c
+    → step run.setup.scenario state run.entries c ≡ record { entry = e; state = left.state; reboot = left.reboot } → IsOneMore run e left
+one_more run kept state parts c e left core goes_on turn steps =
+    let own = own_entry run kept state parts c e left core goes_on turn steps in
     let scenario = run.setup.scenario in
     let s = state_of run in
     let at : (step scenario s run.entries e.cpu).entry ≡ e =
-    ap (λ d. (step scenario s run.entries d).entry) own ∙ ap (λ t. (step scenario t run.entries c).entry) (sym core.machine) ∙ ap (λ (out : Step). out.entry) m.steps in
+    ap (λ d. (step scenario s run.entries d).entry) own ∙ ap (λ t. (step scenario t run.entries c).entry) (sym core.machine) ∙ ap (λ (out : Step). out.entry) steps in
+    record {
+      legal = IsLegal-append scenario run.setup.order run.entries e core.keeps.legal (not_over run goes_on) (subst (HasTurnIn run) (sym own) turn) (sym at);
+      leaves =
+          after-append scenario run.entries e
+          ∙ ap (λ t. left_by (step scenario t run.entries e.cpu)) (sym core.machine)
+          ∙ ap (λ d. left_by (step scenario state run.entries d)) own
+          ∙ ap left_by steps;
+    }
+
+core_more : (run : Run) (kept : History) (state : SchedulerState) (parts : List PartFacts) (c : ℕ) (e : Entry) (kept' : History) (left : After) (parts' : List PartFacts)
+    → IsCore run kept state parts → end_of_run run ≡ None → HasTurnIn run c → IsMore run kept state c e kept' left → length parts' ≡ length parts
+    → IsCore (with_entry run e) kept' left.state parts'
+core_more run kept state parts c e kept' left parts' core goes_on turn m count =
+    let more = one_more run kept state parts c e left core goes_on turn m.steps in
+    let scenario = run.setup.scenario in
     record {
       keeps = record {
         setup = core.keeps.setup;
-        legal = IsLegal-append scenario run.setup.order run.entries e core.keeps.legal (not_over run goes_on) (subst (HasTurnIn run) (sym own) turn) (sym at);
+        legal = more.legal;
         no_sooner = no_sooner_more run e core.keeps.no_sooner goes_on;
         fits = omega (arith, length_more run.entries e, below_limit run core.keeps goes_on);
-        calm = ap (λ (a : After). a.reboot) left;
-        shape = ap (λ (a : After). a.state.shape) left ∙ m.same.shape ∙ ap (λ (t : SchedulerState). t.shape) core.machine ∙ core.keeps.shape;
       };
-      recorded = m.added
-          ∙ ap (λ (k : History). with_last k run.setup.limit state' e) core.recorded
-          ∙ last_recorded run kept state parts state' e core m.same
-          ∙ ap (recorded_from scenario run.setup.limit (rooms_of run.setup) (run.entries ++ e ∷ [])) (sym left);
-      machine = sym (ap (λ (a : After). a.state) left);
-      one_each = count ∙ core.one_each ∙ ap length (sym m.same.rows);
+      recorded =
+          m.added
+          ∙ ap (λ (k : History). with_last k run.setup.limit left.reboot left.state e) core.recorded
+          ∙ ap (recorded_from scenario run.setup.limit (rooms_of run.setup) (run.entries ++ e ∷ [])) (sym more.leaves);
+      machine = sym (ap (λ (a : After). a.state) more.leaves);
+      room = count ∙ core.room;
     }
+
+-- ---- what the history takes over
+
+-- from a state to the one after one entry more
+can_record : (scenario : Scenario) (order : Order) (h : List Entry) (e : Entry) (limit : ℕ) → IsScenario scenario → IsLegal scenario order (h ++ e ∷ [])
+    → CanRecord (recorded scenario limit (rooms_of (record { scenario = scenario; order = order; limit = limit })) h) (state_after scenario (h ++ e ∷ []))
+can_record scenario order h e limit valid legal =
+    let grow = only_grow scenario order h (e ∷ []) valid legal in
+    let order' = in_order scenario order (h ++ e ∷ []) valid legal in
+    let replies = few_answered scenario order (h ++ e ∷ []) valid legal in
+    let changes = room scenario order (h ++ e ∷ []) valid legal in
+    record {
+      replies = grow.replies;
+      changes = grow.changes;
+      reply_room = replies;
+      change_room = omega (arith, changes, replies);
+      no_fewer = (rows_stay scenario order h (e ∷ []) valid legal).count;
+      few_rows = order'.named.few;
+      rows = in_range scenario order (h ++ e ∷ []) valid legal;
+      shape = order'.shape;
+    }
+
+pub can_record_in : (run : Run) (kept : History) (state : SchedulerState) (parts : List PartFacts) (c : ℕ) (e : Entry) (left : After) → IsCore run kept state parts → end_of_run run ≡ None → HasTurnIn run c
+    → step run.setup.scenario state run.entries c ≡ record { entry = e; state = left.state; reboot = left.reboot } → CanRecord kept left.state
+can_record_in run kept state parts c e left core goes_on turn steps =
+    let more = one_more run kept state parts c e left core goes_on turn steps in
+    subst (λ (k : History). CanRecord k left.state) (sym core.recorded)
+    (subst (λ (a : After). CanRecord (history_of run) a.state) more.leaves
+    (can_record run.setup.scenario run.setup.order run.entries e run.setup.limit core.keeps.setup.valid more.legal))
 
 -- ---- turns
 
@@ -231,9 +259,9 @@ free_turn run c first r free lt lowest same = record {
     other e = cc
 
 -- the moments of the entry
-pub entry_fits : (run : Run) (kept : History) (state : SchedulerState) (parts : List PartFacts) (c : ℕ) (e : Entry) (state' : SchedulerState) → IsCore run kept state parts → end_of_run run ≡ None → HasTurnIn run c
-    → step run.setup.scenario state run.entries c ≡ record { entry = e; state = state'; reboot = None } → IsEntry e
-entry_fits run kept state parts c e state' core goes_on turn steps =
+pub entry_fits : (run : Run) (kept : History) (state : SchedulerState) (parts : List PartFacts) (c : ℕ) (e : Entry) (left : After) → IsCore run kept state parts → end_of_run run ≡ None → HasTurnIn run c
+    → step run.setup.scenario state run.entries c ≡ record { entry = e; state = left.state; reboot = left.reboot } → IsEntry e
+entry_fits run kept state parts c e left core goes_on turn steps =
     subst (λ (out : Step). IsEntry out.entry) steps (due_in run kept state parts c core goes_on turn).fits
 
 pub same_number : (a b : ℕ) → nat_eq a b ≡ true → a ≡ b
@@ -245,13 +273,14 @@ step_read scenario scenario' state h h' c out e f steps =
     ap (λ z. step z state h c) (sym e) ∙ ap (λ z. step scenario' state z c) (sym f) ∙ steps
 
 -- the same core, whose run is read from its history
-pub core_kept : (run : Run) (kept : History) (state : SchedulerState) (parts : List PartFacts) (c : ℕ) (e : Entry) (kept' : History) (state' : SchedulerState) (parts' : List PartFacts)
-    → IsCore run kept state parts → end_of_run run ≡ None → HasTurnIn run c → IsMore run kept state c e kept' state' → length parts' ≡ length parts
-    → IsCore (record { setup = record run.setup { scenario = kept'.scenario }; entries = kept'.entries }) kept' state' parts'
-core_kept run kept state parts c e kept' state' parts' core goes_on turn m count =
-    let scenario : kept'.scenario ≡ run.setup.scenario = ap (λ (k : History). k.scenario) (m.added ∙ ap (λ (k : History). with_last k run.setup.limit state' e) core.recorded) in
-    let entries : kept'.entries ≡ run.entries ++ e ∷ [] = ap (λ (k : History). k.entries) (m.added ∙ ap (λ (k : History). with_last k run.setup.limit state' e) core.recorded) in
+pub core_kept : (run : Run) (kept : History) (state : SchedulerState) (parts : List PartFacts) (c : ℕ) (e : Entry) (kept' : History) (left : After) (parts' : List PartFacts)
+    → IsCore run kept state parts → end_of_run run ≡ None → HasTurnIn run c → IsMore run kept state c e kept' left → length parts' ≡ length parts
+    → IsCore (record { setup = record run.setup { scenario = kept'.scenario }; entries = kept'.entries }) kept' left.state parts'
+core_kept run kept state parts c e kept' left parts' core goes_on turn m count =
+    let added = m.added ∙ ap (λ (k : History). with_last k run.setup.limit left.reboot left.state e) core.recorded in
+    let scenario : kept'.scenario ≡ run.setup.scenario = ap (λ (k : History). k.scenario) added in
+    let entries : kept'.entries ≡ run.entries ++ e ∷ [] = ap (λ (k : History). k.entries) added in
     let same : with_entry run e ≡ record { setup = record run.setup { scenario = kept'.scenario }; entries = kept'.entries } =
     ap (λ z. record { setup = record run.setup { scenario = z }; entries = run.entries ++ e ∷ [] }) (sym scenario)
     ∙ ap (λ z. record { setup = record run.setup { scenario = kept'.scenario }; entries = z }) (sym entries) in
-    subst (λ r. IsCore r kept' state' parts') same (core_more run kept state parts c e kept' state' parts' core goes_on turn m count)
+    subst (λ r. IsCore r kept' left.state parts') same (core_more run kept state parts c e kept' left parts' core goes_on turn m count)

@@ -3,12 +3,16 @@ pub mod Scan
 pub mod PickStep
 pub mod Numbers
 pub mod Frame
+pub mod Commands
+pub mod Rows
+pub mod Bankrupt
 pub mod StepParts
 pub mod Boot
 pub mod Waking
 pub mod Turns
 pub mod Waiters
 pub mod Ready
+pub mod Taken
 pub mod Kept
 pub mod Finish
 pub mod Recent

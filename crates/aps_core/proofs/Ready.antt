@@ -1,28 +1,41 @@
 -- What a step rests on holds of the step of a processor that has the turn.
-use Rattle.std.proofs.Common.{◌≡◌, ℕ, ◌≤◌, List, length, ap, None, slice_index_or, arith, inl, inr}
+use Rattle.std.proofs.Common.{◌≡◌, ℕ, ◌+◌, ◌-◌, ◌/◌, ◌<◌, ◌≤◌, List, [], ◌∷◌, ◌++◌, length, sym, ◌∙◌, ap, subst, cond, Bool, true, false, nat_eq, Option, Some, None, slice_index_or, arith, inl, inr}
 use Rattle.std.proofs.lemmas.Bool.{cases_lt}
-use Rattle.std.proofs.lemmas.List.{get_or_past}
+use Rattle.std.proofs.lemmas.List.{get_or_past, length-append}
 use Rattle.aps_model.specs.declared.entry.Entry.{Entry}
 use Rattle.aps_model.specs.declared.entry.Order.{Order}
+use Rattle.aps_model.specs.declared.state.Pick.{Pick}
 use Rattle.aps_model.specs.declared.state.State.TheVariants.{Running}
 use Rattle.aps_model.specs.declared.state.ThreadNow.{ThreadNow}
-use Rattle.aps_model.specs.After.{after, over, state_after}
+use Rattle.aps_model.specs.declared.command.ChangeKind.TheVariants.{Cancelled}
+use Rattle.aps_model.specs.After.{After, after, over, state_after}
+use Rattle.aps_model.specs.Bill.{Tested}
 use Rattle.aps_model.specs.Due.{HasTurn, due}
 use Rattle.aps_model.specs.Legal.{IsLegal}
 use Rattle.aps_model.specs.Scenario.{Scenario}
-use Rattle.aps_model.specs.SchedulerState.{SchedulerState, no_thread}
+use Rattle.aps_model.specs.Shape.{horizon}
+use Rattle.aps_model.specs.Step.{Step, billed, pick, settled, step, tested, unless_rebooted}
+use Rattle.aps_model.specs.Tree.{rows_cancelled}
+use Rattle.aps_model.specs.SchedulerState.{SchedulerState, cpu_at, no_thread, row_at, thread_at}
 use Rattle.aps_model.specs.Valid.{IsScenario}
-use Rattle.aps_laws.specs.Between.{IsWellFormed, after_bill, after_tick}
+use Rattle.aps_model.proofs.AfterLaws.{after-append}
+use Rattle.aps_laws.specs.Between.{IsWellFormed, after_bill, after_tick, before_pick, bill_in}
 use Rattle.aps_laws.specs.ThreadFits.{Each, IsThreadFit}
 use Rattle.aps_laws.specs.Waits.{state_at}
 use Rattle.aps_laws.proofs.BetweenLaw.{between}
+use Rattle.aps_laws.proofs.ChangeLaws.{few_changes}
 use Rattle.aps_laws.proofs.Counts.{counts_law}
+use Rattle.aps_laws.proofs.Mid.{tested_by}
 use Rattle.aps_laws.proofs.Programs.{row_fits}
+use Rattle.aps_laws.proofs.ReplyLaws.{few_answered}
 use Rattle.aps_laws.proofs.StampCounts.{few_stamps}
+use Rattle.aps_laws.proofs.StepOf.{horizon_same}
 use Rattle.aps_laws.proofs.ThreadFacts.{running_within}
 use Rattle.aps_laws.proofs.ThreadFit.{fits_law}
+use Rattle.aps_core.specs.Kept.{IsKept}
 use Rattle.aps_core.specs.Ready.{IsReady}
-use Rattle.aps_core.specs.Room.{HasRoom}
+use Rattle.aps_core.specs.Room.{HasRoom, HasRoomToWake}
+use Rattle.aps_core.proofs.Frame.{chosen_kept, flagged_kept, kept_self, kept_then, settled_kept, spent_kept}
 use Rattle.aps_core.proofs.Turns.{due_now}
 use Rattle.aps_core.proofs.Waiters.{few_waiters}
 
@@ -57,6 +70,52 @@ room_at scenario now x c s valid well few runs =
       triples = omega (arith, waiters.triples, threads, well.threads);
     }
 
+-- ---- what the steps in between leave
+
+-- after the bill only the pick and the operation come
+stepped_kept : (scenario : Scenario) (s : SchedulerState) (h : List Entry) (c : ℕ) → IsKept (after_bill scenario s h c) (step scenario s h c).state
+stepped_kept scenario s h c =
+    let now = due s h c in
+    let running = (cpu_at s c).running in
+    let e = bill_in s h c in
+    let test = tested (billed (after_tick scenario s h c) e running) h e in
+    by_reboot test now running e test.reboot
+  where
+    kept_pick : (t : SchedulerState) (now : ℕ) (e : Entry) → IsKept t (pick t h c now e).state
+    kept_pick t now e = kept_then (chosen_kept t _ c _) (flagged_kept _ now _)
+
+    by_horizon : (t : SchedulerState) (now : ℕ) (running : Option Pick) (e : Entry) (at_end : Bool)
+        → IsKept t (elim at_end as (λ _. Step) [ true ↦ record { entry = e; state = t; reboot = None } | false ↦ pick (settled scenario t now running).state h c now (record e { done = (settled scenario t now running).done }) ]).state
+    by_horizon t now running e true = kept_self t
+    by_horizon t now running e false = kept_then (settled_kept scenario t now running) (kept_pick (settled scenario t now running).state now (record e { done = (settled scenario t now running).done }))
+
+    by_reboot : (test : Tested) (now : ℕ) (running : Option Pick) (e : Entry) (o : Option ℕ) → IsKept test.state (unless_rebooted scenario test h c now e running o).state
+    by_reboot test now running e (Some p) = kept_self test.state
+    by_reboot test now running e None = by_horizon test.state now running e (nat_eq now (horizon test.state.shape))
+
+-- the bill and its test answer nothing, and take back no change
+record IsTested (t u : SchedulerState) : Type 0 where
+  replies : u.replies ≡ t.replies
+  changes : length t.changes ≤ length u.changes
+
+tested_lists : (scenario : Scenario) (s : SchedulerState) (h : List Entry) (c : ℕ) → IsTested (after_tick scenario s h c) (after_bill scenario s h c)
+tested_lists scenario s h c =
+    let t = after_tick scenario s h c in
+    let e = bill_in s h c in
+    let running = (cpu_at s c).running in
+    let r = billed t e running in
+    let spent = spent_kept t (e.to - e.from) running in
+    let before : IsTested t r = record { replies = spent.replies; changes = omega (arith, ap length spent.changes) } in
+    tested_by r.shape.bankruptcy r _ _ (IsTested t) before (λ p. by_cancel t r p (nat_eq (row_at r p).critical 0) before)
+  where
+    by_cancel : (t r : SchedulerState) (p : ℕ) (closed : Bool) → IsTested t r
+        → IsTested t (record r { rows = rows_cancelled r.rows p; changes = cond closed r.changes (r.changes ++ (record { tick = (bill_in s h c).to / r.shape.tick; kind = Cancelled p }) ∷ []) })
+    by_cancel t r p true before = record { replies = before.replies; changes = before.changes }
+    by_cancel t r p false before = record {
+      replies = before.replies;
+      changes = let a = before.changes in let n = length-append r.changes ((record { tick = (bill_in s h c).to / r.shape.tick; kind = Cancelled p }) ∷ []) in omega (arith, a, n);
+    }
+
 pub ready : (scenario : Scenario) (order : Order) (h : List Entry) (c : ℕ) → IsScenario scenario → IsLegal scenario order h → length h ≤ 4000000 → over (after scenario h) h ≡ None → HasTurn order (state_after scenario h) h c
     → IsReady scenario (state_after scenario h) h c
 ready scenario order h c valid legal short run turn =
@@ -67,6 +126,15 @@ ready scenario order h c valid legal short run turn =
     let fits = fits_law scenario order h valid legal in
     let few : s.stamps ≤ 5000000000 = let a = (few_stamps scenario order h valid legal).small in omega (arith, a, short) in
     let early : due s h c ≤ 10000000000000 = omega (arith, d.to, d.fits.to) in
+    let e = (step scenario s h c).entry in
+    let after_step : state_after scenario (h ++ e ∷ []) ≡ (step scenario s h c).state =
+    ap (λ (a : After). a.state) (after-append scenario h e) ∙ ap (λ k. (step scenario s h k).state) d.own in
+    let stepped = stepped_kept scenario s h c in
+    let tests = tested_lists scenario s h c in
+    let replies = few_answered scenario order (h ++ e ∷ []) valid d.legal in
+    let changes = few_changes scenario order (h ++ e ∷ []) valid d.legal in
+    let changes_billed : length (after_bill scenario s h c).changes ≤ 2079 =
+    omega (arith, changes, ap (λ (t : SchedulerState). length t.changes) after_step, ap length stepped.changes) in
     record {
       exists = d.exists;
       forward = omega (arith, d.fits.forward, d.from, d.to);
@@ -79,4 +147,10 @@ ready scenario order h c valid legal short run turn =
       };
       since = short_since _ (after_tick scenario s h c).threads early b.ticked.since;
       room = λ p runs. room_at scenario _ p.thread c (after_bill scenario s h c) valid b.billed' (let a = b.stamps_billed in let n = valid.few_threads in omega (arith, a, few, n, counted.threads)) (b.runs_billed p runs);
+      replies = omega (arith, replies, valid.few_commands, ap (λ (t : SchedulerState). length t.replies) after_step, ap length stepped.replies, ap length tests.replies);
+      changes_ticked = omega (arith, changes_billed, tests.changes);
+      changes_billed = changes_billed;
+      within_ticked = omega (arith, d.within, horizon_same scenario.shape s.shape counted.sizes, horizon_same scenario.shape (after_tick scenario s h c).shape b.ticked.sizes);
+      within_settled = omega (arith, d.within, horizon_same scenario.shape s.shape counted.sizes, horizon_same scenario.shape (before_pick scenario s h c).shape b.settled'.sizes);
+      exists_settled = omega (arith, d.exists, counted.cpus, b.settled'.cpus);
     }

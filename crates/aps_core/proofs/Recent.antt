@@ -1,7 +1,7 @@
 -- Entries that ended before a window add nothing to its usage.
 use Rattle.std.proofs.Common.{◌≡◌, ℕ, ◌+◌, ◌-◌, ◌*◌, ◌≤◌, List, [], ◌∷◌, ◌++◌, length, map, take, drop, refl, sym, ◌∙◌, ap, cond, Bool, true, false, ◌&&◌, All, append_assoc, length-drop, arith}
 use Rattle.std.specs.List.{AllByRecursion, range_with_len, sum_by}
-use Rattle.std.proofs.lemmas.List.{take-append-drop, take_all}
+use Rattle.std.proofs.lemmas.List.{append-nil, take-append-drop, take_all}
 use Rattle.std.proofs.lemmas.List.Elements.{recursion_from_All}
 use Rattle.std.proofs.lemmas.List.Sums.{sum_by-append, sum_by-cons}
 use Rattle.aps_model.specs.declared.entry.Entry.{Entry}
@@ -66,3 +66,23 @@ parts_recent shape rows h last j k past =
 -- the rest of a list, as a slice reads it
 pub rest_whole : (k : ℕ) (h : List Entry) → take (length h - k) (drop k h) ≡ drop k h
 rest_whole k h = take_all (length h - k) (drop k h) (omega (arith, length-drop k h))
+
+-- ---- one partition, over the entries that can matter from the first tick of the window on, as a slice reads them
+
+abbrev pub ArePast : ℕ → ℕ → ℕ → List Entry → Type 0
+ArePast tick a k h = All (λ (e : Entry). e.to ≤ a * tick) (take k h)
+
+sum_window : (f : Entry → ℕ) (moment k : ℕ) (h : List Entry) → ((e : Entry) → e.to ≤ moment → f e ≡ 0) → All (IsPast moment) (take k h) → sum_by f (take (length h - k) (drop k h)) ≡ sum_by f h
+sum_window f moment k h zero past =
+    ap (sum_by f) (rest_whole k h ∙ sym (append-nil (drop k h))) ∙ sum_recent f moment k h [] zero past ∙ ap (sum_by f) (append-nil h)
+
+pub used_window : (tick : ℕ) (h : List Entry) (p a b k : ℕ) → ArePast tick a k h → used tick (take (length h - k) (drop k h)) p a b ≡ used tick h p a b
+used_window tick h p a b k past = sum_window (billed_by tick p a b) (a * tick) k h (billed_before tick p a b) past
+
+pub critical_window : (tick : ℕ) (h : List Entry) (p a b k : ℕ) → ArePast tick a k h → critical_used tick (take (length h - k) (drop k h)) p a b ≡ critical_used tick h p a b
+critical_window tick h p a b k past = sum_window (critical_by tick p a b) (a * tick) k h (critical_before tick p a b) past
+
+-- with the last entry
+pub critical_window_with : (tick : ℕ) (h last : List Entry) (p a b k : ℕ) → ArePast tick a k h → critical_used tick (take (length h - k) (drop k h) ++ last) p a b ≡ critical_used tick (h ++ last) p a b
+critical_window_with tick h last p a b k past =
+    ap (λ l. critical_used tick (l ++ last) p a b) (rest_whole k h) ∙ sum_recent (critical_by tick p a b) (a * tick) k h last (critical_before tick p a b) past

@@ -5,14 +5,12 @@ use Rattle.aps_model.specs.History.{History}
 use Rattle.aps_model.specs.Legal.{IsLegal}
 use Rattle.aps_model.specs.SchedulerState.{SchedulerState}
 use Rattle.aps_model.specs.Valid.{IsScenario}
-use Rattle.aps_core.specs.Plain.{IsPlainScenario}
 use Rattle.aps_laws.specs.Runs.{EndsNoSooner}
 use Rattle.aps_core.specs.Run.{Run, Setup, history_of, state_of}
 
 -- what a core can be set up with
 pub record IsSetup (setup : Setup) : Type 0 where
   pub valid : IsScenario setup.scenario
-  pub plain : IsPlainScenario setup.scenario
   pub some : 1 ≤ setup.limit
   pub few : setup.limit ≤ 4000000
 
@@ -22,12 +20,10 @@ pub record IsUnderWay (run : Run) : Type 0 where
   pub legal : IsLegal run.setup.scenario run.setup.order run.entries
   pub no_sooner : EndsNoSooner run.setup.scenario run.setup.limit run.entries
   pub fits : length run.entries ≤ run.setup.limit
-  pub calm : (after run.setup.scenario run.entries).reboot ≡ None
-  pub shape : (after run.setup.scenario run.entries).state.shape ≡ run.setup.scenario.shape
 
 -- what each core keeps, of its run and of the parts that stand for it
 pub record IsCore (run : Run) (kept : History) (state : SchedulerState) (parts : List PartFacts) : Type 0 where
   pub keeps : IsUnderWay run
   pub recorded : kept ≡ history_of run
   pub machine : state ≡ state_of run
-  pub one_each : length parts ≡ length state.rows
+  pub room : length parts ≡ 32

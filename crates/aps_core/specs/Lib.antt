@@ -1,4 +1,5 @@
-pub mod Plain
+pub mod Calls
+pub mod Kept
 pub mod Short
 pub mod Room
 pub mod Ready
@@ -12,3 +13,4 @@ pub mod Core
 pub mod CoreView
 pub mod Given
 pub mod Rising
+pub mod CanRecord

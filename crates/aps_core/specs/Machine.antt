@@ -1,12 +1,13 @@
-use Rattle.std.specs.Prelude.{◌≡◌, ◌≤◌, length, All}
-use Rattle.aps_model.specs.Partition.{IsRow}
+use Rattle.std.specs.Prelude.{◌≡◌, ℕ, ◌≤◌, length}
 use Rattle.aps_model.specs.SchedulerState.{SchedulerState}
 use Rattle.aps_model.specs.Shape.{IsShape}
 
--- what each machine keeps: its numbers have their ranges
-pub record IsMachine (s : SchedulerState) : Type 0 where
+-- what each machine keeps: its numbers have their ranges, its tree counts in the parts of the shape, and there is room for
+-- all replies and changes of a run
+pub record IsMachine (s : SchedulerState) (tree_parts reply_space change_space : ℕ) : Type 0 where
   pub shape : IsShape s.shape
-  pub few_rows : length s.rows ≤ 32
-  pub rows : All IsRow s.rows
   pub few_threads : length s.threads ≤ 1024
   pub cpus : length s.cpus ≡ s.shape.cpus
+  pub parts : tree_parts ≡ s.shape.parts
+  pub reply_room : 1024 ≤ reply_space
+  pub change_room : 2079 ≤ change_space

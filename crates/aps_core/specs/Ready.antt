@@ -5,7 +5,7 @@ use Rattle.aps_model.specs.Due.{due, last_end}
 use Rattle.aps_model.specs.Scenario.{Scenario}
 use Rattle.aps_model.specs.SchedulerState.{SchedulerState, cpu_at, thread_at}
 use Rattle.aps_model.specs.Shape.{horizon}
-use Rattle.aps_laws.specs.Between.{after_bill, after_tick}
+use Rattle.aps_laws.specs.Between.{after_bill, after_tick, before_pick}
 use Rattle.aps_core.specs.Room.{HasRoom, HasRoomToWake}
 
 -- what a step of processor c rests on: the processor exists, its moments fit, and so does what its parts make greater
@@ -18,3 +18,9 @@ pub record IsReady (scenario : Scenario) (s : SchedulerState) (h : List Entry) (
   pub wakes : HasRoomToWake 256 6000000000 s
   pub since : (x : ℕ) → (thread_at (after_tick scenario s h c) x).since ≤ 10000000000000
   pub room : (p : Pick) → (cpu_at s c).running ≡ Some p → HasRoom (after_bill scenario s h c)
+  pub replies : length (after_tick scenario s h c).replies ≤ 1024
+  pub changes_ticked : length (after_tick scenario s h c).changes ≤ 2079
+  pub changes_billed : length (after_bill scenario s h c).changes ≤ 2079
+  pub within_ticked : due s h c ≤ horizon (after_tick scenario s h c).shape
+  pub within_settled : due s h c ≤ horizon (before_pick scenario s h c).shape
+  pub exists_settled : c < length (before_pick scenario s h c).cpus

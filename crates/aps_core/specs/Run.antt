@@ -56,9 +56,14 @@ finished_run run = record run { entries = finished run.setup.scenario run.setup.
 abbrev pub IsLater : Run → Run → Type 0
 IsLater run later = (rest : List Entry) × (later ≡ record run { entries = run.entries ++ rest })
 
--- the history with one entry more, which leaves this state, and with the end that comes by it
-abbrev pub with_last : History → ℕ → SchedulerState → Entry → History
-with_last kept limit state e = record kept {
+-- the history with one entry more, which leaves this state and perhaps a partition for which the run ends; with all that
+-- the state has recorded, and with the end that comes by it
+abbrev pub with_last : History → ℕ → Option ℕ → SchedulerState → Entry → History
+with_last kept limit reboot state e = record kept {
   entries = kept.entries ++ e ∷ [];
-  end = or_limit (over_by None (is_at_horizon state (kept.entries ++ e ∷ []))) limit (length (kept.entries ++ e ∷ []));
+  replies = state.replies;
+  changes = state.changes;
+  rows = state.rows;
+  shape = state.shape;
+  end = or_limit (over_by reboot (is_at_horizon state (kept.entries ++ e ∷ []))) limit (length (kept.entries ++ e ∷ []));
 }

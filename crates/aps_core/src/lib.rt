@@ -5,6 +5,7 @@
 mod due;
 mod machine;
 mod merit;
+mod recording;
 mod room;
 mod simulator;
 #[cfg(test)]

@@ -4,8 +4,10 @@ ghost use Rattle.aps_model.specs.History.{IsEntry};
 ghost use Rattle.aps_model.specs.Shape.{horizon};
 ghost use Rattle.aps_core.specs.Rising.{IsRising};
 
+mod bankruptcy;
 mod bill;
 mod channel;
+mod commands;
 mod effect;
 mod flag;
 mod inherit;
@@ -20,9 +22,10 @@ pub mod wake;
 
 use crate::{due, merit, usage};
 use aps_model::{
-    Contender, CpuId, CpuNow, Entry, Nanos, PartFacts, PartitionRow, Scenario, Shape, ThreadId,
-    ThreadNow,
+    Change, Contender, CpuId, CpuNow, Entry, Nanos, PartFacts, PartitionId, PartitionRow, Reply,
+    Scenario, Shape, ThreadId, ThreadNow,
 };
+use aps_tree::Tree;
 use channel::Channel;
 use std::marker::Model;
 use triple::Triples;
@@ -32,16 +35,19 @@ use wake::Sleepers;
 /// definitions, and each method is the part of the definitions' step that its clause names.
 #[derive(Drop)]
 pub struct Machine {
-    rows: Vec<PartitionRow>,
+    tree: Tree,
     shape: Shape,
     threads: Vec<ThreadNow>,
     stamps: u64,
     channels: Vec<Channel>,
     triples: Triples,
     cpus: Vec<CpuNow>,
+    replies: Vec<Reply>,
+    changes: Vec<Change>,
 }
 
 impl Model for Machine {
+    ghost use Rattle.std.specs.Prelude.{vec_capacity};
     ghost use Rattle.aps_model.specs.SchedulerState.{SchedulerState};
     ghost use Rattle.aps_core.specs.Machine.{IsMachine};
 
@@ -51,7 +57,7 @@ impl Model for Machine {
 
     ghost view = { state_of };
 
-    ghost invariant = { λ m. IsMachine (state_of m) };
+    ghost invariant = { λ m. IsMachine (state_of m) m.tree.parts (vec_capacity m.replies) (vec_capacity m.changes) };
 }
 
 impl Machine {
@@ -105,8 +111,7 @@ impl Machine {
     }
 
     ghost use Rattle.aps_model.specs.Step.{pick, step};
-    ghost use Rattle.aps_model.specs.declared.shape.Bankruptcy.TheVariants.{Basic};
-    ghost use Rattle.aps_core.specs.Plain.{IsKept};
+    ghost use Rattle.aps_core.specs.Kept.{IsKept};
     ghost use Rattle.aps_core.specs.Ready.{IsReady};
 
     /// The pick of the processor after this entry, which has its operation, and then the flag. The answer is the
@@ -125,7 +130,7 @@ impl Machine {
     {
         let now = e.to;
         let tick = self.tick_of(now);
-        usage::fill_parts(&self.shape, self.rows.as_slice(), entries, &e, tick, parts);
+        usage::fill_parts(&self.shape, self.tree.rows(), entries, &e, tick, parts);
         let starved = self.missing(parts);
         let best = self.greatest(parts);
         let picked = thread_of(&best);
@@ -158,8 +163,8 @@ impl Machine {
         self.shape.horizon()
     }
 
-    /// One step of the processor, at its due moment, by its parts. The answer is its entry. The policy of bankruptcy is
-    /// that nothing follows, so no step ends the run by a reboot.
+    /// One step of the processor, at its due moment, by its parts. The answer is its entry, and the partition for which
+    /// it ends the run by a reboot.
     pub fn step(
         &mut self,
         scenario: &Scenario,
@@ -167,17 +172,14 @@ impl Machine {
         parts: &mut [PartFacts],
         sleepers: &mut Sleepers,
         cpu: CpuId,
-    ) -> Entry
-        requires commands { scenario.now.commands ≡ [] }
-        requires basic { self.old.shape.bankruptcy ≡ Basic }
+    ) -> (Entry, Option<PartitionId>)
         requires ready { IsReady scenario.now self.old entries.now cpu }
-        requires one_each { length parts.old ≡ length self.old.rows }
+        requires room { length parts.old ≡ 32 }
         requires entries { All IsEntry entries.now }
         requires rising { IsRising entries.now }
         requires few { length entries.now ≤ 4000000 }
-        ensures same { step scenario.now self.old entries.now cpu ≡ record { entry = result; state = self.new; reboot = None } }
+        ensures same { step scenario.now self.old entries.now cpu ≡ record { entry = result.0; state = self.new; reboot = result.1 } }
         ensures parts { length parts.new ≡ length parts.old }
-        ensures kept { IsKept self.old self.new }
     {
         let now = self.due(entries, cpu);
         let from = due::last_end(entries, cpu);
@@ -185,11 +187,45 @@ impl Machine {
         self.work_tick(scenario, entries, sleepers, now);
         let e = bill::bill_of(cpu, from, now, &running);
         self.bill(&e, &running);
+        let reboot = self.test(entries, &e);
+        if reboot.is_some() {
+            return (e, reboot);
+        }
         if now == self.horizon() {
-            return e;
+            return (e, None);
         }
         let done = self.settle(scenario, now, &running);
-        self.pick(entries, parts, cpu, Entry { done, ..e })
+        let count = self.tree.count() as usize;
+        let picked = self.pick(entries, &mut parts[..count], cpu, Entry { done, ..e });
+        (picked, None)
+    }
+
+    /// The replies so far.
+    pub fn replies(&self) -> &[Reply]
+        ensures { result.now ≡ self.now.replies }
+    {
+        self.replies.as_slice()
+    }
+
+    /// The changes so far.
+    pub fn changes(&self) -> &[Change]
+        ensures { result.now ≡ self.now.changes }
+    {
+        self.changes.as_slice()
+    }
+
+    /// The rows as they stand.
+    pub fn rows(&self) -> &[PartitionRow]
+        ensures { result.now ≡ self.now.rows }
+    {
+        self.tree.rows()
+    }
+
+    /// The shape as it stands.
+    pub fn shape(&self) -> &Shape
+        ensures { result.now ≡ self.now.shape }
+    {
+        &self.shape
     }
 }
 

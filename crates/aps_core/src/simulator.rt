@@ -10,12 +10,12 @@ ghost use Rattle.aps_model.specs.Bound.{KeepsWindowBound, KeepsCriticalBound};
 ghost use Rattle.aps_laws.specs.Choices.{EachPickIsGreatest};
 ghost use Rattle.aps_laws.specs.Runs.{EndsNoSooner};
 ghost use Rattle.aps_core.specs.Core.{IsUnderWay};
-ghost use Rattle.aps_core.specs.Plain.{IsPlainScenario};
 ghost use Rattle.aps_core.specs.Run.{IsLater, end_of_run, finished_run, history_of, most_changes, state_of, with_last};
 ghost use Rattle.aps_core.specs.Turn.{HasTurnIn, IsOwn, IsTaken, IsTurn, after_turn, with_entry};
 
 use crate::machine::Machine;
 use crate::machine::wake::Sleepers;
+use crate::recording;
 use crate::turn::Turn;
 use aps_model::{CpuId, End, Entry, History, Nanos, NoMemory, Order, PartFacts, Scenario};
 use std::alloc::Global;
@@ -46,8 +46,7 @@ impl Model for Core {
 }
 
 impl Core {
-    /// A run that begins, of a scenario in which every thread runs without end, nobody is critical and nothing is
-    /// commanded. `limit` is the greatest number of entries. All memory of the run is taken here; where it isn't
+    /// A run that begins. `limit` is the greatest number of entries. All memory of the run is taken here; where it isn't
     /// there the scenario is dropped.
     pub fn boot(
         alloc: Global,
@@ -55,13 +54,12 @@ impl Core {
         order: Order,
         limit: u32,
     ) -> Result<Core, NoMemory>
-        requires plain { IsPlainScenario scenario }
         requires some { 1 ≤ limit }
         requires few { limit ≤ 4000000 }
         ensures { IfOk result (λ core. core ≡ record { setup = record { scenario = scenario; order = order; limit = limit }; entries = [] }) }
     {
         let machine = Machine::boot(alloc, &scenario)?;
-        let parts = start_parts(alloc, scenario.partitions().len())?;
+        let parts = start_parts(alloc, MOST_PARTITIONS)?;
         let sleepers = Sleepers::new(alloc)?;
         let replies = scenario.commands().len() as u16;
         let changes = most_changes(&scenario);
@@ -192,7 +190,7 @@ impl Core {
         ensures own { result.cpu ≡ cpu }
         ensures room { length self.old.entries < self.old.setup.limit }
     {
-        let e = self.machine.step(
+        let (e, reboot) = self.machine.step(
             self.history.scenario(),
             self.history.entries(),
             self.parts.as_mut_slice(),
@@ -201,35 +199,8 @@ impl Core {
         );
         // the check wants a copy of its own of what is handed on and answered too
         let added = e;
-        append(&mut self.history, added, &self.machine, self.limit);
+        recording::record(&mut self.history, added, &self.machine, reboot, self.limit);
         e
-    }
-}
-
-/// The history has one entry more, which left this machine, and the end of the run if that has come.
-fn append(history: &mut History, e: Entry, machine: &Machine, limit: u32)
-    requires room { length history.old.entries < history.old.room.entries }
-    requires entry { IsEntry e }
-    requires goes_on { history.old.end ≡ None }
-    ensures { history.new ≡ with_last history.old limit machine.now e }
-{
-    history.add_entry(e);
-    if let Some(end) = end_after(machine, history.entries(), limit) {
-        history.set_end(end);
-    }
-}
-
-/// The end of a run that has these entries and left this machine, which no reboot ended.
-fn end_after(machine: &Machine, entries: &[Entry], limit: u32) -> Option<End>
-    requires { All IsEntry entries.now }
-    ensures { result ≡ or_limit (over_by None (is_at_horizon machine.now entries.now)) limit (length entries.now) }
-{
-    if machine.is_at_horizon(entries) {
-        Some(End::Horizon)
-    } else if entries.len() == limit as usize {
-        Some(End::Limit)
-    } else {
-        None
     }
 }
 
@@ -244,6 +215,9 @@ fn most_changes(scenario: &Scenario) -> u32
         .count();
     2 * scenario.commands().len() as u32 + critical as u32
 }
+
+/// How many partitions there are at most.
+const MOST_PARTITIONS: usize = 32;
 
 /// Room for how each partition stands at a pick.
 fn start_parts(alloc: Global, count: usize) -> Result<Vec<PartFacts>, NoMemory>

@@ -1,5 +1,5 @@
 ghost use Rattle.std.specs.Prelude.{◌≡◌, ◌+◌, ◌-◌, ◌*◌, ◌<◌, ◌≤◌, ◌^◌, ◌++◌, [], ◌∷◌, length, take, All, min, max};
-ghost use Rattle.aps_model.specs.Usage.{used, critical_used};
+ghost use Rattle.aps_model.specs.Usage.{used, critical_used, window_used, window_critical};
 ghost use Rattle.aps_model.specs.Budget.{part_facts, all_parts};
 ghost use Rattle.aps_model.specs.History.{IsEntry};
 ghost use Rattle.aps_model.specs.Partition.{IsRow};
@@ -18,7 +18,25 @@ fn overlap(tick: u64, a: u64, b: u64, from: Nanos, to: Nanos) -> Nanos
     to.min(b * tick).saturating_sub(from.max(a * tick))
 }
 
-/// What the partition used in ticks `a` to `b - 1`, over all entries and the last one.
+/// What the partition used in ticks `a` to `b - 1`, over all entries.
+fn used_in(entries: &[Entry], tick: u64, p: PartitionId, a: u64, b: u64) -> Nanos
+    requires entries { All IsEntry entries.now }
+    requires few { length entries.now ≤ 4000000 }
+    requires first { a * tick < 2 ^ 63 }
+    requires end { b * tick < 2 ^ 63 }
+    ensures same { result ≡ used tick entries.now p a b }
+    ensures few { result ≤ 10000000 * length entries.now }
+{
+    let mut sum = 0;
+    for e in entries {
+        if e.billed == Some(p) {
+            sum += overlap(tick, a, b, e.from, e.to);
+        }
+    }
+    sum
+}
+
+/// The same, over all entries and the last one.
 fn used(entries: &[Entry], last: &Entry, tick: u64, p: PartitionId, a: u64, b: u64) -> Nanos
     requires entries { All IsEntry entries.now }
     requires last { IsEntry last.now }
@@ -28,19 +46,32 @@ fn used(entries: &[Entry], last: &Entry, tick: u64, p: PartitionId, a: u64, b: u
     ensures same { result ≡ used tick (entries.now ++ last.now ∷ []) p a b }
     ensures few { result ≤ 10000000 * (length entries.now + 1) }
 {
-    let mut sum = 0;
-    for e in entries {
-        if e.billed == Some(p) {
-            sum += overlap(tick, a, b, e.from, e.to);
-        }
-    }
+    let mut sum = used_in(entries, tick, p, a, b);
     if last.billed == Some(p) {
         sum += overlap(tick, a, b, last.from, last.to);
     }
     sum
 }
 
-/// The critical time that it used in ticks `a` to `b - 1`.
+/// The critical time that the partition used in ticks `a` to `b - 1`, over all entries.
+fn critical_in(entries: &[Entry], tick: u64, p: PartitionId, a: u64, b: u64) -> Nanos
+    requires entries { All IsEntry entries.now }
+    requires few { length entries.now ≤ 4000000 }
+    requires first { a * tick < 2 ^ 63 }
+    requires end { b * tick < 2 ^ 63 }
+    ensures same { result ≡ critical_used tick entries.now p a b }
+    ensures few { result ≤ 10000000 * length entries.now }
+{
+    let mut sum = 0;
+    for e in entries {
+        if e.billed == Some(p) && e.critical {
+            sum += overlap(tick, a, b, e.from, e.to);
+        }
+    }
+    sum
+}
+
+/// The same, over all entries and the last one.
 fn critical_used(
     entries: &[Entry],
     last: &Entry,
@@ -56,12 +87,7 @@ fn critical_used(
     requires end { b * tick < 2 ^ 63 }
     ensures { result ≡ critical_used tick (entries.now ++ last.now ∷ []) p a b }
 {
-    let mut sum = 0;
-    for e in entries {
-        if e.billed == Some(p) && e.critical {
-            sum += overlap(tick, a, b, e.from, e.to);
-        }
-    }
+    let mut sum = critical_in(entries, tick, p, a, b);
     if last.billed == Some(p) && last.critical {
         sum += overlap(tick, a, b, last.from, last.to);
     }
@@ -164,4 +190,53 @@ pub fn fill_parts(
     let first = (j + 1).saturating_sub(u64::from(shape.window));
     let recent = &entries[past(entries, first * shape.tick)..];
     fill_by(shape, rows, recent, last, j, parts);
+}
+
+/// What the partition used in the window at tick `j`.
+pub fn window_used(shape: &Shape, entries: &[Entry], j: u64, p: PartitionId) -> Nanos
+    requires shape { IsShape shape.now }
+    requires entries { All IsEntry entries.now }
+    requires rising { IsRising entries.now }
+    requires few { length entries.now ≤ 4000000 }
+    requires j { j ≤ 1000000 }
+    ensures { result ≡ window_used shape.now entries.now j p }
+{
+    let first = (j + 1).saturating_sub(u64::from(shape.window));
+    let recent = &entries[past(entries, first * shape.tick)..];
+    used_in(recent, shape.tick, p, first, j + 1)
+}
+
+/// The critical time that it used there.
+pub fn window_critical(shape: &Shape, entries: &[Entry], j: u64, p: PartitionId) -> Nanos
+    requires shape { IsShape shape.now }
+    requires entries { All IsEntry entries.now }
+    requires rising { IsRising entries.now }
+    requires few { length entries.now ≤ 4000000 }
+    requires j { j ≤ 1000000 }
+    ensures { result ≡ window_critical shape.now entries.now j p }
+{
+    let first = (j + 1).saturating_sub(u64::from(shape.window));
+    let recent = &entries[past(entries, first * shape.tick)..];
+    critical_in(recent, shape.tick, p, first, j + 1)
+}
+
+/// The same, with the last entry.
+pub fn critical_with(
+    shape: &Shape,
+    entries: &[Entry],
+    last: &Entry,
+    j: u64,
+    p: PartitionId,
+) -> Nanos
+    requires shape { IsShape shape.now }
+    requires entries { All IsEntry entries.now }
+    requires rising { IsRising entries.now }
+    requires few { length entries.now ≤ 4000000 }
+    requires last { IsEntry last.now }
+    requires j { j ≤ 1000000 }
+    ensures { result ≡ window_critical shape.now (entries.now ++ last.now ∷ []) j p }
+{
+    let first = (j + 1).saturating_sub(u64::from(shape.window));
+    let recent = &entries[past(entries, first * shape.tick)..];
+    critical_used(recent, last, shape.tick, p, first, j + 1)
 }

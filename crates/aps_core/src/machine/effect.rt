@@ -1,24 +1,12 @@
-ghost use Rattle.std.specs.Prelude.{◌≡◌, ◌<◌, ◌≤◌, length, IfSome};
+ghost use Rattle.std.specs.Prelude.{◌≡◌, ◌≤◌};
 ghost use Rattle.aps_model.specs.Effect.{effect, joined};
 ghost use Rattle.aps_model.specs.Partition.{partition_named};
 ghost use Rattle.aps_core.specs.Room.{HasRoom};
 
 use super::Machine;
-use aps_model::{
-    Done, Facts, Name, Nanos, Op, PartitionId, PartitionRow, Scenario, State, ThreadId, ThreadNow,
-};
+use aps_model::{Done, Facts, Name, Nanos, Op, Scenario, State, ThreadId, ThreadNow};
 
 impl Machine {
-    /// The partition of this name, if there is one.
-    fn lookup(&self, name: &Name) -> Option<PartitionId>
-        ensures { result ≡ partition_named self.now.rows name.now }
-    {
-        match place_of(self.rows.as_slice(), name) {
-            Some(p) => Some(PartitionId::at(p)),
-            None => None,
-        }
-    }
-
     /// The thread has the next stamp, and else is as it was.
     fn stamp_anew(&mut self, x: ThreadId)
         requires room { HasRoom self.old }
@@ -35,7 +23,7 @@ impl Machine {
     fn join(&mut self, x: ThreadId, name: &Name) -> Done
         ensures { joined self.old x (partition_named self.old.rows name.now) ≡ record { state = self.new; done = result } }
     {
-        let Some(partition) = self.lookup(name) else {
+        let Some(partition) = self.tree.lookup(*name) else {
             return Done::JoinNone;
         };
         let own = self.thread(x).own;
@@ -60,7 +48,7 @@ impl Machine {
     }
 
     /// The thread is critical of its own, or isn't.
-    fn mark(&mut self, x: ThreadId, critical: bool)
+    pub fn mark(&mut self, x: ThreadId, critical: bool)
         ensures { self.new ≡ with_own self.old x (record (thread_at self.old x).own { critical = critical }) }
     {
         let own = self.thread(x).own;
@@ -104,12 +92,4 @@ impl Machine {
             }
         }
     }
-}
-
-/// The place of the row with this name, if there is one.
-fn place_of(rows: &[PartitionRow], name: &Name) -> Option<usize>
-    ensures same { result ≡ partition_named rows.now name.now }
-    ensures within { IfSome result (λ p. p < length rows.now) }
-{
-    rows.iter().position(|row| row.name.text() == name.text())
 }

@@ -6,28 +6,36 @@ use super::channel::Channel;
 use super::triple::Triples;
 use super::{Machine, operation};
 use aps_model::{CpuNow, Facts, NoMemory, Scenario, Shape, State, ThreadId, ThreadNow, ThreadRow};
+use aps_tree::Tree;
 use std::alloc::Global;
+
+/// The most replies of a run: one to each command.
+const MOST_REPLIES: usize = 1024;
+
+/// The most changes of a run: two for each command, and one for each partition but `System`.
+const MOST_CHANGES: usize = 2079;
 
 impl Machine {
     /// The state at the start of a scenario. It takes all the memory that the steps need.
     pub fn boot(alloc: Global, scenario: &Scenario) -> Result<Machine, NoMemory>
         ensures { IfOk result (λ m. m ≡ opening scenario.now) }
     {
-        let mut rows = Vec::with_capacity(alloc, 32)?;
-        rows.extend_from_slice(scenario.partitions())?;
         let shape = *scenario.shape();
+        let tree = Tree::of_rows(alloc, shape.parts, scenario.partitions())?;
         let (threads, stamps) = start_threads(alloc, scenario)?;
         let channels = start_channels(alloc, scenario.channels().len())?;
         let triples = Triples::new(alloc)?;
         let cpus = start_cpus(alloc, shape.cpus)?;
         Ok(Machine {
-            rows,
+            tree,
             shape,
             threads,
             stamps,
             channels,
             triples,
             cpus,
+            replies: Vec::with_capacity(alloc, MOST_REPLIES)?,
+            changes: Vec::with_capacity(alloc, MOST_CHANGES)?,
         })
     }
 }

@@ -155,8 +155,7 @@ impl Machine {
         now % self.shape.tick == 0 && now < self.horizon() && !due::is_met(entries, now)
     }
 
-    /// The work of the tick, if it begins with this step: the commands of the tick, of which there are none yet, and then
-    /// the wakes.
+    /// The work of the tick, if it begins with this step: the commands of the tick, and then the wakes.
     pub fn work_tick(
         &mut self,
         scenario: &Scenario,
@@ -164,13 +163,18 @@ impl Machine {
         sleepers: &mut Sleepers,
         now: Nanos,
     )
-        requires commands { scenario.now.commands ≡ [] }
+        requires entries { All IsEntry entries.now }
         requires rising { IsRising entries.now }
+        requires few { length entries.now ≤ 4000000 }
         requires now { now ≤ 10000000000000 }
         requires room { HasRoomToWake 256 6000000000 self.old }
+        requires replies { length (tick_work scenario.now self.old entries.now now).replies ≤ 1024 }
+        requires changes { length (tick_work scenario.now self.old entries.now now).changes ≤ 2079 }
         ensures { self.new ≡ tick_work scenario.now self.old entries.now now }
     {
         if self.has_tick_work(entries, now) {
+            let tick = self.tick_of(now);
+            self.do_commands(scenario, entries, tick);
             self.wake_all(scenario, now, sleepers);
         }
     }

@@ -1,10 +1,8 @@
 //! Scenarios of endless threads, in partitions right below the root.
 ghost use Rattle.std.specs.Prelude.{◌≡◌, ◌<◌, ◌≤◌, ◌∷◌, length, All, IfOk, IsTrue};
-ghost use Rattle.aps_model.specs.declared.shape.Bankruptcy.TheVariants.{Basic};
 ghost use Rattle.aps_model.specs.Name.{IsName};
 ghost use lib.Chars.{codes};
 ghost use Rattle.aps_core.specs.Given.{Endless as EndlessOf, is_given, letters, rows_from, row_of, threads_from};
-ghost use Rattle.aps_core.specs.Plain.{IsPlainScenario};
 
 use aps_model::{Name, Op, PartitionId, PartitionRow, Policy, Program, Scenario, Shape, ThreadRow};
 use std::alloc::Global;
@@ -22,9 +20,7 @@ pub fn given(
     budgets: &[u16],
     threads: &[Endless],
 ) -> Result<Scenario, Fail>
-    requires given { IsTrue (is_given shape root budgets.now threads.now) }
-    requires basic { shape.bankruptcy ≡ Basic }
-    ensures plain { IfOk result IsPlainScenario }
+    requires { IsTrue (is_given shape root budgets.now threads.now) }
     ensures shape { IfOk result (λ s. s.shape ≡ shape) }
 {
     let partitions = partitions(alloc, root, budgets)?;

@@ -1,19 +1,30 @@
-use Rattle.std.proofs.Common.{◌∙◌, ap, refl, replicate, length, subst, sym}
+use Rattle.std.proofs.Common.{◌≡◌, ◌≤◌, ◌∙◌, ap, replicate, length, subst, sym, vec_capacity}
+use Rattle.aps_model.specs.declared.shape.Shape.{Shape}
 use Rattle.aps_model.specs.SchedulerState.{no_channel}
+use Rattle.aps_tree.specs.Tree.{Tree}
 use Rattle.aps_core.specs.Machine.{IsMachine}
 use Rattle.aps_core.proofs.Boot.{machine_opening, opening_by_parts}
 use Rattle.aps_core.proofs.machine.Machine.boot.Goals as goal
 
+tree : (c : goal.In_ok-with_capacity-2) → ◌≡◌ {A = Tree} (record { parts = c.tree.inside.parts; rows = c.tree.inside.rows }) (record { parts = c.shape-shape.result.now.parts; rows = c.partitions.result.now })
+tree c = c.tree.view_is ∙ c.in_ok-tree.ensures
+
 pub returns : goal.returns
 returns c =
-    rw c.in_ok-triples.ensures
-    (opening_by_parts c.args.scenario.now _ _ _ _ _ _
-    (c.in_ok-extend_from_slice.ensures.items ∙ rw (c.in_ok-rows.ensures.items, c.partitions.ensures.same) refl)
+    opening_by_parts c.args.scenario.now _ _ _ _ _ _ _ _ _
+    (ap (λ (t : Tree). t.rows) (tree c) ∙ c.partitions.ensures.same)
     c.shape-shape.ensures.same
     c.in_ok-threads.ensures.threads
     c.in_ok-threads.ensures.stamps
     (c.in_ok-channels.ensures ∙ ap (λ names. replicate (length names) no_channel) c.channels.ensures.same)
-    c.in_ok-cpus.ensures)
+    (c.triples.view_is ∙ c.in_ok-triples.ensures)
+    c.in_ok-cpus.ensures
+    c.in_ok-with_capacity.ensures.items
+    c.in_ok-with_capacity-2.ensures.items
 
-pub invariant_of-result : goal.invariant_of-result
-invariant_of-result c = subst IsMachine (sym (returns c)) (machine_opening c.args.scenario.now c.partitions.ensures.valid)
+pub invariant_of-result-3 : goal.invariant_of-result-3
+invariant_of-result-3 c =
+    subst (λ s. IsMachine s c.tree.inside.parts (vec_capacity c.in_ok-with_capacity.field-0) (vec_capacity c.in_ok-with_capacity-2.field-0)) (sym (returns c))
+    (machine_opening c.args.scenario.now _ _ _ c.partitions.ensures.valid
+    (ap (λ (t : Tree). t.parts) (tree c) ∙ ap (λ (shape : Shape). shape.parts) c.shape-shape.ensures.same)
+    c.in_ok-with_capacity.ensures.capacity c.in_ok-with_capacity-2.ensures.capacity)

@@ -1,13 +1,18 @@
-use Rattle.std.proofs.Common.{◌≡◌, ap, ◌∙◌, ◌++◌, [], ◌∷◌, ◌/◌}
+use Rattle.std.proofs.Common.{◌≡◌, ap, ◌∙◌, ◌++◌, [], ◌∷◌, ◌/◌, All, subst, sym}
 use Rattle.aps_model.specs.Budget.{all_parts}
+use Rattle.aps_model.specs.Partition.{IsRow}
 use Rattle.aps_model.specs.SchedulerState.{SchedulerState}
 use Rattle.aps_core.proofs.PickStep.{pick_by_parts}
+use Rattle.aps_core.proofs.Rows.{row_ranges}
 use Rattle.aps_core.proofs.machine.Machine.pick.Goals as goal
+
+pub fill_parts-requires-clause-rows : goal.fill_parts-requires-clause-rows
+fill_parts-requires-clause-rows c = subst (All IsRow) (sym c.rows.ensures.same) (row_ranges c.self.inside.tree c.rows.ensures.keeps)
 
 parts : (c : goal.After-flag) → c.fill_parts.new.parts ≡ all_parts c.args.self.now.shape c.args.self.now.rows (c.args.entries.now ++ c.args.e ∷ []) (c.args.e.to / c.args.self.now.shape.tick)
 parts c =
     c.fill_parts.ensures.same
-    ∙ rw (c.as_slice.ensures.value, c.tick_of-tick.ensures.same)
+    ∙ rw (c.rows.ensures.same, c.tick_of-tick.ensures.same)
     (ap (λ (m : SchedulerState). all_parts m.shape m.rows (c.args.entries.now ++ c.args.e ∷ []) (c.args.e.to / c.args.self.now.shape.tick)) c.self.view_is)
 
 pub returns-clause-same : goal.returns-clause-same

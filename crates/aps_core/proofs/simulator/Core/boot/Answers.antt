@@ -1,4 +1,4 @@
-use Rattle.std.proofs.Common.{◌∙◌, ap, length, refl}
+use Rattle.std.proofs.Common.{refl}
 use Rattle.aps_core.specs.Run.{Setup}
 use Rattle.aps_core.proofs.Kept.{begun_core}
 use Rattle.aps_core.proofs.simulator.Core.boot.Goals as goal
@@ -8,7 +8,7 @@ invariant_of-result c =
     let setup : Setup = record { scenario = c.args.scenario; order = c.args.order; limit = c.args.limit } in
     rw c.in_ok-history.ensures
     (begun_core setup _ c.in_ok-machine.machine c.in_ok-parts.parts.items
-    (record { valid = c.partitions.ensures.valid; plain = c.requires.plain; some = c.requires.some; few = c.requires.few })
+    (record { valid = c.commands.ensures.valid; some = c.requires.some; few = c.requires.few })
     (rw (c.commands.ensures.same, c.most_changes-changes.ensures) refl)
     c.in_ok-machine.ensures
-    (c.in_ok-parts.ensures ∙ ap length c.partitions.ensures.same))
+    c.in_ok-parts.ensures)

@@ -4,52 +4,51 @@ use Rattle.aps_core.specs.CoreView.{run_of}
 use Rattle.aps_core.specs.Rising.{IsRising}
 use Rattle.aps_core.specs.Run.{end_of_run}
 use Rattle.aps_core.specs.Turn.{HasTurnIn}
-use Rattle.aps_core.proofs.Kept.{basic_in, core_kept, entry_fits, own_entry, ready_in, step_read}
+use Rattle.aps_core.proofs.Kept.{can_record_in, core_kept, entry_fits, own_entry, ready_in, step_read}
 use Rattle.aps_core.proofs.Rising.{rising_law}
 use Rattle.aps_core.proofs.simulator.Core.take_turn.Goals as goal
 
-pub step-e-requires-clause-commands : goal.step-e-requires-clause-commands
-step-e-requires-clause-commands c = rw c.scenario.ensures c.self.invariant.keeps.setup.plain.commands
-
-pub step-e-requires-clause-basic : goal.step-e-requires-clause-basic
-step-e-requires-clause-basic c =
-    basic_in (run_of c.self.inside) c.self.inside.history c.self.inside.machine c.self.inside.parts.items c.self.invariant
-
-pub step-e-requires-clause-ready : goal.step-e-requires-clause-ready
-step-e-requires-clause-ready c =
+pub step-requires-clause-ready : goal.step-requires-clause-ready
+step-requires-clause-ready c =
     let goes_on = subst (λ run. end_of_run run ≡ None) (sym c.self.view_is) c.requires.goes_on in
     let turn = subst (λ run. HasTurnIn run c.args.cpu) (sym c.self.view_is) c.requires.turn in
     rw (c.scenario.ensures, c.entries.ensures.same)
     (ready_in (run_of c.self.inside) c.self.inside.history c.self.inside.machine c.self.inside.parts.items c.args.cpu c.self.invariant goes_on turn)
 
-pub step-e-requires-clause-rising : goal.step-e-requires-clause-rising
-step-e-requires-clause-rising c =
+pub step-requires-clause-rising : goal.step-requires-clause-rising
+step-requires-clause-rising c =
     let run = c.self.invariant.keeps in
     subst IsRising (sym c.entries.ensures.same) (rising_law c.self.inside.history.scenario c.self.inside.order run.setup.valid c.self.inside.history.entries run.legal)
 
-pub append-requires-clause-entry : goal.append-requires-clause-entry
-append-requires-clause-entry c =
-    entry_fits (run_of c.self.inside) c.self.inside.history c.self.inside.machine c.self.inside.parts.items c.args.cpu c.step-e.result c.step-e.new.self c.self.invariant
+pub record-requires-clause-entry : goal.record-requires-clause-entry
+record-requires-clause-entry c =
+    entry_fits (run_of c.self.inside) c.self.inside.history c.self.inside.machine c.self.inside.parts.items c.args.cpu c.step.result.0 (record { state = c.step.new.self; reboot = c.step.result.1 }) c.self.invariant
     (subst (λ run. end_of_run run ≡ None) (sym c.self.view_is) c.requires.goes_on)
     (subst (λ run. HasTurnIn run c.args.cpu) (sym c.self.view_is) c.requires.turn)
-    (step_read _ _ c.self.inside.machine _ _ c.args.cpu _ c.scenario.ensures c.entries.ensures.same c.step-e.ensures.same)
+    (step_read _ _ c.self.inside.machine _ _ c.args.cpu _ c.scenario.ensures c.entries.ensures.same c.step.ensures.same)
+
+pub record-requires-clause-machine : goal.record-requires-clause-machine
+record-requires-clause-machine c =
+    can_record_in (run_of c.self.inside) c.self.inside.history c.self.inside.machine c.self.inside.parts.items c.args.cpu c.step.result.0 (record { state = c.step.new.self; reboot = c.step.result.1 }) c.self.invariant
+    (subst (λ run. end_of_run run ≡ None) (sym c.self.view_is) c.requires.goes_on)
+    (subst (λ run. HasTurnIn run c.args.cpu) (sym c.self.view_is) c.requires.turn)
+    (step_read _ _ c.self.inside.machine _ _ c.args.cpu _ c.scenario.ensures c.entries.ensures.same c.step.ensures.same)
 
 pub returns-clause-own : goal.returns-clause-own
 returns-clause-own c =
-    own_entry (run_of c.self.inside) c.self.inside.history c.self.inside.machine c.self.inside.parts.items c.args.cpu c.step-e.result c.step-e.new.self c.self.invariant
+    own_entry (run_of c.self.inside) c.self.inside.history c.self.inside.machine c.self.inside.parts.items c.args.cpu c.step.result.0 (record { state = c.step.new.self; reboot = c.step.result.1 }) c.self.invariant
     (subst (λ run. end_of_run run ≡ None) (sym c.self.view_is) c.requires.goes_on)
     (subst (λ run. HasTurnIn run c.args.cpu) (sym c.self.view_is) c.requires.turn)
-    (step_read _ _ c.self.inside.machine _ _ c.args.cpu _ c.scenario.ensures c.entries.ensures.same c.step-e.ensures.same)
+    (step_read _ _ c.self.inside.machine _ _ c.args.cpu _ c.scenario.ensures c.entries.ensures.same c.step.ensures.same)
 
 pub invariant_of-self : goal.invariant_of-self
 invariant_of-self c =
-    core_kept (run_of c.self.inside) c.self.inside.history c.self.inside.machine c.self.inside.parts.items c.args.cpu c.step-e.result c.append.new.history c.step-e.new.self _
+    core_kept (run_of c.self.inside) c.self.inside.history c.self.inside.machine c.self.inside.parts.items c.args.cpu c.step.result.0 c.record.new.history (record { state = c.step.new.self; reboot = c.step.result.1 }) _
     c.self.invariant
     (subst (λ run. end_of_run run ≡ None) (sym c.self.view_is) c.requires.goes_on)
     (subst (λ run. HasTurnIn run c.args.cpu) (sym c.self.view_is) c.requires.turn)
     (record {
-      steps = step_read _ _ c.self.inside.machine _ _ c.args.cpu _ c.scenario.ensures c.entries.ensures.same c.step-e.ensures.same;
-      same = c.step-e.ensures.kept;
-      added = c.append.ensures;
+      steps = step_read _ _ c.self.inside.machine _ _ c.args.cpu _ c.scenario.ensures c.entries.ensures.same c.step.ensures.same;
+      added = c.record.ensures;
     })
     (grind (arith, common_steps))

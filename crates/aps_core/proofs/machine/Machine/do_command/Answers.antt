@@ -1,0 +1,69 @@
+use Rattle.std.proofs.Common.{◌≡◌, ◌≤◌, ◌<◌, ◌+◌, ◌++◌, [], ◌∷◌, length, ◌∙◌, sym, ap, subst, None, Some, arith}
+use Rattle.std.proofs.lemmas.List.{length-append}
+use Rattle.aps_model.specs.SchedulerState.{SchedulerState}
+use Rattle.aps_model.specs.TickWork.{changes_with, do_command, view_of}
+use Rattle.aps_core.specs.MachineView.{state_of}
+use Rattle.aps_core.proofs.Commands.{IsPerformed, added_change, done_by, few_changes, few_replies, performed_machine, performed_of}
+use Rattle.aps_core.proofs.machine.Machine.do_command.Goals as goal
+
+pub invariant_of-self : goal.invariant_of-self
+invariant_of-self c =
+    let s = state_of c.self.inside in
+    performed_machine _ _ c.args.row.now.call c.view_of-view.result s c.perform-answer.new.tree.rows c.perform-answer.new.shape _ _ _ _ c.requires.call.2 c.self.invariant c.perform-answer.ensures.shape c.perform-answer.ensures.parts
+
+pub push_reply-requires : goal.push_reply-requires
+push_reply-requires c =
+    let s = state_of c.self.inside in
+    let h = c.args.entries.now in
+    let j = c.args.tick in
+    let call = c.args.row.now.call in
+    let t = state_of c.self-2.inside in
+    let done : IsPerformed s h j call c.perform-answer.result c.change_by-change.result t =
+    performed_of s h j call c.view_of-view.result c.perform-answer.result c.perform-answer.new.tree.rows c.perform-answer.new.shape c.change_by-change.result c.mark_by.result t
+    (c.view_of-view.ensures ∙ ap (λ u. view_of u h j call) (sym c.self.view_is))
+    c.perform-answer.ensures.answer c.perform-answer.ensures.rows c.perform-answer.ensures.shape
+    (c.change_by-change.ensures.law s.rows s.shape c.view_of-view.result c.perform-answer.ensures.answer c.perform-answer.ensures.rows)
+    (c.mark_by.ensures.law call s.rows s.shape c.view_of-view.result c.perform-answer.ensures.answer)
+    (c.self-2.view_is ∙ c.set_mark.ensures) in
+    let same = ap length (few_replies s h j call _ _ t done) in
+    let was = ap (λ (u : SchedulerState). length u.replies) c.self.view_is in
+    let few = c.requires.replies in
+    let space = c.self-2.invariant.reply_room in
+    record { room = omega (arith, same, was, few, space) }
+
+pub push_change-requires : goal.push_change-requires
+push_change-requires c =
+    let s = state_of c.self.inside in
+    let h = c.args.entries.now in
+    let j = c.args.tick in
+    let call = c.args.row.now.call in
+    let t = state_of c.self-2.inside in
+    let done : IsPerformed s h j call c.perform-answer.result c.change_by-change.result t =
+    performed_of s h j call c.view_of-view.result c.perform-answer.result c.perform-answer.new.tree.rows c.perform-answer.new.shape c.change_by-change.result c.mark_by.result t
+    (c.view_of-view.ensures ∙ ap (λ u. view_of u h j call) (sym c.self.view_is))
+    c.perform-answer.ensures.answer c.perform-answer.ensures.rows c.perform-answer.ensures.shape
+    (c.change_by-change.ensures.law s.rows s.shape c.view_of-view.result c.perform-answer.ensures.answer c.perform-answer.ensures.rows)
+    (c.mark_by.ensures.law call s.rows s.shape c.view_of-view.result c.perform-answer.ensures.answer)
+    (c.self-2.view_is ∙ c.set_mark.ensures) in
+    let one = added_change s h j c.args.place c.args.row.now c.perform-answer.result c.change_by-change.result c.in-Some.kind t done c.in-Some.is in
+    let few = subst (λ (u : SchedulerState). length (do_command h j u (c.args.place, c.args.row.now)).changes ≤ 2079) (sym c.self.view_is) c.requires.changes in
+    let space = c.self-2.invariant.change_room in
+    record { room = omega (arith, one, few, space) }
+
+pub returns-in_default : goal.returns-in_default
+returns-in_default c =
+    let s = state_of c.self.inside in
+    let h = c.args.entries.now in
+    let j = c.args.tick in
+    let call = c.args.row.now.call in
+    let t = state_of c.self-2.inside in
+    let done : IsPerformed s h j call c.perform-answer.result c.change_by-change.result t =
+    performed_of s h j call c.view_of-view.result c.perform-answer.result c.perform-answer.new.tree.rows c.perform-answer.new.shape c.change_by-change.result c.mark_by.result t
+    (c.view_of-view.ensures ∙ ap (λ u. view_of u h j call) (sym c.self.view_is))
+    c.perform-answer.ensures.answer c.perform-answer.ensures.rows c.perform-answer.ensures.shape
+    (c.change_by-change.ensures.law s.rows s.shape c.view_of-view.result c.perform-answer.ensures.answer c.perform-answer.ensures.rows)
+    (c.mark_by.ensures.law call s.rows s.shape c.view_of-view.result c.perform-answer.ensures.answer)
+    (c.self-2.view_is ∙ c.set_mark.ensures) in
+    done_by s h j c.args.place c.args.row.now c.perform-answer.result c.change_by-change.result t c.push_reply.new.replies.items c.self-2.inside.changes.items done
+    c.push_reply.ensures.items (sym (ap (changes_with t.changes j) c.in_default.is))
+    ∙ ap (λ u. do_command h j u (c.args.place, c.args.row.now)) c.self.view_is

@@ -1,0 +1,18 @@
+use Rattle.std.specs.Prelude.{◌≡◌, ◌≤◌, ◌++◌, List, length, All}
+use Rattle.aps_model.specs.declared.command.Change.{Change}
+use Rattle.aps_model.specs.declared.command.Reply.{Reply}
+use Rattle.aps_model.specs.History.{History}
+use Rattle.aps_model.specs.Partition.{IsRow}
+use Rattle.aps_model.specs.SchedulerState.{SchedulerState}
+use Rattle.aps_model.specs.Shape.{IsShape}
+
+-- the history can go on to what the state has recorded: replies and changes only grew, and have room; no row has gone
+pub record CanRecord (kept : History) (state : SchedulerState) : Type 0 where
+  pub replies : (more : List Reply) × (state.replies ≡ kept.replies ++ more)
+  pub changes : (more : List Change) × (state.changes ≡ kept.changes ++ more)
+  pub reply_room : length state.replies ≤ kept.room.replies
+  pub change_room : length state.changes ≤ kept.room.changes
+  pub no_fewer : length kept.rows ≤ length state.rows
+  pub few_rows : length state.rows ≤ 32
+  pub rows : All IsRow state.rows
+  pub shape : IsShape state.shape

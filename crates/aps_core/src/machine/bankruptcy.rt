@@ -1,0 +1,85 @@
+ghost use Rattle.std.specs.Prelude.{◌≡◌, ◌≤◌, ◌++◌, ◌∷◌, [], ◌/◌, length, All};
+ghost use Rattle.aps_model.specs.Bill.{bankrupt, cancel};
+ghost use Rattle.aps_model.specs.History.{IsEntry};
+ghost use Rattle.aps_model.specs.SchedulerState.{row_at};
+ghost use Rattle.aps_model.specs.Shape.{horizon};
+ghost use Rattle.aps_model.specs.Step.{tested};
+ghost use Rattle.aps_core.specs.Rising.{IsRising};
+
+use super::Machine;
+use crate::room::push_change;
+use crate::usage;
+use aps_model::{Bankruptcy, Change, ChangeKind, Entry, Nanos, PartitionId};
+
+impl Machine {
+    /// The critical budget of a partition, in ns.
+    fn critical_budget(&self, p: PartitionId) -> Nanos
+        ensures { result ≡ (row_at self.now p).critical }
+    {
+        match self.tree.row(p) {
+            None => 0,
+            Some(row) => row.critical,
+        }
+    }
+
+    /// The partition that the entry, which comes last, makes bankrupt: it bills critical time, and the partition's
+    /// critical usage in the window then exceeds its critical budget.
+    fn bankrupt(&self, entries: &[Entry], e: &Entry) -> Option<PartitionId>
+        requires entries { All IsEntry entries.now }
+        requires rising { IsRising entries.now }
+        requires few { length entries.now ≤ 4000000 }
+        requires entry { IsEntry e.now }
+        requires within { e.now.to ≤ horizon self.now.shape }
+        ensures { result ≡ bankrupt self.now (entries.now ++ e.now ∷ []) e.now }
+    {
+        if !e.critical || e.from >= e.to {
+            return None;
+        }
+        let p = e.billed?;
+        let tick = self.tick_of(e.to);
+        let used = usage::critical_with(&self.shape, entries, e, tick, p);
+        if self.critical_budget(p) < used {
+            Some(p)
+        } else {
+            None
+        }
+    }
+
+    /// The partition has no critical budget from this tick on, which is a change where it had one.
+    fn cancel(&mut self, tick: u64, p: PartitionId)
+        requires few { length (cancel self.old tick p).changes ≤ 2079 }
+        requires tick { tick ≤ 1000000 }
+        ensures { self.new ≡ cancel self.old tick p }
+    {
+        if self.critical_budget(p) == 0 {
+            return;
+        }
+        self.tree.cancel(p);
+        let tick = tick as u32;
+        let kind = ChangeKind::Cancelled(p);
+        push_change(&mut self.changes, Change { tick, kind });
+    }
+
+    /// The test of bankruptcy after the bill of an entry, by the policy that stands. The answer is the partition for which
+    /// the run ends.
+    pub fn test(&mut self, entries: &[Entry], e: &Entry) -> Option<PartitionId>
+        requires entries { All IsEntry entries.now }
+        requires rising { IsRising entries.now }
+        requires few { length entries.now ≤ 4000000 }
+        requires entry { IsEntry e.now }
+        requires within { e.now.to ≤ horizon self.old.shape }
+        requires changes { length (tested self.old entries.now e.now).state.changes ≤ 2079 }
+        ensures { tested self.old entries.now e.now ≡ record { state = self.new; reboot = result } }
+    {
+        let p = self.bankrupt(entries, e)?;
+        match self.shape.bankruptcy {
+            Bankruptcy::Basic => None,
+            Bankruptcy::Cancel => {
+                let tick = self.tick_of(e.to);
+                self.cancel(tick, p);
+                None
+            }
+            Bankruptcy::Reboot => Some(p),
+        }
+    }
+}

@@ -1,0 +1,149 @@
+ghost use Rattle.std.specs.Prelude.{◌≡◌, ℕ, ◌*◌, ◌<◌, ◌≤◌, length, map, All};
+ghost use Rattle.std.specs.List.{range_with_len};
+ghost use Rattle.std.specs.Option.{option_map};
+ghost use Rattle.aps_model.specs.History.{IsEntry};
+ghost use Rattle.aps_model.specs.Shape.{IsShape};
+ghost use Rattle.aps_model.specs.TickWork.{do_command, do_commands, thread_named, thread_view, view_of, with_mark};
+ghost use Rattle.aps_model.specs.Usage.{window_used, window_critical};
+ghost use Rattle.aps_core.specs.Calls.{IsInRange};
+ghost use Rattle.aps_core.specs.Rising.{IsRising};
+
+use super::Machine;
+use crate::room::{push_change, push_reply};
+use crate::usage;
+use aps_ctl::{change_by, mark_by, perform};
+use aps_model::{
+    Call, Change, CommandRow, CtlView, Entry, Nanos, PartitionId, Reply, Scenario, Shape, ThreadId,
+    ThreadView,
+};
+
+/// The thread that a command names.
+fn thread_named(call: &Call) -> Option<ThreadId>
+    ensures { result ≡ thread_named call.now }
+{
+    match call {
+        Call::QueryThread { thread } => Some(*thread),
+        Call::MarkCritical { thread } => Some(*thread),
+        Call::ClearCritical { thread } => Some(*thread),
+        _ => None,
+    }
+}
+
+/// What each partition used in the window at a tick, also those that don't exist.
+fn all_used(shape: &Shape, entries: &[Entry], tick: u64) -> [Nanos; 32]
+    requires shape { IsShape shape.now }
+    requires entries { All IsEntry entries.now }
+    requires rising { IsRising entries.now }
+    requires few { length entries.now ≤ 4000000 }
+    requires tick { tick ≤ 1000000 }
+    ensures { result ≡ map (window_used shape.now entries.now tick) (range_with_len 0 32) }
+{
+    let mut used = [0; 32];
+    for p in 0..32 {
+        used[p] = usage::window_used(shape, entries, tick, PartitionId::at(p));
+    }
+    used
+}
+
+/// The critical time of each.
+fn all_critical(shape: &Shape, entries: &[Entry], tick: u64) -> [Nanos; 32]
+    requires shape { IsShape shape.now }
+    requires entries { All IsEntry entries.now }
+    requires rising { IsRising entries.now }
+    requires few { length entries.now ≤ 4000000 }
+    requires tick { tick ≤ 1000000 }
+    ensures { result ≡ map (window_critical shape.now entries.now tick) (range_with_len 0 32) }
+{
+    let mut used = [0; 32];
+    for p in 0..32 {
+        used[p] = usage::window_critical(shape, entries, tick, PartitionId::at(p));
+    }
+    used
+}
+
+impl Machine {
+    /// The thread that the command names, as it stands.
+    fn thread_view(&self, call: &Call) -> Option<ThreadView>
+        ensures { result ≡ option_map (thread_view self.now) (thread_named call.now) }
+    {
+        let x = thread_named(call)?;
+        let thread = self.thread(x);
+        Some(ThreadView {
+            own: thread.own,
+            now: self.facts_of(x),
+            state: thread.state,
+        })
+    }
+
+    /// What the command sees at a tick.
+    fn view_of(&self, entries: &[Entry], tick: u64, call: &Call) -> CtlView
+        requires entries { All IsEntry entries.now }
+        requires rising { IsRising entries.now }
+        requires few { length entries.now ≤ 4000000 }
+        requires tick { tick ≤ 1000000 }
+        ensures { result ≡ view_of self.now entries.now tick call.now }
+    {
+        CtlView {
+            used: all_used(&self.shape, entries, tick),
+            critical_used: all_critical(&self.shape, entries, tick),
+            thread: self.thread_view(call),
+        }
+    }
+
+    /// The thread that the command names has this mark of its own, if one is set.
+    fn set_mark(&mut self, call: &Call, mark: Option<bool>)
+        ensures { self.new ≡ with_mark self.old (thread_named call.now) mark }
+    {
+        if let Some(x) = thread_named(call) {
+            if let Some(critical) = mark {
+                self.mark(x, critical);
+            }
+        }
+    }
+
+    /// Does the command at this place of the scenario, and keeps its reply and its change.
+    fn do_command(&mut self, entries: &[Entry], tick: u64, place: u16, row: &CommandRow)
+        requires entries { All IsEntry entries.now }
+        requires rising { IsRising entries.now }
+        requires few { length entries.now ≤ 4000000 }
+        requires tick { tick ≤ 1000000 }
+        requires call { IsInRange row.now.call }
+        requires replies { length self.old.replies < 1024 }
+        requires changes { length (do_command entries.now tick self.old (place, row.now)).changes ≤ 2079 }
+        ensures { self.new ≡ do_command entries.now tick self.old (place, row.now) }
+    {
+        let call = &row.call;
+        let view = self.view_of(entries, tick, call);
+        let answer = perform(call, &mut self.tree, &mut self.shape, &view);
+        let change = change_by(call, &answer, &self.tree);
+        self.set_mark(call, mark_by(&answer));
+        let reply = Reply {
+            command: place,
+            answer,
+        };
+        push_reply(&mut self.replies, reply);
+        if let Some(kind) = change {
+            let tick = tick as u32;
+            push_change(&mut self.changes, Change { tick, kind });
+        }
+    }
+
+    /// Does the commands of a tick, in order of the scenario.
+    pub fn do_commands(&mut self, scenario: &Scenario, entries: &[Entry], tick: u64)
+        requires entries { All IsEntry entries.now }
+        requires rising { IsRising entries.now }
+        requires few { length entries.now ≤ 4000000 }
+        requires tick { tick ≤ 1000000 }
+        requires replies { length (do_commands scenario.now entries.now tick self.old).replies ≤ 1024 }
+        requires changes { length (do_commands scenario.now entries.now tick self.old).changes ≤ 2079 }
+        ensures { self.new ≡ do_commands scenario.now entries.now tick self.old }
+    {
+        let commands = scenario.commands();
+        for i in 0..commands.len() {
+            let row = &commands[i];
+            if u64::from(row.tick) == tick {
+                self.do_command(entries, tick, i as u16, row);
+            }
+        }
+    }
+}

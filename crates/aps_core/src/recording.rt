@@ -1,0 +1,92 @@
+//! What a step of the machine recorded goes into the history.
+ghost use Rattle.std.specs.Prelude.{◌≡◌, ◌<◌, ◌≤◌, ◌++◌, List, length, All, None};
+ghost use Rattle.aps_model.specs.declared.command.Change.{Change as ChangeOf};
+ghost use Rattle.aps_model.specs.declared.command.Reply.{Reply as ReplyOf};
+ghost use Rattle.aps_model.specs.After.{is_at_horizon, or_limit, over_by};
+ghost use Rattle.aps_model.specs.History.{IsEntry};
+ghost use Rattle.aps_model.specs.Partition.{IsRow};
+ghost use Rattle.aps_core.specs.CanRecord.{CanRecord};
+ghost use Rattle.aps_core.specs.Run.{with_last};
+
+use crate::machine::Machine;
+use aps_model::{Change, End, Entry, History, PartitionId, PartitionRow, Reply};
+
+/// The history has the entry of a step that left this machine, all that the machine has recorded, and the end of the
+/// run if that has come: by a reboot for the partition, at the horizon, or by the limit.
+pub fn record(
+    history: &mut History,
+    e: Entry,
+    machine: &Machine,
+    reboot: Option<PartitionId>,
+    limit: u32,
+)
+    requires room { length history.old.entries < history.old.room.entries }
+    requires entry { IsEntry e }
+    requires goes_on { history.old.end ≡ None }
+    requires machine { CanRecord history.old machine.now }
+    ensures { history.new ≡ with_last history.old limit reboot machine.now e }
+{
+    add_replies(history, machine.replies());
+    add_changes(history, machine.changes());
+    set_rows(history, machine.rows());
+    history.set_shape(*machine.shape());
+    history.add_entry(e);
+    if let Some(end) = end_after(machine, reboot, history.entries(), limit) {
+        history.set_end(end);
+    }
+}
+
+/// The history has these replies, which are its own and more.
+fn add_replies(history: &mut History, replies: &[Reply])
+    requires more { (more : List ReplyOf) × (replies.now ≡ history.old.replies ++ more) }
+    requires room { length replies.now ≤ history.old.room.replies }
+    ensures { history.new ≡ record history.old { replies = replies.now } }
+{
+    for i in history.replies().len()..replies.len() {
+        history.add_reply(replies[i]);
+    }
+}
+
+/// The history has these changes, which are its own and more.
+fn add_changes(history: &mut History, changes: &[Change])
+    requires more { (more : List ChangeOf) × (changes.now ≡ history.old.changes ++ more) }
+    requires room { length changes.now ≤ history.old.room.changes }
+    ensures { history.new ≡ record history.old { changes = changes.now } }
+{
+    for i in history.changes().len()..changes.len() {
+        history.add_change(changes[i]);
+    }
+}
+
+/// The history has these rows, of which there are no fewer than before.
+fn set_rows(history: &mut History, rows: &[PartitionRow])
+    requires no_fewer { length history.old.rows ≤ length rows.now }
+    requires few { length rows.now ≤ 32 }
+    requires rows { All IsRow rows.now }
+    ensures { history.new ≡ record history.old { rows = rows.now } }
+{
+    for p in 0..rows.len() {
+        history.set_row(PartitionId::at(p), rows[p]);
+    }
+}
+
+/// The end of a run that has these entries and left this machine, and perhaps a partition for which it ends.
+fn end_after(
+    machine: &Machine,
+    reboot: Option<PartitionId>,
+    entries: &[Entry],
+    limit: u32,
+) -> Option<End>
+    requires { All IsEntry entries.now }
+    ensures { result ≡ or_limit (over_by reboot (is_at_horizon machine.now entries.now)) limit (length entries.now) }
+{
+    if let Some(p) = reboot {
+        Some(End::Reboot(p))
+    } else if machine.is_at_horizon(entries) {
+        Some(End::Horizon)
+    } else if entries.len() == limit as usize {
+        Some(End::Limit)
+    } else {
+        None
+    }
+}
