@@ -9,7 +9,6 @@ use Rattle.aps_model.specs.declared.state.CpuNow.{CpuNow}
 use Rattle.aps_model.specs.declared.state.Pick.{Pick}
 use Rattle.aps_model.specs.declared.state.State.TheVariants.{Running}
 use Rattle.aps_model.specs.declared.state.ThreadNow.{ThreadNow}
-use Rattle.aps_laws.specs.Bears.{NamesChannels}
 use Rattle.aps_laws.specs.Between.{IsBetween, IsWellFormed, after_bill, after_tick, before_pick}
 use Rattle.aps_laws.specs.Moments.{IsGrounded}
 use Rattle.aps_laws.specs.Sizes.{IsSameSizes}
@@ -17,12 +16,11 @@ use Rattle.aps_laws.specs.Sound.{IsSound}
 use Rattle.aps_laws.specs.Stamps.{IsStamped}
 use Rattle.aps_laws.specs.ThreadFits.{Each, IsThreadFit}
 use Rattle.aps_laws.specs.Waits.{IsPlain, state_at}
-use Rattle.aps_laws.proofs.Commands.{sizes_same}
 use Rattle.aps_laws.proofs.EachStep.{IsTestedEach, back_each, tested_each}
 use Rattle.aps_laws.proofs.IdsLaw.{all_fit}
 use Rattle.aps_laws.proofs.Inherits.{all_more, facts_fit}
 use Rattle.aps_laws.proofs.ListsFit.{AreListsFit, begun_lists, lists_same, settled_lists, tested_lists}
-use Rattle.aps_laws.proofs.Mid.{IsFramed, back_mid, command_kept, framed_bears, sizes_trans, test_mid, tested_by, ticked, unflagged}
+use Rattle.aps_laws.proofs.Mid.{back_mid, sizes_trans, test_mid, tested_by, ticked, unflagged}
 use Rattle.aps_laws.proofs.MomentLaws.{first_is_due}
 use Rattle.aps_laws.proofs.Ranges.{pairs_within}
 use Rattle.aps_laws.proofs.RowsGrow.{settled_rows, tested_rows}
@@ -30,9 +28,8 @@ use Rattle.aps_laws.proofs.StampCounts.{settled_stamps, tested_stamps, ticked_st
 use Rattle.aps_laws.proofs.StepOf.{bill_at, horizon_same, mid_count}
 use Rattle.aps_laws.proofs.ThreadFacts.{running_within}
 use Rattle.aps_laws.proofs.ThreadFit.{IsBeforeBill, IsInStep, IsSpent, prepared}
-use Rattle.aps_laws.proofs.ThreadLaws.{stamps_borne, stamps_law}
-use Rattle.aps_laws.proofs.ThreadMoves.{alike_state, threads_bear}
-use Rattle.aps_laws.proofs.Walk.{returned_kept, tick_kept}
+use Rattle.aps_laws.proofs.ThreadLaws.{back_both, stamps_borne, stamps_law, ticked_both}
+use Rattle.aps_laws.proofs.ThreadMoves.{alike_state}
 use Rattle.aps_model.specs.After.{after, over, state_after}
 use Rattle.aps_model.specs.Bill.{spend}
 use Rattle.aps_model.specs.Due.{HasTurn, due, last_end, last_to, left_running}
@@ -40,31 +37,17 @@ use Rattle.aps_model.specs.Legal.{IsLegal}
 use Rattle.aps_model.specs.Program.{IsPriority}
 use Rattle.aps_model.specs.Scenario.{Scenario}
 use Rattle.aps_model.specs.SchedulerState.{Message, SchedulerState, Triple, channel_at, cpu_at, thread_at}
-use Rattle.aps_model.specs.Step.{begun, billed, settled, tested}
+use Rattle.aps_model.specs.Step.{billed, tested}
 use Rattle.aps_model.specs.Shape.{horizon}
 use Rattle.aps_model.specs.Valid.{IsScenario}
 
 -- ---- stamps
-
-stamped_tick : (scenario : Scenario) (s : SchedulerState) (h : List Entry) (c now : ℕ) → IsPlain scenario s → IsStamped s.threads s.stamps → IsStamped (begun scenario s h c now).threads (begun scenario s h c now).stamps
-stamped_tick scenario s h c now plain m =
-    let s' = unflagged s c in
-    (tick_kept scenario now (λ t. (IsPlain scenario t × IsStamped t.threads t.stamps) × IsFramed s' t)
-    (λ t y u. (framed_bears scenario now c 0 s' (λ t. IsPlain scenario t × IsStamped t.threads t.stamps) (threads_bear scenario now c 0 IsStamped (stamps_borne.moves c 0))).woken t y u)
-    (λ g j t k. command_kept scenario c 0 s' IsStamped (stamps_borne.moves c 0) g j t k) s' h
-    ((record { waiting = plain.waiting; channels = plain.channels }, m), record { cpus = refl; sizes = sizes_same s.shape })).0.1
 
 stamped_spent : (s : SchedulerState) (c ns : ℕ) (running : Option Pick) → ((p : Pick) → running ≡ Some p → state_at s p.thread ≡ Running c) → IsStamped s.threads s.stamps → IsStamped (spend s ns running).threads (spend s ns running).stamps
 stamped_spent s c ns None runs m = m
 stamped_spent s c ns (Some p) runs m =
     let run = runs p refl in
     (stamps_borne.moves c p.thread).quiet s.threads s.stamps p.thread _ m (running_within s p.thread c run) (inl (refl, run, inl run)) refl
-
-stamped_settled : (scenario : Scenario) (s : SchedulerState) (c now : ℕ) (running : Option Pick) → NamesChannels scenario → IsPlain scenario s → ((p : Pick) → running ≡ Some p → state_at s p.thread ≡ Running c) → IsStamped s.threads s.stamps
-    → IsStamped (settled scenario s now running).state.threads (settled scenario s now running).state.stamps
-stamped_settled scenario s c now None names plain runs m = m
-stamped_settled scenario s c now (Some p) names plain runs m =
-    (returned_kept scenario now c p (λ t. IsPlain scenario t × IsStamped t.threads t.stamps) (threads_bear scenario now c p.thread IsStamped (stamps_borne.moves c p.thread)) names s (plain, m) (runs p refl)).0.1
 
 -- ---- each of the states
 
@@ -123,7 +106,7 @@ between scenario order h c r legal running turn =
     let rows' : length r'.rows ≡ rows = ap (λ (l : List PartitionRow). length l) (settled_rows scenario s3 c now run st.names mid.mid.plain mid.runs) ∙ rows3 in
     let runs1 : (q : Pick) → run ≡ Some q → state_at s1 q.thread ≡ Running c = λ q e. alike_state (tick.as_before q.thread c (g.kept.runs c q e)) ∙ g.kept.runs c q e in
     let stamped0 = stamps_law scenario order r h legal in
-    let stamped1 = stamped_tick scenario s h c now g.plain stamped0 in
+    let stamped1 = (ticked_both scenario IsStamped stamps_borne s h c now (g.plain, stamped0)).1 in
     let stamped2 = stamped_spent s1 c ((bill_at s h c).to - (bill_at s h c).from) run runs1 stamped1 in
     let stamped3 = tested_stamped s1 (bill_at s h c) h run stamped2 in
     let lists1 = lists_same channels s s1 (begun_lists scenario s h c now) m.lists in
@@ -132,7 +115,7 @@ between scenario order h c r legal running turn =
     (λ y below. (p.begun' y below).in_step.fit) (λ y below. (p.begun' y below).in_step.since) stamped1 lists1 in
     let well3 : IsWellFormed scenario now s3 = well scenario now s3 mid.mid.plain (mid.mid.count ∙ m.count) (mid_count scenario s c s3 mid.mid ∙ g.cpu_count ∙ g.sizes.cpus) (sizes_trans g.sizes mid.mid.sizes)
     (λ y below. subst (λ n. IsThreadFit scenario n y (thread_at s3 y)) (sym rows3) (fits3 y below).0) (λ y below. (fits3 y below).1) stamped3 lists3 in
-    let stamped' = stamped_settled scenario s3 c now run st.names mid.mid.plain mid.runs stamped3 in
+    let stamped' = (back_both scenario IsStamped stamps_borne s3 c now run st.names ((mid.mid.plain, stamped3), mid.runs)).1 in
     let lists' = settled_lists scenario st.names s3 now run (λ q e. (well3.inherited q.thread (running_within s3 q.thread c (mid.runs q e))).priority) lists3 in
     record {
       ticked = well1;

@@ -5,7 +5,6 @@ use Rattle.std.proofs.lemmas.Bool.{cases_eq, cases_lt, eqb-true, ltb-true}
 use Rattle.std.proofs.lemmas.List.FromFn.{get_or-map-range_with_len, length-map-range_with_len}
 use Rattle.std.proofs.lemmas.List.Sums.{sum_by-cons}
 use Rattle.std.proofs.lemmas.List.{get_or_past}
-use Rattle.std.proofs.Math.Seq.{map-set_same}
 use Rattle.aps_model.specs.declared.entry.Entry.{Entry}
 use Rattle.aps_model.specs.declared.entry.Order.{Order}
 use Rattle.aps_model.specs.declared.merit.Contender.{Contender}
@@ -23,6 +22,7 @@ use Rattle.aps_laws.proofs.Channels.{names_channels}
 use Rattle.aps_laws.proofs.EachStep.{IsStanding}
 use Rattle.aps_laws.proofs.Mid.{IsBack, back_mid, test_mid}
 use Rattle.aps_laws.proofs.Picked.{IsReadyBest, greatest_ready}
+use Rattle.aps_laws.proofs.PickSays.{facts_picked}
 use Rattle.aps_laws.proofs.SmallNumbers.{one_of, sum_added, sum_bounded, sum_changed, sum_less, sum_same}
 use Rattle.aps_laws.proofs.Sound.{after-append, legal_last, sound}
 use Rattle.aps_laws.proofs.StepOf.{bill_at, mid_cpu, step_by, tested_at}
@@ -33,12 +33,12 @@ use Rattle.aps_model.specs.Bill.{bill_of}
 use Rattle.aps_model.specs.Budget.{all_parts, no_part, part_at, part_facts}
 use Rattle.aps_model.specs.Due.{due, last_end}
 use Rattle.aps_model.specs.Flag.{flag_for, with_flag}
-use Rattle.aps_model.specs.Inherit.{facts_of, inherited, top_of}
+use Rattle.aps_model.specs.Inherit.{facts_of}
 use Rattle.aps_model.specs.Legal.{IsLegal}
 use Rattle.aps_model.specs.Merit.{is_candidate, is_critical_pick}
 use Rattle.aps_model.specs.Pick.{candidates, contender_of, contenders, greatest, is_ready, missing}
 use Rattle.aps_model.specs.Scenario.{Scenario}
-use Rattle.aps_model.specs.SchedulerState.{ChannelNow, SchedulerState, cpu_at, idle, no_thread, row_at, thread_at}
+use Rattle.aps_model.specs.SchedulerState.{SchedulerState, cpu_at, idle, row_at, thread_at}
 use Rattle.aps_model.specs.Partition.{row_or_none}
 use Rattle.aps_model.specs.Shape.{whole}
 use Rattle.aps_model.specs.Usage.{window_used}
@@ -261,11 +261,6 @@ none_missing r c h j v m =
 
 -- ---- the pick and the flag leave as many
 
-facts_picked : (r : SchedulerState) (ps : List PartFacts) (c : ℕ) (b : Contender) (x : ℕ) → facts_of (chosen r ps c (Some b)) x ≡ facts_of r x
-facts_picked r ps c b x =
-    ap (λ (own : List Facts). inherited (record { own = own; triples = r.triples; tops = map (λ (k : ChannelNow). top_of k.messages) r.channels }) x)
-    (map-set_same (λ (t : ThreadNow). t.own) r.threads b.thread (record (thread_at r b.thread) { state = Running c }) no_thread refl)
-
 still_active : (r : SchedulerState) (ps : List PartFacts) (c : ℕ) (b : Contender) (x : ℕ) → state_at r b.thread ≡ Ready → is_active (state_at (chosen r ps c (Some b)) x) ≡ is_active (state_at r x)
 still_active r ps c b x ready = elim (cases_eq x b.thread) [
   | inl e ↦
@@ -282,7 +277,7 @@ active_picked r ps c b p ready =
     ∙ sum_same (λ x. one_if (is_active (state_at r x) && nat_eq (facts_of r x).partition p)) (λ x. one_if (is_active (state_at (chosen r ps c (Some b)) x) && nat_eq (facts_of (chosen r ps c (Some b)) x).partition p)) (length r.threads) 0
     (λ x l.
     ap (λ t. one_if (t && nat_eq (facts_of (chosen r ps c (Some b)) x).partition p)) (still_active r ps c b x ready)
-    ∙ ap (λ (f : Facts). one_if (is_active (state_at r x) && nat_eq f.partition p)) (facts_picked r ps c b x))
+    ∙ ap (λ (f : Facts). one_if (is_active (state_at r x) && nat_eq f.partition p)) (facts_picked r ps c (Some b) x))
 
 enough_picked : (r : SchedulerState) (ps : List PartFacts) (c : ℕ) (best : Option Contender) → ((b : Contender) → best ≡ Some b → IsReadyBest r b) → HasEnough (chosen r ps c best) → HasEnough r
 enough_picked r ps c None ready m = record { unlimited = m.unlimited; threads = m.threads }

@@ -8,9 +8,9 @@ use Rattle.toml.specs.Data.{Members}
 use Rattle.toml.specs.Parse.{parse_document}
 use Rattle.aps_scenario.specs.declared.kind.Kind.TheVariants.{NotToml}
 use Rattle.aps_scenario.specs.Path.{whole_text}
-use Rattle.aps_scenario.specs.Reading.{reads, scenario_at, or_not_built}
+use Rattle.aps_scenario.specs.Reading.{reads, scenario_at, or_told}
 
-pub reads-document : (bytes : List ℕ) (t : Members) → IsUtf8 bytes → parse_document bytes ≡ Some t → reads bytes ≡ or_not_built (scenario_at t)
+pub reads-document : (bytes : List ℕ) (t : Members) → IsUtf8 bytes → parse_document bytes ≡ Some t → reads bytes ≡ or_told (scenario_at t)
 reads-document bytes t utf8 parsed = rw (is_utf8-from_IsUtf8 bytes utf8, parsed)
 
 pub reads-no_document : (bytes : List ℕ) → (IsUtf8 bytes → parse_document bytes ≡ None) → reads bytes ≡ Err (record { kind = NotToml; path = whole_text })

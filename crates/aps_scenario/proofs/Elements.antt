@@ -1,5 +1,5 @@
 -- The elements of an array, read in a loop.
-use Rattle.std.proofs.Common.{◌≡◌, ℕ, suc, ◌+◌, ◌<◌, ◌≤◌, List, length, get_or, drop, Result, Ok, Err, inl, inr, sym, arith, nat_le}
+use Rattle.std.proofs.Common.{◌≡◌, ℕ, suc, ◌+◌, ◌<◌, ◌≤◌, List, length, get_or, drop, Result, Ok, Err, inl, inr, sym, arith, nat_le, ◌&&◌}
 use Rattle.std.proofs.lemmas.Bool.Decides.{nat_tests}
 use Rattle.std.proofs.lemmas.List.{drop_all}
 use Rattle.toml.specs.declared.value.Value.{Value}
@@ -12,7 +12,7 @@ use Rattle.aps_scenario.specs.declared.refusal.Finding.{Finding}
 use Rattle.aps_scenario.specs.declared.refusal.Failure.{Failure}
 use Rattle.aps_scenario.specs.declared.refusal.Failure.TheVariants as failure
 use Rattle.aps_scenario.specs.Row.{value_of, or_wrong_kind}
-use Rattle.aps_scenario.specs.Elements.{read_each, items_len, array_up_to, row_array}
+use Rattle.aps_scenario.specs.Elements.{read_each, items_len, array_of, row_tables}
 use Rattle.aps_scenario.proofs.Values.{bind-ok, cond-ok, value_of-ok}
 use Rattle.aps_scenario.specs.Refusal.{Fails}
 
@@ -62,15 +62,19 @@ read_each-keeps reads adds P step (item d rest) n so_far whole before e =
     rw (← count) (read_each-keeps reads adds P step rest (suc n) (adds so_far p.0) whole (step n so_far d p.0 before p.1) p.2)
 
 -- an array is as long as its row lets it be
-pub array-ok : (key : Key) (most : ℕ) (place : Place) (t : Members) (items : Items) → value_of (row_array key most) place t ≡ Ok items → items_len items ≤ most
-array-ok key most place t items e =
-    elim (value_of-ok (row_array key most) place t items e) [
+pub record HasLength (least most : ℕ) (items : Items) : Type 0 where
+  pub some : least ≤ items_len items
+  pub few : items_len items ≤ most
+
+pub array_of-ok : (least most : ℕ) (d : Data) (items : Items) → array_of least most d ≡ Ok items → HasLength least most items
+array_of-ok least most d items e =
+    let p = bind-ok (or_wrong_kind (as_array d)) _ items e in
+    let q = cond-ok (nat_le least (items_len p.0) && nat_le (items_len p.0) most) p.0 items _ p.2 in
+    rw (← q.1) (record { some = grind (arith, nat_tests, q.0); few = grind (arith, nat_tests, q.0) })
+
+pub tables-ok : (key : Key) (most : ℕ) (place : Place) (t : Members) (items : Items) → value_of (row_tables key most) place t ≡ Ok items → items_len items ≤ most
+tables-ok key most place t items e =
+    elim (value_of-ok (row_tables key most) place t items e) [
       | inl none ↦ let same : no_items ≡ items = cc in rw (← same) (omega arith)
-      | inr p ↦ up_to p.0 p.1
+      | inr p ↦ let long = array_of-ok 0 most p.0 items p.1 in long.few
     ]
-  where
-    up_to : (d : Data) → array_up_to most d ≡ Ok items → items_len items ≤ most
-    up_to d e =
-        let p = bind-ok (or_wrong_kind (as_array d)) _ items e in
-        let q = cond-ok (nat_le (items_len p.0) most) p.0 items _ p.2 in
-        rw (← q.1) (grind (arith, nat_tests, q.0))

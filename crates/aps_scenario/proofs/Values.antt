@@ -8,7 +8,7 @@ use Rattle.aps_scenario.specs.declared.kind.Kind.{Kind}
 use Rattle.aps_scenario.specs.declared.refusal.Finding.{Finding}
 use Rattle.aps_scenario.specs.declared.refusal.Place.{Place}
 use Rattle.aps_scenario.specs.Key.{key_text}
-use Rattle.aps_scenario.specs.Row.{◌>>=◌, Row, row_integer, row_name, value_of, at_key, given, or_default, in_range, integer_in, integer, or_wrong_kind, is_name, name, unless}
+use Rattle.aps_scenario.specs.Row.{◌>>=◌, Row, row_integer, row_name, optional, some_of, value_of, at_key, given, or_default, in_range, integer_in, integer, or_wrong_kind, is_name, name, unless}
 
 -- a chain of tests that passes
 pub bind-ok : {A B E : Type 0} (r : Result A E) (f : A → Result B E) (y : B) → r >>= f ≡ Ok y → (x : A) × (r ≡ Ok x) × (f x ≡ Ok y)
@@ -82,6 +82,21 @@ name-ok d text e =
     let q = cond-ok (is_name p.0) p.0 text _ p.2 in
     rw (← q.1) (is_name-IsName p.0 q.0)
 
-pub named-ok : (place : Place) (t : Members) (text : List ℕ) → value_of row_name place t ≡ Ok text → IsName text
-named-ok place t text e =
-    elim (value_of-ok row_name place t text e) [ inl none ↦ absurd (cc) | inr p ↦ name-ok p.0 text p.1 ]
+pub named-ok : (key : Key) (place : Place) (t : Members) (text : List ℕ) → value_of (row_name key None) place t ≡ Ok text → IsName text
+named-ok key place t text e =
+    elim (value_of-ok (row_name key None) place t text e) [ inl none ↦ absurd (cc) | inr p ↦ name-ok p.0 text p.1 ]
+
+pub named_or-ok : (key : Key) (default : List ℕ) (place : Place) (t : Members) (text : List ℕ) → IsName default
+    → value_of (row_name key (Some default)) place t ≡ Ok text → IsName text
+named_or-ok key default place t text named e =
+    elim (value_of-ok (row_name key (Some default)) place t text e) [ inl same ↦ let s : default ≡ text = cc in rw (← s) named | inr p ↦ name-ok p.0 text p.1 ]
+
+-- a value that may be absent was read, where it is there
+pub optional-ok : {A : Type 0} (row : Row A) (place : Place) (t : Members) (x : A) → value_of (optional row) place t ≡ Ok (Some x)
+    → (d : Data) × (row.reads d ≡ Ok x)
+optional-ok {A = A} row place t x e =
+    elim (value_of-ok (optional row) place t (Some x) e) [ inl none ↦ absurd (cc) | inr p ↦ (p.0, read (row.reads p.0) p.1) ]
+  where
+    read : (r : Result A Kind) → some_of r ≡ Ok (Some x) → r ≡ Ok x
+    read (Ok y) e = cc
+    read (Err kind) e = absurd (cc)

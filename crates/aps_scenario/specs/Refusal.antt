@@ -1,3 +1,4 @@
+-- Why a text is no scenario, as it is told, and what functions answer.
 use Rattle.std.specs.Prelude.{◌≡◌, ℕ, List, Result, Ok, Err, ⊤}
 use Rattle.aps_scenario.specs.declared.kind.Kind.{Kind}
 use Rattle.aps_scenario.specs.declared.refusal.Finding.{Finding}
@@ -5,11 +6,15 @@ use Rattle.aps_scenario.specs.declared.refusal.Failure.{Failure}
 use Rattle.aps_scenario.specs.declared.refusal.Failure.TheVariants as failure
 use Rattle.aps_scenario.specs.declared.refusal.ScenarioRefusal.{ScenarioRefusal}
 use Rattle.aps_scenario.specs.declared.refusal.ScenarioRefusal.TheVariants as refusal
+use Rattle.aps_scenario.specs.Path.{path_text}
 
 -- why a text is no scenario, as it is told
 pub record Refusal : Type 0 where
   pub kind : Kind
   pub path : List ℕ
+
+abbrev pub told : Finding → Refusal
+told finding = record { kind = finding.kind; path = path_text finding.part }
 
 -- what a function returned, seen by view, is what reading gives, unless memory ran out
 abbrev pub Fails : {Y : Type 0} → Failure → Result Y Finding → Type 0

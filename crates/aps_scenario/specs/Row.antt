@@ -1,13 +1,11 @@
 -- One row of the tables of keys: a key with its kind, its range and its default.
-use Rattle.std.specs.Prelude.{ℕ, ℤ, pos, negsuc, ◌%◌, ◌==◌, ◌&&◌, nat_le, Bool, List, length, codes, Option, Some, None, Result, Ok, Err, if◌then◌else◌}
+use Rattle.std.specs.Prelude.{ℕ, ℤ, pos, negsuc, ◌%◌, ◌==◌, ◌&&◌, nat_le, Bool, List, [], ◌∷◌, length, Option, Some, None, Result, Ok, Err, if◌then◌else◌}
 use Rattle.std.specs.List.{list_any, list_all}
 use Rattle.std.specs.Str.{bytes_eq}
-use Rattle.toml.specs.Data.{Data, Members, no_members, member, get_member, as_integer, as_str, as_table}
+use Rattle.toml.specs.Data.{Data, Members, no_members, member, get_member, as_integer, as_str, as_bool, as_table}
 use Rattle.aps_model.specs.Name.{is_name_byte}
-use Rattle.aps_model.specs.declared.scenario.Policy.{Policy}
-use Rattle.aps_model.specs.declared.scenario.Policy.TheVariants.{Fifo, Rr}
 use Rattle.aps_scenario.specs.declared.key.Key.{Key}
-use Rattle.aps_scenario.specs.declared.key.Key.TheVariants.{Name, Policy as PolicyKey}
+use Rattle.aps_scenario.specs.declared.key.Key.TheVariants.{Name}
 use Rattle.aps_scenario.specs.declared.kind.Kind.{Kind}
 use Rattle.aps_scenario.specs.declared.kind.Kind.TheVariants.{Missing, WrongKind, OutOfRange, BadName, UnknownKey}
 use Rattle.aps_scenario.specs.declared.refusal.Place.{Place}
@@ -15,6 +13,7 @@ use Rattle.aps_scenario.specs.declared.refusal.Part.{Part}
 use Rattle.aps_scenario.specs.declared.refusal.Part.TheVariants.{Table, At, OtherKey}
 use Rattle.aps_scenario.specs.declared.refusal.Finding.{Finding}
 use Rattle.aps_scenario.specs.Key.{key_text}
+use Rattle.aps_scenario.specs.Path.{held, printed_key}
 
 infixl 10 ◌>>=◌
 -- the tests come one after the other, and the first that fails is the finding
@@ -43,6 +42,19 @@ integer_in low high step (Some (negsuc n)) = Err OutOfRange
 abbrev pub integer : ℕ → ℕ → ℕ → Data → Result ℕ Kind
 integer low high step d = integer_in low high step (as_integer d)
 
+abbrev pub truth : Data → Result Bool Kind
+truth d = or_wrong_kind (as_bool d)
+
+-- what the text stands for in a fixed list of words
+abbrev pub word_in : {A : Type 0} → List (List ℕ × A) → List ℕ → Result A Kind
+word_in [] text = Err OutOfRange
+word_in (word ∷ words) text = if bytes_eq text word.0 then Ok word.1 else word_in words text
+
+abbrev pub word : {A : Type 0} → List (List ℕ × A) → Data → Result A Kind
+word words d = do
+  text ← or_wrong_kind (as_str d)
+  word_in words text
+
 abbrev pub is_name : List ℕ → Bool
 is_name text = (nat_le 1 (length text) && nat_le (length text) 15) && list_all is_name_byte text
 
@@ -51,17 +63,6 @@ abbrev pub name : Data → Result (List ℕ) Kind
 name d = do
   text ← or_wrong_kind (as_str d)
   if is_name text then Ok text else Err BadName
-
-abbrev pub policy_named : List ℕ → Result Policy Kind
-policy_named text =
-    if bytes_eq text (codes "fifo") then Ok Fifo
-    else if bytes_eq text (codes "rr") then Ok Rr
-    else Err OutOfRange
-
-abbrev pub policy : Data → Result Policy Kind
-policy d = do
-  text ← or_wrong_kind (as_str d)
-  policy_named text
 
 -- ---- rows
 
@@ -90,11 +91,22 @@ value_of row place t = at_key place row.key (given row (get_member (key_text row
 abbrev pub row_integer : Key → ℕ → ℕ → ℕ → Option ℕ → Row ℕ
 row_integer key low high step default = record { key = key; reads = integer low high step; default = default }
 
-abbrev pub row_name : Row (List ℕ)
-row_name = record { key = Name; reads = name; default = None }
+abbrev pub row_truth : Key → Option Bool → Row Bool
+row_truth key default = record { key = key; reads = truth; default = default }
 
-abbrev pub row_policy : Row Policy
-row_policy = record { key = PolicyKey; reads = policy; default = Some Fifo }
+abbrev pub row_word : {A : Type 0} → Key → List (List ℕ × A) → Option A → Row A
+row_word key words default = record { key = key; reads = word words; default = default }
+
+abbrev pub row_name : Key → Option (List ℕ) → Row (List ℕ)
+row_name key default = record { key = key; reads = name; default = default }
+
+abbrev pub some_of : {A E : Type 0} → Result A E → Result (Option A) E
+some_of (Ok x) = Ok (Some x)
+some_of (Err e) = Err e
+
+-- the row with no value where the key is absent
+abbrev pub optional : {A : Type 0} → Row A → Row (Option A)
+optional row = record { key = row.key; reads = λ d. some_of (row.reads d); default = Some None }
 
 -- ---- tables
 
@@ -109,7 +121,7 @@ unknown_key known (member key d rest) = if is_known known key then unknown_key k
 
 abbrev pub none_unknown : Place → Option (List ℕ) → Result (Unit {0}) Finding
 none_unknown place None = Ok tt
-none_unknown place (Some key) = finds UnknownKey (OtherKey place)
+none_unknown place (Some key) = finds UnknownKey (OtherKey place (held (printed_key key)))
 
 -- a table has no keys but these
 abbrev pub only : List Key → Place → Members → Result (Unit {0}) Finding

@@ -1,4 +1,5 @@
-ghost use Rattle.std.specs.Prelude.{◌≡◌};
+//! The keys of the tables.
+ghost use Rattle.std.specs.Prelude.{◌≡◌, ◌≤◌, length};
 ghost use Rattle.aps_scenario.specs.Key.{key_text};
 
 /// A key of a table.
@@ -9,19 +10,30 @@ pub enum Key {
     Tick,
     Window,
     Ticks,
+    CallNs,
+    Free,
+    Limit,
+    Bankruptcy,
     Partition,
+    Channel,
     Thread,
+    Command,
     Name,
+    Parent,
     Budget,
+    Critical,
+    Max,
     Priority,
     Policy,
     Program,
+    Do,
 }
 
 impl Key {
     /// The key as it is written.
     pub fn text(self) -> &'static str
-        ensures { result.now ≡ key_text self }
+        ensures is { result.now ≡ key_text self }
+        ensures short { length result.now ≤ 10 }
     {
         match self {
             Key::Version => "version",
@@ -29,13 +41,23 @@ impl Key {
             Key::Tick => "tick",
             Key::Window => "window",
             Key::Ticks => "ticks",
+            Key::CallNs => "call_ns",
+            Key::Free => "free",
+            Key::Limit => "limit",
+            Key::Bankruptcy => "bankruptcy",
             Key::Partition => "partition",
+            Key::Channel => "channel",
             Key::Thread => "thread",
+            Key::Command => "command",
             Key::Name => "name",
+            Key::Parent => "parent",
             Key::Budget => "budget",
+            Key::Critical => "critical",
+            Key::Max => "max",
             Key::Priority => "priority",
             Key::Policy => "policy",
             Key::Program => "program",
+            Key::Do => "do",
         }
     }
 }

@@ -1,3 +1,4 @@
+//! What is wrong with a text.
 ghost use Rattle.std.specs.Prelude.{◌≡◌};
 ghost use Rattle.aps_scenario.specs.Kind.{kind_word};
 
@@ -22,10 +23,10 @@ pub enum Kind {
     UnknownName,
     /// A name that an earlier element has.
     Duplicate,
+    /// A text that is no operation, or an operation that can't stand at its place in the program.
+    BadOperation { at: u16 },
     /// A budget that the parent hasn't left.
     BudgetOver,
-    /// A form that isn't simulated yet.
-    NotBuilt,
 }
 
 impl Kind {
@@ -42,8 +43,8 @@ impl Kind {
             Kind::BadName => "bad-name",
             Kind::UnknownName => "unknown-name",
             Kind::Duplicate => "duplicate",
+            Kind::BadOperation { .. } => "bad-operation",
             Kind::BudgetOver => "budget-over",
-            Kind::NotBuilt => "not-built",
         }
     }
 }

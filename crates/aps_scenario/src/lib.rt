@@ -1,18 +1,30 @@
 //! The scenario that a text is, or why it is none.
 #![tactic(auto)]
 
+mod calls;
+mod channels;
+mod commands;
+mod joinable;
 mod key;
 mod kind;
+mod operation;
 mod partitions;
 mod path;
+mod printing;
+mod program;
 mod reading;
 mod refusal;
 mod row;
+mod sizes;
 #[cfg(test)]
 mod tests;
 mod threads;
+mod upgrading;
+mod words;
 
 pub use kind::Kind;
 pub use path::PathText;
+pub use printing::print;
 pub use reading::scenario_of;
 pub use refusal::ScenarioRefusal;
+pub use upgrading::upgrade;

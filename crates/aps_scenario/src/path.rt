@@ -1,5 +1,12 @@
-ghost use Rattle.std.specs.Prelude.{◌≡◌, ◌≤◌, length};
+//! Paths, which stand in place.
+ghost use Rattle.std.specs.Prelude.{◌≡◌, ◌+◌, ◌<◌, ◌≤◌, ◌++◌, [], ◌∷◌, length, take};
+ghost use Rattle.std.specs.Fmt.{decimal};
+ghost use Rattle.std.specs.List.{list_all};
+ghost use Rattle.aps_model.specs.Name.{is_name_byte};
+ghost use Rattle.aps_scenario.specs.Path as spec;
 
+use crate::key::Key;
+use crate::refusal::{Part, Place};
 use std::marker::Model;
 
 /// Where in a text something is wrong: at most 64 bytes.
@@ -11,7 +18,7 @@ pub struct PathText {
 
 impl Model for PathText {
     ghost use Rattle.std.specs.Prelude.{ℕ, List, take, length};
-    ghost use Rattle.aps_scenario.specs.Path.{padded, FitsPath};
+    ghost use Rattle.aps_scenario.specs.PathText.{padded, FitsPath};
 
     ghost Value = { List ℕ };
 
@@ -25,11 +32,9 @@ impl Model for PathText {
 }
 
 impl PathText {
-    ghost use Rattle.aps_scenario.specs.Path.{whole_text};
-
     /// The path of the text as a whole.
     pub fn whole() -> PathText
-        ensures { result ≡ whole_text }
+        ensures { result ≡ spec.whole_text }
     {
         let mut bytes = [0; 64];
         bytes[0] = b'-';
@@ -43,4 +48,177 @@ impl PathText {
     {
         &self.bytes[..self.len as usize]
     }
+
+    fn empty() -> PathText
+        ensures { result ≡ [] }
+    {
+        PathText {
+            bytes: [0; 64],
+            len: 0,
+        }
+    }
+
+    fn push(&mut self, byte: u8)
+        requires { length self.old < 64 }
+        ensures is { self.new ≡ self.old ++ byte ∷ [] }
+        ensures long { length self.new ≡ length self.old + 1 }
+    {
+        self.bytes[self.len as usize] = byte;
+        self.len += 1;
+    }
+
+    fn push_text(&mut self, text: &[u8])
+        requires { length self.old + length text.now ≤ 64 }
+        ensures is { self.new ≡ self.old ++ text.now }
+        ensures long { length self.new ≡ length self.old + length text.now }
+    {
+        for byte in text {
+            self.push(*byte);
+        }
+    }
+
+    // The number in decimal.
+    #[tactic(auto, using(crate::proofs::Paths::one_digit, crate::proofs::Paths::last_digit))]
+    fn push_number(&mut self, number: u16)
+        requires { length self.old + length (decimal number) ≤ 64 }
+        ensures is { self.new ≡ self.old ++ decimal number }
+        ensures long { length self.new ≡ length self.old + length (decimal number) }
+    {
+        if number < 10 {
+            self.push(b'0' + number as u8);
+        } else {
+            self.push_number(number / 10);
+            self.push(b'0' + (number % 10) as u8);
+        }
+    }
+
+    // An element of an array, as `thread[3]`.
+    #[tactic(auto, using(crate::proofs::Paths::five_digits))]
+    fn push_element(&mut self, key: Key, index: u16)
+        requires { length self.old ≤ 40 }
+        ensures is { self.new ≡ self.old ++ spec.element_text key index }
+        ensures short { length self.new ≤ length self.old + 17 }
+    {
+        self.push_text(key.text().as_bytes());
+        self.push(b'[');
+        self.push_number(index);
+        self.push(b']');
+    }
+
+    // The table as a whole.
+    fn of_place(place: Place) -> PathText
+        ensures is { result ≡ spec.place_text place }
+        ensures short { length result ≤ 17 }
+    {
+        let mut path = PathText::empty();
+        match place {
+            Place::Top => path.push(b'-'),
+            Place::Partition(i) => path.push_element(Key::Partition, i),
+            Place::Channel(i) => path.push_element(Key::Channel, i),
+            Place::Thread(i) => path.push_element(Key::Thread, i),
+            Place::Command(i) => path.push_element(Key::Command, i),
+        }
+        path
+    }
+
+    // What stands before a key of the table.
+    fn before_key(place: Place) -> PathText
+        ensures is { result ≡ spec.prefix_text place }
+        ensures short { length result ≤ 18 }
+    {
+        if place == Place::Top {
+            return PathText::empty();
+        }
+        let mut path = PathText::of_place(place);
+        path.push(b'.');
+        path
+    }
+
+    /// The path of a part.
+    pub fn of_part(part: Part) -> PathText
+        ensures { result ≡ spec.path_text part }
+    {
+        match part {
+            Part::Table(place) => PathText::of_place(place),
+            Part::At(place, key) => {
+                let mut path = PathText::before_key(place);
+                path.push_text(key.text().as_bytes());
+                path
+            }
+            Part::OtherKey(place, key) => {
+                let mut path = PathText::before_key(place);
+                path.push_text(key.text());
+                path
+            }
+            Part::Operation(thread, index) => {
+                let mut path = PathText::before_key(Place::Thread(thread));
+                path.push_element(Key::Program, index);
+                path
+            }
+        }
+    }
+}
+
+/// The most bytes of a key that is told.
+const MOST_KEY_BYTES: usize = 32;
+
+/// A key that the format doesn't have, as it is told: itself where it can be printed, else `?`.
+#[derive(Clone, Copy, Debug, PartialEq, Eq)]
+pub struct KeyText {
+    bytes: [u8; MOST_KEY_BYTES],
+    len: u8,
+}
+
+impl KeyText {
+    /// The key as it is told.
+    pub fn printed(key: &str) -> KeyText
+        ensures { result ≡ spec.held (spec.printed_key key.now) }
+    {
+        if is_printable(key.as_bytes()) {
+            KeyText::of(key.as_bytes())
+        } else {
+            KeyText::of(b"?")
+        }
+    }
+
+    // These bytes, with zeros behind them.
+    fn of(key: &[u8]) -> KeyText
+        requires { length key.now ≤ 32 }
+        ensures { result ≡ spec.held key.now }
+    {
+        let mut bytes = [0; MOST_KEY_BYTES];
+        for i in 0..key.len() {
+            bytes[i] = key[i];
+        }
+        KeyText {
+            bytes,
+            len: key.len() as u8,
+        }
+    }
+
+    fn text(&self) -> &[u8]
+        ensures is { result.now ≡ take self.now.len self.now.bytes }
+        ensures short { length result.now ≤ 32 }
+    {
+        let len = (self.len as usize).min(MOST_KEY_BYTES);
+        &self.bytes[..len]
+    }
+}
+
+fn is_printable(key: &[u8]) -> bool
+    ensures { result ≡ spec.is_printable key.now }
+{
+    !key.is_empty() && key.len() <= 32 && has_name_bytes(key)
+}
+
+fn has_name_bytes(key: &[u8]) -> bool
+    ensures { result ≡ list_all is_name_byte key.now }
+{
+    key.iter().all(|byte| is_name_byte(*byte))
+}
+
+fn is_name_byte(byte: u8) -> bool
+    ensures { result ≡ is_name_byte byte }
+{
+    byte.is_ascii_alphanumeric() || byte == b'_' || byte == b'-'
 }

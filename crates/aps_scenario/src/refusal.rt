@@ -1,9 +1,10 @@
+//! Why a text gives no scenario, and where.
 ghost use Rattle.std.specs.Prelude.{◌≡◌};
 ghost use Rattle.aps_scenario.specs.declared.refusal.Failure.TheVariants as failure;
 
 use crate::key::Key;
 use crate::kind::Kind;
-use crate::path::PathText;
+use crate::path::{KeyText, PathText};
 use std::alloc::{AllocError, AllocFailed};
 use thiserror::Error;
 
@@ -22,8 +23,10 @@ pub enum ScenarioRefusal {
 #[derive(Clone, Copy, Debug, PartialEq, Eq)]
 pub enum Place {
     Top,
-    Partition(usize),
-    Thread(usize),
+    Partition(u16),
+    Channel(u16),
+    Thread(u16),
+    Command(u16),
 }
 
 /// The part of a text that is refused.
@@ -33,8 +36,10 @@ pub enum Part {
     Table(Place),
     /// A key of the format, in a table.
     At(Place, Key),
-    /// Another key of a table.
-    OtherKey(Place),
+    /// Another key of a table, as it is told.
+    OtherKey(Place, KeyText),
+    /// An operation of a thread's program, both by their indices.
+    Operation(u16, u16),
 }
 
 /// The first part of a text that breaks a rule of the format, and how.

@@ -1,17 +1,18 @@
 //! One key of a table: its kind, its range and its default.
-ghost use Rattle.std.specs.Prelude.{◌≡◌, ◌<◌, ◌≤◌, Some, None, Ok, Err, IfSome, IfNone, IfOk, option_map, option_copied, find, not, string_bytes, MatchResult};
+ghost use Rattle.std.specs.Prelude.{◌≡◌, ◌<◌, ◌≤◌, Some, None, Ok, Err, IfSome, IfNone, IfOk, option_map, option_copied, find, not, false, length, string_bytes, MatchResult};
 ghost use Rattle.std.specs.BTreeMap.{keys};
 ghost use Rattle.toml.specs.Data.{get_member};
 ghost use Rattle.toml.specs.View.{view, table_view, array_view};
 ghost use Rattle.aps_scenario.specs.Key.{key_text};
 ghost use Rattle.aps_scenario.specs.Row as spec;
-ghost use Rattle.aps_scenario.specs.Row.{value_of};
-ghost use Rattle.aps_scenario.specs.Elements.{row_array, items_or_none};
+ghost use Rattle.aps_scenario.specs.Row.{value_of, optional};
+ghost use Rattle.aps_scenario.specs.Elements.{array_of, row_array, row_tables, items_or_none};
 
 use crate::key::Key;
 use crate::kind::Kind;
+use crate::path::KeyText;
 use crate::refusal::{Finding, Part, Place};
-use aps_model::{Name, Policy};
+use aps_model::Name;
 use toml::value::Array;
 use toml::{Table, Value};
 
@@ -29,6 +30,15 @@ fn integer(value: &Value, low: u64, high: u64, step: u64) -> Result<u64, Kind>
     }
 }
 
+fn truth(value: &Value) -> Result<bool, Kind>
+    ensures { result ≡ spec.truth (view value.now) }
+{
+    match value.as_bool() {
+        Some(truth) => Ok(truth),
+        None => Err(Kind::WrongKind),
+    }
+}
+
 /// A text that can be a name.
 pub fn name(value: &Value) -> Result<Name, Kind>
     ensures { result ≡ spec.name (view value.now) }
@@ -42,15 +52,22 @@ pub fn name(value: &Value) -> Result<Name, Kind>
     }
 }
 
-fn policy(value: &Value) -> Result<Policy, Kind>
-    ensures { result ≡ spec.policy (view value.now) }
+/// An array of `least` to `most` elements.
+#[tactic(auto, using(crate::proofs::Tables::items_len_view))]
+pub fn array(value: &Value, least: usize, most: usize) -> Result<&Array, Kind>
+    ensures is { MatchResult result
+        (λ a. array_of least most (view value.now) ≡ Ok (array_view a.now))
+        (λ e. array_of least most (view value.now) ≡ Err e) }
+    ensures some { IfOk result (λ a. least ≤ length a.now.items) }
+    ensures few { IfOk result (λ a. length a.now.items ≤ most) }
 {
-    match value.as_str() {
-        None => Err(Kind::WrongKind),
-        Some("fifo") => Ok(Policy::Fifo),
-        Some("rr") => Ok(Policy::Rr),
-        Some(_) => Err(Kind::OutOfRange),
+    let Some(array) = value.as_array() else {
+        return Err(Kind::WrongKind);
+    };
+    if array.len() < least || array.len() > most {
+        return Err(Kind::OutOfRange);
     }
+    Ok(array)
 }
 
 /// The value at a key.
@@ -84,59 +101,115 @@ pub fn integer_at(
     found.map_err(|kind| Finding { kind, part })
 }
 
-/// A name, which has to be there.
-pub fn name_at(table: &Table, place: Place) -> Result<Name, Finding>
-    ensures { result ≡ value_of spec.row_name place (table_view table.now) }
+/// An integer from `low` to `high`, where the key is there.
+pub fn optional_integer_at(
+    table: &Table,
+    place: Place,
+    key: Key,
+    low: u64,
+    high: u64,
+) -> Result<Option<u64>, Finding>
+    ensures is { result ≡ value_of (optional (spec.row_integer key low high 1 None)) place (table_view table.now) }
+    ensures within { IfOk result (λ found. IfSome found (λ n. (low ≤ n) × (n ≤ high))) }
 {
-    let part = Part::At(place, Key::Name);
-    let found = match value_at(table, Key::Name) {
-        None => Err(Kind::Missing),
+    let part = Part::At(place, key);
+    let found = match value_at(table, key) {
+        None => Ok(None),
+        Some(value) => match integer(value, low, high, 1) {
+            Ok(n) => Ok(Some(n)),
+            Err(kind) => Err(kind),
+        },
+    };
+    found.map_err(|kind| Finding { kind, part })
+}
+
+/// A truth value, which is `false` where the key is absent.
+pub fn truth_at(table: &Table, place: Place, key: Key) -> Result<bool, Finding>
+    ensures { result ≡ value_of (spec.row_truth key (Some false)) place (table_view table.now) }
+{
+    let part = Part::At(place, key);
+    let found = match value_at(table, key) {
+        None => Ok(false),
+        Some(value) => truth(value),
+    };
+    found.map_err(|kind| Finding { kind, part })
+}
+
+/// A truth value, where the key is there.
+pub fn optional_truth_at(table: &Table, place: Place, key: Key) -> Result<Option<bool>, Finding>
+    ensures { result ≡ value_of (optional (spec.row_truth key (Some false))) place (table_view table.now) }
+{
+    let part = Part::At(place, key);
+    let found = match value_at(table, key) {
+        None => Ok(None),
+        Some(value) => match truth(value) {
+            Ok(truth) => Ok(Some(truth)),
+            Err(kind) => Err(kind),
+        },
+    };
+    found.map_err(|kind| Finding { kind, part })
+}
+
+/// A name, where the key is there or there is a default.
+pub fn name_at(
+    table: &Table,
+    place: Place,
+    key: Key,
+    default: Option<Name>,
+) -> Result<Name, Finding>
+    ensures { result ≡ value_of (spec.row_name key default) place (table_view table.now) }
+{
+    let part = Part::At(place, key);
+    let found = match value_at(table, key) {
+        None => default.ok_or(Kind::Missing),
         Some(value) => name(value),
     };
     found.map_err(|kind| Finding { kind, part })
 }
 
-/// The policy of a thread: first in, first out where it isn't given.
-pub fn policy_at(table: &Table, place: Place) -> Result<Policy, Finding>
-    ensures { result ≡ value_of spec.row_policy place (table_view table.now) }
+/// An array of `least` to `most` elements, which has to be there.
+pub fn array_at(
+    table: &Table,
+    place: Place,
+    key: Key,
+    least: usize,
+    most: usize,
+) -> Result<&Array, Finding>
+    ensures is { MatchResult result
+        (λ a. value_of (row_array key least most None) place (table_view table.now) ≡ Ok (array_view a.now))
+        (λ e. value_of (row_array key least most None) place (table_view table.now) ≡ Err e) }
+    ensures few { IfOk result (λ a. length a.now.items ≤ most) }
 {
-    let part = Part::At(place, Key::Policy);
-    let found = match value_at(table, Key::Policy) {
-        None => Ok(Policy::Fifo),
-        Some(value) => policy(value),
+    let part = Part::At(place, key);
+    let found = match value_at(table, key) {
+        None => Err(Kind::Missing),
+        Some(value) => array(value, least, most),
     };
     found.map_err(|kind| Finding { kind, part })
 }
 
 /// An array of at most `most` elements, where there is one.
-#[tactic(auto, using(crate::proofs::Tables::items_len_view))]
-pub fn array_at(
+pub fn tables_at(
     table: &Table,
     place: Place,
     key: Key,
     most: usize,
 ) -> Result<Option<&Array>, Finding>
-    ensures { MatchResult result
-        (λ a. value_of (row_array key most) place (table_view table.now) ≡ Ok (items_or_none (option_map (λ v. array_view v.now) a)))
-        (λ e. value_of (row_array key most) place (table_view table.now) ≡ Err e) }
+    ensures is { MatchResult result
+        (λ a. value_of (row_tables key most) place (table_view table.now) ≡ Ok (items_or_none (option_map (λ v. array_view v.now) a)))
+        (λ e. value_of (row_tables key most) place (table_view table.now) ≡ Err e) }
+    ensures few { IfOk result (λ found. IfSome found (λ a. length a.now.items ≤ most)) }
 {
-    let part = Part::At(place, key);
     let Some(value) = value_at(table, key) else {
         return Ok(None);
     };
-    let Some(array) = value.as_array() else {
-        return Err(Finding {
-            kind: Kind::WrongKind,
-            part,
-        });
-    };
-    if array.len() > most {
-        return Err(Finding {
-            kind: Kind::OutOfRange,
-            part,
-        });
+    match array(value, 0, most) {
+        Ok(array) => Ok(Some(array)),
+        Err(kind) => Err(Finding {
+            kind,
+            part: Part::At(place, key),
+        }),
     }
-    Ok(Some(array))
 }
 
 fn is_known(known: &[Key], key: &str) -> bool
@@ -167,9 +240,9 @@ pub fn only(known: &[Key], place: Place, table: &Table) -> Result<(), Finding>
 {
     match unknown_key(table, known) {
         None => Ok(()),
-        Some(_) => Err(Finding {
+        Some(key) => Err(Finding {
             kind: Kind::UnknownKey,
-            part: Part::OtherKey(place),
+            part: Part::OtherKey(place, KeyText::printed(key)),
         }),
     }
 }

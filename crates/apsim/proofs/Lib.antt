@@ -1,2 +1,4 @@
 pub mod Said
 pub mod Statuses
+pub mod Generating
+pub mod Caused

@@ -1,16 +1,17 @@
 -- The case of each status, from what the call came to.
-use Rattle.std.proofs.Common.{rules, ◌≡◌, ℕ, List, ◌⊎◌, inl, inr, Some, None, refl, ap, ◌∙◌}
+use Rattle.std.proofs.Common.{rules, String, Global, string_bytes, ◌≡◌, ℕ, List, ◌⊎◌, inl, inr, Some, None, refl, ap, ◌∙◌}
 use Rattle.aps_model.specs.declared.entry.End.TheVariants.{Horizon, Limit, Reboot}
 use Rattle.aps_model.specs.History.{History}
 use Rattle.aps_scenario.specs.declared.kind.Kind.{Kind}
-use Rattle.aps_model.specs.Report.{usage_text}
+use Rattle.aps_words.specs.declared.command.Report.{Report}
 use Rattle.apsim.specs.declared.status.Status.{Status}
 use Rattle.apsim.specs.declared.status.Status.TheVariants.{Done, WordsRefused, ScenarioRefused, Rebooted, ReadFault, Limited, NoMemory, TooLong}
 use Rattle.apsim.specs.declared.outcome.Outcome.{Outcome}
 use Rattle.apsim.specs.declared.outcome.Outcome.TheVariants as outcome
 use Rattle.apsim.specs.declared.top.Ended.{Ended}
+use Rattle.apsim.specs.Outcome.{report_text}
 use Rattle.apsim.specs.Status.{code, or_write_fault}
-use Rattle.apsim.specs.Cause.{Input, HasCause, RanAsRead}
+use Rattle.apsim.specs.Cause.{Input, HasCause, RanAsRead, GeneratedAsAsked}
 use Rattle.apsim.specs.Printing.{Output, Prints}
 use Rattle.apsim.specs.Answers.{Tells, Answers, OrNoMemory, end_told}
 
@@ -41,6 +42,9 @@ words_refused input output ended cause told none = record {
   done = search rules;
   no_history = search rules;
   history = search rules;
+  no_run = search rules;
+  generated = search rules;
+  reported = search rules;
   complete = search rules;
 }
 
@@ -59,6 +63,9 @@ read_fault input output ended cause told none = record {
   done = search rules;
   no_history = search rules;
   history = search rules;
+  no_run = search rules;
+  generated = search rules;
+  reported = search rules;
   complete = search rules;
 }
 
@@ -77,6 +84,9 @@ too_long input output ended cause told none = record {
   done = search rules;
   no_history = search rules;
   history = search rules;
+  no_run = search rules;
+  generated = search rules;
+  reported = search rules;
   complete = search rules;
 }
 
@@ -96,6 +106,9 @@ refused input output ended kind path cause told none = record {
   done = search rules;
   no_history = search rules;
   history = search rules;
+  no_run = search rules;
+  generated = search rules;
+  reported = search rules;
   complete = search rules;
 }
 
@@ -114,13 +127,16 @@ no_memory input output ended told none = record {
   done = search rules;
   no_history = search rules;
   history = search rules;
+  no_run = search rules;
+  generated = search rules;
+  reported = search rules;
   complete = search rules;
 }
 
 -- a run that ended by its limit
-limited : (input : Input) (output : Output) (ended : Ended) (h : History) → RanAsRead input Limit h
+limited : (input : Input) (output : Output) (ended : Ended) (report : Report) (h : History) → RanAsRead input report Limit h
     → OrNoMemory ended Limited → ended.history ≡ Some h → Answers input output ended
-limited input output ended h cause told some = record {
+limited input output ended report h cause told some = record {
   words_refused = search rules;
   read_fault = search rules;
   too_long = search rules;
@@ -132,13 +148,16 @@ limited input output ended h cause told some = record {
   done = search rules;
   no_history = search rules;
   history = search rules;
+  no_run = search rules;
+  generated = search rules;
+  reported = search rules;
   complete = search rules;
 }
 
 -- a run that a reboot ended
-rebooted : (input : Input) (output : Output) (ended : Ended) (h : History) (p : ℕ) → RanAsRead input (Reboot p) h
+rebooted : (input : Input) (output : Output) (ended : Ended) (report : Report) (h : History) (p : ℕ) → RanAsRead input report (Reboot p) h
     → OrNoMemory ended Rebooted → ended.history ≡ Some h → Answers input output ended
-rebooted input output ended h p cause told some = record {
+rebooted input output ended report h p cause told some = record {
   words_refused = search rules;
   read_fault = search rules;
   too_long = search rules;
@@ -150,13 +169,16 @@ rebooted input output ended h p cause told some = record {
   done = search rules;
   no_history = search rules;
   history = search rules;
+  no_run = search rules;
+  generated = search rules;
+  reported = search rules;
   complete = search rules;
 }
 
 -- a run that reached the horizon
-reached : (input : Input) (output : Output) (ended : Ended) (h : History) (status : Status) → RanAsRead input Horizon h
-    → ended.status ≡ code status → Prints output (usage_text h) Done status → ended.history ≡ Some h → Answers input output ended
-reached input output ended h status cause told printed some = record {
+reached : (input : Input) (output : Output) (ended : Ended) (report : Report) (h : History) (status : Status) → RanAsRead input report Horizon h
+    → ended.status ≡ code status → Prints output (report_text report h) Done status → ended.history ≡ Some h → Answers input output ended
+reached input output ended report h status cause told printed some = record {
   words_refused = search rules;
   read_fault = search rules;
   too_long = search rules;
@@ -168,6 +190,30 @@ reached input output ended h status cause told printed some = record {
   done = search rules;
   no_history = search rules;
   history = search rules;
+  no_run = search rules;
+  generated = search rules;
+  reported = search rules;
+  complete = search rules;
+}
+
+-- a scenario was generated
+generated : (input : Input) (output : Output) (ended : Ended) (text : String Global) (status : Status) → GeneratedAsAsked input (string_bytes text)
+    → ended.status ≡ code status → Prints output (string_bytes text) Done status → ended.history ≡ None → Answers input output ended
+generated input output ended text status cause told printed none = record {
+  words_refused = search rules;
+  read_fault = search rules;
+  too_long = search rules;
+  refused = search rules;
+  refused_always = search rules;
+  limited = search rules;
+  rebooted = search rules;
+  write_fault = search rules;
+  done = search rules;
+  no_history = search rules;
+  history = search rules;
+  no_run = search rules;
+  generated = search rules;
+  reported = search rules;
   complete = search rules;
 }
 
@@ -181,11 +227,13 @@ answers input output outcome.TooLong ended cause tells =
     too_long input output ended cause (told_or_memory output _ TooLong tells.status _ refl tells.told tells.printed) tells.history
 answers input output (outcome.ScenarioRefused kind path) ended cause tells =
     refused input output ended kind path cause (told_or_memory output _ ScenarioRefused tells.status _ refl tells.told tells.printed) tells.history
-answers input output (outcome.Ran Horizon h) ended cause tells =
-    reached input output ended h tells.status cause tells.told tells.printed tells.history
-answers input output (outcome.Ran Limit h) ended cause tells =
-    limited input output ended h cause (told_or_memory output _ Limited tells.status _ refl tells.told tells.printed) tells.history
-answers input output (outcome.Ran (Reboot p) h) ended cause tells =
-    rebooted input output ended h p cause (told_or_memory output _ Rebooted tells.status _ refl tells.told tells.printed) tells.history
+answers input output (outcome.Ran report Horizon h) ended cause tells =
+    reached input output ended report h tells.status cause tells.told tells.printed tells.history
+answers input output (outcome.Ran report Limit h) ended cause tells =
+    limited input output ended report h cause (told_or_memory output _ Limited tells.status _ refl tells.told tells.printed) tells.history
+answers input output (outcome.Ran report (Reboot p) h) ended cause tells =
+    rebooted input output ended report h p cause (told_or_memory output _ Rebooted tells.status _ refl tells.told tells.printed) tells.history
+answers input output (outcome.Generated text) ended cause tells =
+    generated input output ended text tells.status cause tells.told tells.printed tells.history
 answers input output outcome.NoMemory ended cause tells =
     no_memory input output ended (either (told_or_memory output _ NoMemory tells.status _ refl tells.told tells.printed)) tells.history

@@ -1,6 +1,7 @@
--- The history of a run in fixed order.
+-- The history of a run.
 use Rattle.std.specs.Prelude.{◌≡◌, ℕ, Some}
 use Rattle.aps_model.specs.declared.entry.End.{End}
+use Rattle.aps_model.specs.declared.entry.Order.{Order}
 use Rattle.aps_model.specs.declared.entry.Order.TheVariants.{Fixed}
 use Rattle.aps_model.specs.History.{History}
 use Rattle.aps_model.specs.Legal.{IsLegal, fixed_run}
@@ -10,15 +11,16 @@ use Rattle.aps_model.specs.Bound.{KeepsWindowBound, KeepsCriticalBound}
 use Rattle.aps_laws.specs.Choices.{EachPickIsGreatest}
 use Rattle.aps_laws.specs.Runs.{EndsNoSooner}
 
--- the history of the run of its scenario in fixed order, which ended so, or else by this many entries
-pub record IsFixedRun (limit : ℕ) (end : End) (h : History) : Type 0 where
-  pub entries : h.entries ≡ fixed_run h.scenario limit
+-- the history of a run of its scenario in this order, which ended so, or else by this many entries
+pub record IsRun (order : Order) (limit : ℕ) (end : End) (h : History) : Type 0 where
+  -- in fixed order there is one such run
+  pub fixed : order ≡ Fixed → h.entries ≡ fixed_run h.scenario limit
   -- its replies, changes, rows, shape and end are those that its entries leave
   pub kept : h ≡ recorded h.scenario limit h.room h.entries
   pub ended : h.end ≡ Some end
   pub no_sooner : EndsNoSooner h.scenario limit h.entries
-  -- each entry is the step of the processor that had the turn
-  pub legal : IsLegal h.scenario Fixed h.entries
+  -- each entry is the step of a processor that had the turn
+  pub legal : IsLegal h.scenario order h.entries
   -- each nanosecond of a processor lies in one entry, and is billed to the partition that its thread inherited
   pub tiled : IsTiled h.scenario.shape.tick h.entries
   pub billed : IsBilledAsInherited h.scenario h.entries

@@ -1,22 +1,23 @@
 //! The program: it reads a scenario from standard input, runs it, and writes what came of it to standard output.
 #![tactic(auto)]
 
-mod command;
 mod outcome;
 mod printing;
+mod report;
 mod run;
 mod status;
 #[cfg(test)]
 mod tests;
+mod threads;
 mod top;
 
+use aps_cpu::OpenGate;
 use aps_io::{StdSink, StdSource};
 use status::Status;
 use std::alloc::AllocError;
 use std::env;
 use std::io::ErrorKind;
 use std::process::ExitCode;
-use top::calm_top;
 
 /// The words after the program's name, or none where one of them isn't UTF-8: no command has such a word.
 fn words_of(rt: &HostRuntime) -> Result<Vec<String>, AllocError> {
@@ -32,9 +33,13 @@ fn main(rt: HostRuntime) -> ExitCode {
     let Ok(words) = words_of(&rt) else {
         return ExitCode::from(Status::NoMemory.code());
     };
+    if words.is_empty() {
+        // a hint for whoever starts the program by hand; nothing depends on it
+        let _ = eprintln!(rt; "usage: apsim solo < SCENARIO.toml (README.md has all commands)");
+    }
     let mut source = StdSource::new(rt.stdin());
     // standard output takes each piece at once, so that no fault comes after the last answer
     let mut sink = StdSink::new(rt.stdout());
-    let ended = calm_top(alloc, &words, &mut source, &mut sink);
+    let ended = top::top(&rt, alloc, &words, &mut source, &mut sink, &OpenGate);
     ExitCode::from(ended.status)
 }

@@ -1,19 +1,28 @@
 //! What the program comes to, by its words and its input.
-ghost use Rattle.std.specs.Prelude.{◌≡◌, ◌≤◌, ℕ, List, map, string_bytes, vec_items, IfOk};
+ghost use Rattle.std.specs.Prelude.{◌≡◌, ◌≤◌, ℕ, List, map, string_bytes, vec_items, IfOk, Ok};
 ghost use Rattle.std.specs.Io.KnownBytes.{Consumes};
-ghost use Rattle.apsim.specs.Cause.{HasCause, FollowsInput};
-ghost use Rattle.apsim.specs.Outcome.{history_of, of_refusal, status_of, text_of, refusal_text};
+ghost use Rattle.aps_gen.specs.Generated.{generated};
+ghost use Rattle.aps_scenario.specs.Reading.{reads};
+ghost use Rattle.aps_model.specs.declared.entry.Order.TheVariants.{Fixed};
+ghost use Rattle.apsim.specs.Asked.{calm_command};
+ghost use Rattle.apsim.specs.Cause.{HasCause, FollowsReading, FollowsNumbers};
+ghost use Rattle.apsim.specs.Outcome.{history_of, status_of, text_of, refusal_text};
 ghost use Rattle.apsim.specs.Printing.{Prints};
 
-use crate::command::{Command, command_of};
 use crate::printing::print;
-use crate::run::run;
+use crate::report::print_report;
+use crate::run::{begin, run_to_end};
 use crate::status::Status;
-use aps_io::{ReadRefusal, Sink, Source, read_all};
-use aps_model::{End, History, NoMemory};
-use aps_report::usage;
-use aps_scenario::{Kind, PathText, ScenarioRefusal, scenario_of};
+use crate::threads::run_on_threads;
+use aps_cpu::Gate;
+use aps_gen::generate;
+use aps_io::{Sink, Source};
+use aps_model::{End, History, NoMemory, Order};
+use aps_scenario::{Kind, PathText};
+use aps_words::{Command, Report, WordsRefusal, command_of};
 use std::alloc::Global;
+use std::sync::Wait;
+use std::thread::Threads;
 
 /// What the program comes to.
 #[derive(Drop)]
@@ -25,65 +34,121 @@ pub enum Outcome {
     /// The input is too long.
     TooLong,
     /// The input is no scenario.
-    ScenarioRefused { kind: Kind, path: PathText },
-    /// The scenario was run to this end.
-    Ran { end: End, history: History },
+    ScenarioRefused {
+        kind: Kind,
+        path: PathText,
+    },
+    /// The scenario was run to this end, and this report is asked for.
+    Ran {
+        report: Report,
+        end: End,
+        history: History,
+    },
+    /// This is the text of the scenario that was asked for.
+    Generated { text: String },
     /// There was no memory.
     NoMemory,
 }
 
-/// The most bytes that are taken as a scenario.
-const MOST_BYTES: usize = 1_048_576;
-
 impl Outcome {
-    /// Decides by the words, then by the reading of the source, then by what was read.
+    /// Decides by the words, then by the reading of the source, then by what was read. A command that needs other threads
+    /// is refused.
     pub fn of<S: Source>(alloc: Global, words: &[String], source: &mut S) -> Outcome
         ensures { (bytes : List ℕ) × Consumes (S.left source.old) (S.left source.new) bytes
             × HasCause (record {
-              words = map string_bytes words.now;
+              asked = calm_command (map string_bytes words.now);
+              reading = record {
+                bytes = bytes;
+                left = S.left source.new;
+                faults_before = S.faults source.old;
+                faults = S.faults source.new;
+              };
+            }) result }
+    {
+        match command_of(alloc, words) {
+            Ok(Command::Solo { report, limit }) => Outcome::of_solo(alloc, report, limit, source),
+            Ok(Command::Gen {
+                seed,
+                cpus,
+                partitions,
+                ticks,
+            }) => Outcome::of_gen(alloc, seed, cpus, partitions, ticks),
+            Ok(Command::Run { .. }) | Err(WordsRefusal::Words) => Outcome::WordsRefused,
+            Err(WordsRefusal::NoMemory) => Outcome::NoMemory,
+        }
+    }
+
+    /// Runs the scenario of the source in fixed order.
+    fn of_solo<S: Source>(alloc: Global, report: Report, limit: u32, source: &mut S) -> Outcome
+        requires some { 1 ≤ limit }
+        requires few { limit ≤ 4000000 }
+        ensures { (bytes : List ℕ) × Consumes (S.left source.old) (S.left source.new) bytes
+            × FollowsReading (record {
               bytes = bytes;
               left = S.left source.new;
               faults_before = S.faults source.old;
               faults = S.faults source.new;
-            }) result }
+            }) (record { order = Fixed; report = report; limit = limit }) result }
     {
-        let Some(Command::Solo { limit }) = command_of(words) else {
-            return Outcome::WordsRefused;
-        };
-        match read_all(alloc, source, MOST_BYTES) {
-            Ok(bytes) => Outcome::of_input(alloc, &bytes, limit),
-            Err(ReadRefusal::ReadFault) => Outcome::ReadFault,
-            Err(ReadRefusal::TooLong) => Outcome::TooLong,
-            Err(ReadRefusal::NoMemory) => Outcome::NoMemory,
+        match begin(alloc, Order::Fixed, limit, source) {
+            Ok(core) => {
+                let (end, history) = run_to_end(core);
+                Outcome::Ran {
+                    report,
+                    end,
+                    history,
+                }
+            }
+            Err(outcome) => outcome,
         }
     }
 
-    /// Runs the scenario that these bytes are, if they are one.
-    fn of_input(alloc: Global, bytes: &[u8], limit: u32) -> Outcome
+    /// Runs the scenario of the source in this order, with a thread for each processor.
+    pub fn of_run<R: Threads + Wait + Sync, S: Source, G: Gate + Sync>(
+        rt: &R,
+        alloc: Global,
+        order: Order,
+        report: Report,
+        limit: u32,
+        source: &mut S,
+        gate: &G,
+    ) -> Outcome
         requires some { 1 ≤ limit }
         requires few { limit ≤ 4000000 }
-        ensures { FollowsInput bytes.now limit result }
+        ensures { (bytes : List ℕ) × Consumes (S.left source.old) (S.left source.new) bytes
+            × FollowsReading (record {
+              bytes = bytes;
+              left = S.left source.new;
+              faults_before = S.faults source.old;
+              faults = S.faults source.new;
+            }) (record { order = order; report = report; limit = limit }) result }
     {
-        let scenario = match scenario_of(alloc, bytes) {
-            Ok(scenario) => scenario,
-            Err(refusal) => return Outcome::of_refusal(&refusal),
-        };
-        match run(alloc, scenario, limit) {
-            Ok((end, history)) => Outcome::Ran { end, history },
-            Err(_) => Outcome::NoMemory,
+        match begin(alloc, order, limit, source) {
+            Ok(core) => {
+                let (end, history) = run_to_end(run_on_threads(rt, alloc, core, gate));
+                Outcome::Ran {
+                    report,
+                    end,
+                    history,
+                }
+            }
+            Err(outcome) => outcome,
         }
     }
 
-    /// What comes of a text that is no scenario.
-    fn of_refusal(refusal: &ScenarioRefusal) -> Outcome
-        ensures { result ≡ of_refusal refusal.now }
+    /// Generates a scenario from these numbers.
+    fn of_gen(alloc: Global, seed: u64, cpus: u8, partitions: u8, ticks: u32) -> Outcome
+        requires some_cpu { 1 ≤ cpus }
+        requires few_cpus { cpus ≤ 16 }
+        requires some_partition { 1 ≤ partitions }
+        requires few_partitions { partitions ≤ 32 }
+        requires some_tick { 1 ≤ ticks }
+        requires few_ticks { ticks ≤ 1000000 }
+        ensures { FollowsNumbers seed cpus partitions ticks result }
     {
-        match refusal {
-            ScenarioRefusal::Refused { kind, path } => Outcome::ScenarioRefused {
-                kind: *kind,
-                path: *path,
-            },
-            ScenarioRefusal::NoMemory => Outcome::NoMemory,
+        match generated_text(alloc, seed, cpus, partitions, ticks) {
+            Ok(text) => Outcome::Generated { text },
+            Err(_) => Outcome::NoMemory,
         }
     }
 
@@ -104,10 +169,12 @@ impl Outcome {
                 Ok(text) => print(sink, &text, Status::ScenarioRefused),
                 Err(_) => Status::NoMemory,
             },
-            Outcome::Ran { end, history } => match usage(alloc, history) {
-                Ok(text) => print(sink, text.as_bytes(), Status::of_end(end)),
-                Err(_) => Status::NoMemory,
-            },
+            Outcome::Ran {
+                report,
+                end,
+                history,
+            } => print_report(alloc, *report, history, Status::of_end(end), sink),
+            Outcome::Generated { text } => print(sink, text.as_bytes(), Status::Done),
             Outcome::NoMemory => Status::NoMemory,
         }
     }
@@ -121,6 +188,26 @@ impl Outcome {
             _ => None,
         }
     }
+}
+
+/// The text of the scenario that is generated from these numbers.
+fn generated_text(
+    alloc: Global,
+    seed: u64,
+    cpus: u8,
+    partitions: u8,
+    ticks: u32,
+) -> Result<String, NoMemory>
+    requires some_cpu { 1 ≤ cpus }
+    requires few_cpus { cpus ≤ 16 }
+    requires some_partition { 1 ≤ partitions }
+    requires few_partitions { partitions ≤ 32 }
+    requires some_tick { 1 ≤ ticks }
+    requires few_ticks { ticks ≤ 1000000 }
+    ensures { IfOk result (λ text. reads (string_bytes text) ≡ Ok (generated seed cpus partitions ticks)) }
+{
+    let scenario = generate(alloc, seed, cpus, partitions, ticks)?;
+    aps_scenario::print(alloc, &scenario)
 }
 
 /// The line that says why the input is no scenario.

@@ -1,21 +1,83 @@
-//! The run of a scenario in fixed order.
-ghost use Rattle.std.specs.Prelude.{◌≡◌, ◌≤◌, IfOk};
-ghost use Rattle.apsim.specs.Run.{IsFixedRun};
-ghost use Rattle.aps_scenario.specs.PlainScenario.{IsPlainScenario};
+//! The run of the scenario that a source gives, from its beginning to its end.
+ghost use Rattle.std.specs.Prelude.{◌≡◌, ◌≤◌, ℕ, List, []};
+ghost use Rattle.std.specs.Io.KnownBytes.{Consumes};
+ghost use Rattle.apsim.specs.Outcome.{of_refusal};
+ghost use Rattle.apsim.specs.Reading.{Begins, StartsText};
+ghost use Rattle.apsim.specs.Run.{IsRun};
 
+use crate::outcome::Outcome;
 use aps_core::Core;
-use aps_model::{End, History, NoMemory, Order, Scenario};
+use aps_io::{ReadRefusal, Source, read_all};
+use aps_model::{End, History, Order};
+use aps_scenario::{ScenarioRefusal, scenario_of};
 use std::alloc::Global;
 
-/// Runs the scenario in fixed order, until it ends or has so many entries.
-pub fn run(alloc: Global, scenario: Scenario, limit: u32) -> Result<(End, History), NoMemory>
-    requires plain { IsPlainScenario scenario }
+/// The most bytes that are taken as a scenario.
+const MOST_BYTES: usize = 1_048_576;
+
+/// Reads the source, and begins a run of the scenario that it gives. Where there is none, the answer is what the program
+/// comes to.
+pub fn begin<S: Source>(
+    alloc: Global,
+    order: Order,
+    limit: u32,
+    source: &mut S,
+) -> Result<Core, Outcome>
     requires some { 1 ≤ limit }
     requires few { limit ≤ 4000000 }
-    ensures scenario { IfOk result (λ r. r.1.scenario ≡ scenario) }
-    ensures fixed { IfOk result (λ r. IsFixedRun limit r.0 r.1) }
+    ensures { (bytes : List ℕ) × Consumes (S.left source.old) (S.left source.new) bytes
+        × Begins (record {
+          bytes = bytes;
+          left = S.left source.new;
+          faults_before = S.faults source.old;
+          faults = S.faults source.new;
+        }) order limit result }
 {
-    let mut core = Core::boot(alloc, scenario, Order::Fixed, limit)?;
+    match read_all(alloc, source, MOST_BYTES) {
+        Ok(bytes) => begin_text(alloc, &bytes, order, limit),
+        Err(ReadRefusal::ReadFault) => Err(Outcome::ReadFault),
+        Err(ReadRefusal::TooLong) => Err(Outcome::TooLong),
+        Err(ReadRefusal::NoMemory) => Err(Outcome::NoMemory),
+    }
+}
+
+/// Begins a run of the scenario that these bytes are, if they are one.
+fn begin_text(alloc: Global, bytes: &[u8], order: Order, limit: u32) -> Result<Core, Outcome>
+    requires some { 1 ≤ limit }
+    requires few { limit ≤ 4000000 }
+    ensures { StartsText bytes.now order limit result }
+{
+    // what `scenario_of` reads is what `boot` takes
+    let scenario = match scenario_of(alloc, bytes) {
+        Ok(scenario) => scenario,
+        Err(refusal) => return Err(of_refusal(&refusal)),
+    };
+    match Core::boot(alloc, scenario, order, limit) {
+        Ok(core) => Ok(core),
+        Err(_) => Err(Outcome::NoMemory),
+    }
+}
+
+/// What comes of a text that is no scenario.
+fn of_refusal(refusal: &ScenarioRefusal) -> Outcome
+    ensures { result ≡ of_refusal refusal.now }
+{
+    match refusal {
+        ScenarioRefusal::Refused { kind, path } => Outcome::ScenarioRefused {
+            kind: *kind,
+            path: *path,
+        },
+        ScenarioRefusal::NoMemory => Outcome::NoMemory,
+    }
+}
+
+/// Runs to the end by steps of the lowest processor that has the turn, and gives that end and what was recorded.
+pub fn run_to_end(mut core: Core) -> (End, History)
+    ensures scenario { result.1.scenario ≡ core.setup.scenario }
+    ensures run { IsRun core.setup.order core.setup.limit result.0 result.1 }
+{
     let end = core.finish();
-    Ok((end, core.into_history()))
+    // that a scenario is valid is said where its shape is read
+    let _shape = core.history().scenario().shape();
+    (end, core.into_history())
 }

@@ -1,11 +1,9 @@
 //! Whole calls of the program in memory: what they write, and the statuses.
-ghost use Rattle.std.specs.Prelude.{◌≤◌};
+mod threads;
 
-use crate::run::run;
 use crate::top::{Ended, calm_top};
 use aps_io::{CalmSink, CalmSource, MemSink, MemSource, Sink, Source};
-use aps_model::{End, History};
-use aps_scenario::{ScenarioRefusal, scenario_of};
+use aps_model::History;
 use std::alloc::{AllocError, Global};
 use std::test::Fail;
 
@@ -20,59 +18,10 @@ thread = [
 ]
 "#;
 
-const TWO_EQUAL_SUMMARY: &str = "aps summary 1
+const TWO_EQUAL_WINDOWS: &str = "aps windows 1
 end horizon
-shape cpus 1 tick 1000000 window 10 ticks 20
-entries 21
-partition 0 System budget 50 billed 10000000 critical 0
-partition 1 A budget 50 billed 10000000 critical 0
-idle 0
-thread 0 s ran 10000000
-thread 1 a ran 10000000
-";
-
-const SEVENTY_THIRTY: &str = r#"version = 1
-cpus = 1
-window = 10
-ticks = 20
-partition = [{name = "A", budget = 30}]
-thread = [
-  {name = "s", priority = 20, program = ["run forever"]},
-  {name = "a", partition = "A", program = ["run forever"]},
-]
-"#;
-
-const SEVENTY_THIRTY_SUMMARY: &str = "aps summary 1
-end horizon
-shape cpus 1 tick 1000000 window 10 ticks 20
-entries 21
-partition 0 System budget 70 billed 14000000 critical 0
-partition 1 A budget 30 billed 6000000 critical 0
-idle 0
-thread 0 s ran 14000000
-thread 1 a ran 6000000
-";
-
-const TWO_THIRDS: &str = r#"version = 1
-cpus = 1
-window = 10
-ticks = 20
-partition = [{name = "A", budget = 33}]
-thread = [
-  {name = "s", priority = 20, program = ["run forever"]},
-  {name = "a", partition = "A", program = ["run forever"]},
-]
-"#;
-
-const TWO_THIRDS_SUMMARY: &str = "aps summary 1
-end horizon
-shape cpus 1 tick 1000000 window 10 ticks 20
-entries 21
-partition 0 System budget 67 billed 14000000 critical 0
-partition 1 A budget 33 billed 6000000 critical 0
-idle 0
-thread 0 s ran 14000000
-thread 1 a ran 6000000
+window 0 5000000 5000000
+window 10 5000000 5000000
 ";
 
 // The helpers have no clauses, so that the checks of the tests below are about what a run gives.
@@ -81,17 +30,21 @@ fn bytes_of(alloc: Global, text: &str) -> Result<Vec<u8>, AllocError> {
     text.as_bytes().to_vec(alloc)
 }
 
+fn owned(alloc: Global, words: &[&str]) -> Result<Vec<String>, AllocError> {
+    let mut owned = Vec::new(alloc);
+    for word in words {
+        owned.push(word.to_string(alloc)?)?;
+    }
+    Ok(owned)
+}
+
 fn call<S: Source, K: Sink>(
     alloc: Global,
     words: &[&str],
     source: &mut S,
     sink: &mut K,
 ) -> Result<Ended, AllocError> {
-    let mut owned = Vec::new(alloc);
-    for word in words {
-        owned.push(word.to_string(alloc)?)?;
-    }
-    Ok(calm_top(alloc, &owned, source, sink))
+    Ok(calm_top(alloc, &owned(alloc, words)?, source, sink))
 }
 
 /// How a call with these words and this input ended, and what it wrote.
@@ -117,52 +70,48 @@ fn entries_of(history: &Option<History>) -> Option<usize> {
 }
 
 #[test]
-fn two_partitions_share_one_processor(rt: HostRuntime) -> Result<(), Fail> {
+fn the_named_report_is_written(rt: HostRuntime) -> Result<(), Fail> {
     let alloc = rt.alloc();
-    let (ended, sink) = solo(alloc, TWO_EQUAL)?;
-    assert_eq!(rt; sink.written(), TWO_EQUAL_SUMMARY.as_bytes());
+    let words = ["solo", "--report", "windows"];
+    let (ended, sink) = calm(alloc, &words, bytes_of(alloc, TWO_EQUAL)?)?;
+    assert_eq!(rt; sink.written(), TWO_EQUAL_WINDOWS.as_bytes());
     assert_eq!(rt; ended.status, 0);
     assert_eq!(rt; entries_of(&ended.history), Some(21));
     Ok(())
 }
 
 #[test]
-fn shares_follow_the_budgets(rt: HostRuntime) -> Result<(), Fail> {
+fn a_run_stops_at_its_limit(rt: HostRuntime) -> Result<(), Fail> {
     let alloc = rt.alloc();
-    let (ended, sink) = solo(alloc, SEVENTY_THIRTY)?;
-    assert_eq!(rt; sink.written(), SEVENTY_THIRTY_SUMMARY.as_bytes());
-    assert_eq!(rt; ended.status, 0);
-    let (ended, sink) = solo(alloc, TWO_THIRDS)?;
-    assert_eq!(rt; sink.written(), TWO_THIRDS_SUMMARY.as_bytes());
-    assert_eq!(rt; ended.status, 0);
+    let words = ["solo", "--limit=7"];
+    let (ended, _) = calm(alloc, &words, bytes_of(alloc, TWO_EQUAL)?)?;
+    assert_eq!(rt; ended.status, 6);
+    assert_eq!(rt; entries_of(&ended.history), Some(7));
     Ok(())
 }
 
-fn run_up_to(alloc: Global, text: &str, limit: u32) -> Result<(End, usize), ScenarioRefusal>
-    requires some { 1 ≤ limit }
-    requires few { limit ≤ 4000000 }
-{
-    let scenario = scenario_of(alloc, text.as_bytes())?;
-    match run(alloc, scenario, limit) {
-        Ok((end, history)) => Ok((end, history.entries().len())),
-        Err(_) => Err(ScenarioRefusal::NoMemory),
-    }
-}
-
 #[test]
-fn a_run_stops_at_its_limit(rt: HostRuntime) -> Result<(), Fail> {
+fn a_scenario_is_generated(rt: HostRuntime) -> Result<(), Fail> {
     let alloc = rt.alloc();
-    let limited = run_up_to(alloc, TWO_EQUAL, 7);
-    assert_eq!(rt; limited, Ok((End::Limit, 7)));
-    let whole = run_up_to(alloc, TWO_EQUAL, 100);
-    assert_eq!(rt; whole, Ok((End::Horizon, 21)));
+    let words = ["gen", "--seed=7", "--cpus=2", "--partitions=3", "--ticks=100"];
+    let (ended, sink) = calm(alloc, &words, Vec::new(alloc))?;
+    assert_eq!(rt; ended.status, 0);
+    assert_eq!(rt; entries_of(&ended.history), None);
+    let text = sink.written().to_vec(alloc)?;
+    let again = text.clone()?;
+    let (whole, summary) = calm(alloc, &["solo"], text)?;
+    assert_eq!(rt; whole.status, 0);
+    assert_eq!(rt; summary.written().starts_with(b"aps summary 1\nend horizon\n".as_slice()), true);
+    let (limited, _) = calm(alloc, &["solo", "--limit", "100"], again)?;
+    assert_eq!(rt; limited.status, 6);
+    assert_eq!(rt; entries_of(&limited.history), Some(100));
     Ok(())
 }
 
 #[test]
 fn other_words_are_refused(rt: HostRuntime) -> Result<(), Fail> {
     let alloc = rt.alloc();
-    let lists: [&[&str]; 3] = [&["fly"], &[], &["solo", "solo"]];
+    let lists: [&[&str]; 4] = [&["fly"], &[], &["solo", "--limit=0"], &["run"]];
     for words in lists {
         let (ended, sink) = calm(alloc, words, bytes_of(alloc, TWO_EQUAL)?)?;
         assert_eq!(rt; ended.status, 1);
@@ -179,7 +128,7 @@ fn an_input_that_is_no_scenario_is_refused(rt: HostRuntime) -> Result<(), Fail> 
     assert_eq!(rt; ended.status, 2);
     assert_eq!(rt;
         sink.written(),
-        b"aps: scenario refused: not-built -\n".as_slice()
+        b"aps: scenario refused: missing version\n".as_slice()
     );
     let (ended, sink) = solo(alloc, "version = \"1")?;
     assert_eq!(rt; ended.status, 2);

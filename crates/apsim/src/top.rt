@@ -1,14 +1,20 @@
 //! The whole program as one call: the words, the reading, the run and the printing.
 ghost use Rattle.std.specs.Prelude.{◌≡◌, ℕ, List, map, string_bytes};
 ghost use Rattle.std.specs.Io.KnownBytes.{Consumes};
+ghost use Rattle.aps_words.specs.Command.{command};
 ghost use Rattle.apsim.specs.declared.outcome.Outcome.{Outcome};
+ghost use Rattle.apsim.specs.Asked.{calm_command};
 ghost use Rattle.apsim.specs.Cause.{HasCause};
 ghost use Rattle.apsim.specs.Answers.{Tells, Answers};
 
 use crate::outcome::Outcome;
+use aps_cpu::Gate;
 use aps_io::{Sink, Source};
 use aps_model::History;
+use aps_words::{Command, WordsRefusal, command_of};
 use std::alloc::Global;
+use std::sync::Wait;
+use std::thread::Threads;
 
 /// How a call ended: the exit status, and the history where there was a run.
 #[derive(Drop)]
@@ -17,9 +23,10 @@ pub struct Ended {
     pub history: Option<History>,
 }
 
-/// Does what the words ask for, on the calling thread: reads a scenario from the source, runs it in
-/// fixed order up to 1,000,000 entries, and writes the summary of its history to the sink. It waits
-/// for nobody.
+/// Does what the words ask for, on the calling thread. For `solo` it reads a scenario from the source,
+/// runs it in fixed order up to the named limit, and writes the named report of its history to the
+/// sink. For `gen` it reads nothing, and writes the text of the scenario that is generated from the
+/// named numbers. It waits for nobody. Commands that need other threads are refused as words.
 ///
 /// What comes to nothing is said in the sink too, and each status has its one cause: see `Status`.
 /// A fault of the sink leaves a prefix of the text there, and so does want of memory.
@@ -32,11 +39,13 @@ pub fn calm_top<S: Source, K: Sink>(
     // The call came to an outcome that its words and its input are the cause of, and told that.
     ensures outcome { (bytes : List ℕ) × (outcome : Outcome) × Consumes (S.left source.old) (S.left source.new) bytes
         × HasCause (record {
-          words = map string_bytes words.now;
-          bytes = bytes;
-          left = S.left source.new;
-          faults_before = S.faults source.old;
-          faults = S.faults source.new;
+          asked = calm_command (map string_bytes words.now);
+          reading = record {
+            bytes = bytes;
+            left = S.left source.new;
+            faults_before = S.faults source.old;
+            faults = S.faults source.new;
+          };
         }) outcome
         × Tells outcome (record {
           before = K.written sink.old;
@@ -47,11 +56,13 @@ pub fn calm_top<S: Source, K: Sink>(
     // So each status comes in its case.
     ensures statuses { (bytes : List ℕ) × Consumes (S.left source.old) (S.left source.new) bytes
         × Answers (record {
-          words = map string_bytes words.now;
-          bytes = bytes;
-          left = S.left source.new;
-          faults_before = S.faults source.old;
-          faults = S.faults source.new;
+          asked = calm_command (map string_bytes words.now);
+          reading = record {
+            bytes = bytes;
+            left = S.left source.new;
+            faults_before = S.faults source.old;
+            faults = S.faults source.new;
+          };
         }) (record {
           before = K.written sink.old;
           after = K.written sink.new;
@@ -60,6 +71,79 @@ pub fn calm_top<S: Source, K: Sink>(
         }) result }
 {
     let outcome = Outcome::of(alloc, words, source);
+    tell(alloc, outcome, sink)
+}
+
+/// Does what the words ask for. `run` reads a scenario from the source, runs it in the named order up to
+/// the named limit with a thread for each processor, each of which enters the gate before its turns, and
+/// writes the named report of its history to the sink. All else is as `calm_top` does it.
+pub fn top<R: Threads + Wait + Sync, S: Source, K: Sink, G: Gate + Sync>(
+    rt: &R,
+    alloc: Global,
+    words: &[String],
+    source: &mut S,
+    sink: &mut K,
+    gate: &G,
+) -> Ended
+    // The call came to an outcome that its words and its input are the cause of, and told that.
+    ensures outcome { (bytes : List ℕ) × (outcome : Outcome) × Consumes (S.left source.old) (S.left source.new) bytes
+        × HasCause (record {
+          asked = command (map string_bytes words.now);
+          reading = record {
+            bytes = bytes;
+            left = S.left source.new;
+            faults_before = S.faults source.old;
+            faults = S.faults source.new;
+          };
+        }) outcome
+        × Tells outcome (record {
+          before = K.written sink.old;
+          after = K.written sink.new;
+          faults_before = K.faults sink.old;
+          faults = K.faults sink.new;
+        }) result }
+    // So each status comes in its case.
+    ensures statuses { (bytes : List ℕ) × Consumes (S.left source.old) (S.left source.new) bytes
+        × Answers (record {
+          asked = command (map string_bytes words.now);
+          reading = record {
+            bytes = bytes;
+            left = S.left source.new;
+            faults_before = S.faults source.old;
+            faults = S.faults source.new;
+          };
+        }) (record {
+          before = K.written sink.old;
+          after = K.written sink.new;
+          faults_before = K.faults sink.old;
+          faults = K.faults sink.new;
+        }) result }
+{
+    match command_of(alloc, words) {
+        Ok(Command::Run {
+            order,
+            report,
+            limit,
+        }) => {
+            let outcome = Outcome::of_run(rt, alloc, order, report, limit, source, gate);
+            tell(alloc, outcome, sink)
+        }
+        Ok(Command::Solo { .. } | Command::Gen { .. }) | Err(WordsRefusal::Words) => {
+            calm_top(alloc, words, source, sink)
+        }
+        Err(WordsRefusal::NoMemory) => tell(alloc, Outcome::NoMemory, sink),
+    }
+}
+
+/// Writes the text of the outcome to the sink, and hands back the status and the history.
+fn tell<K: Sink>(alloc: Global, outcome: Outcome, sink: &mut K) -> Ended
+    ensures { Tells outcome (record {
+      before = K.written sink.old;
+      after = K.written sink.new;
+      faults_before = K.faults sink.old;
+      faults = K.faults sink.new;
+    }) result }
+{
     let status = outcome.say(alloc, sink);
     Ended {
         status: status.code(),

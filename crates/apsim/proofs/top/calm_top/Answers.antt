@@ -3,13 +3,5 @@ use Rattle.apsim.proofs.top.calm_top.Goals as goal
 
 pub returns-clause-statuses : goal.returns-clause-statuses
 returns-clause-statuses g c =
-    let of = c.of-outcome.ensures in (
-      of.0,
-      of.1,
-      answers _ _ c.of-outcome.result _ of.2 (record {
-        status = c.say-status.result;
-        told = c.code.ensures;
-        printed = c.say-status.ensures;
-        history = c.into_history.ensures;
-      }),
-    )
+    let of = c.of-outcome.ensures in
+    (of.0, of.1, answers _ _ c.of-outcome.result _ of.2 c.tell.ensures)

@@ -23,7 +23,7 @@ returns-in-Ok g c =
     let is = c.in-ScenarioRefused.is in
     said_as _ _ _ _ _ _ (c.deref.ensures.value ∙ c.in-Ok.ensures ∙ sym (ap text_of is)) (sym (ap status_of is)) c.print-in-Ok.ensures.prints
 
-pub returns-in-Ok-usage : goal.returns-in-Ok-usage
-returns-in-Ok-usage g c =
+pub returns-in-Ran : goal.returns-in-Ran
+returns-in-Ran g c =
     let is = c.in-Ran.is in
-    said_as _ _ _ _ _ _ (c.as_bytes.ensures.value ∙ c.in-Ok-usage.ensures ∙ sym (ap text_of is)) (c.of_end.ensures ∙ sym (ap status_of is)) c.print-in-Ok-usage.ensures.prints
+    said_as _ _ _ _ _ _ (sym (ap text_of is)) (c.of_end.ensures ∙ sym (ap status_of is)) c.print_report.ensures

@@ -1,0 +1,130 @@
+-- What comes after what a seat has seen.
+use Rattle.std.proofs.Common.{◌≡◌, ℕ, ◌+◌, ◌-◌, ◌<◌, ◌≤◌, ◌⊎◌, nat_le, if◌then◌else◌, Bool, true, false, leb-true, leb-false, List, [], ◌∷◌, ◌++◌, length, sym, refl, ap, ◌∙◌, subst, ⊎_elim, inl, inr, arith, append_assoc, append-nil, lt_of_lt_of_le, le_trans}
+use mathlib.Core.List.{IsPrefix}
+use mathlib.Core.Logic.{dite}
+use native.Mathlib.Decide.{dec_le}
+use Rattle.aps_model.specs.declared.entry.Entry.{Entry}
+use Rattle.aps_core.specs.Run.{Run}
+use Rattle.aps_core.specs.Turn.{with_entry}
+use Rattle.aps_lock.specs.Seen.{AreOfOthers, IsSeenIn, cpus_of, longer}
+
+pub others_snoc : (first after cpus : ℕ) (es : List Entry) (e : Entry) → AreOfOthers first after cpus es → (e.cpu < first) ⊎ (after ≤ e.cpu) → e.cpu < cpus → AreOfOthers first after cpus (es ++ e ∷ [])
+others_snoc first after cpus [] e h out is = (out, is, tt)
+others_snoc first after cpus (x ∷ es) e h out is = (h.0, h.1, others_snoc first after cpus es e h.2 out is)
+
+pub seen_grows : (first after : ℕ) (c d : Run) (e : Entry) → IsSeenIn first after c d → (e.cpu < first) ⊎ (after ≤ e.cpu) → e.cpu < (cpus_of c) → IsSeenIn first after c (with_entry d e)
+seen_grows first after c d e h out is = (
+  h.0 ++ e ∷ [],
+  ap (λ x. with_entry x e) h.1 ∙ ap (λ (es : List Entry). let x : Run = record c { entries = es } in x) (append_assoc c.entries h.0 (e ∷ [])),
+  others_snoc first after (cpus_of c) h.0 e h.2 out is,
+)
+
+pub seen_self : (first after : ℕ) (c : Run) → IsSeenIn first after c c
+seen_self first after c = ([], ap (λ (es : List Entry). let x : Run = record c { entries = es } in x) (sym (append-nil c.entries)), tt)
+
+pub prefix_grows : (xs es : List Entry) (e : Entry) → IsPrefix xs es → IsPrefix xs (es ++ e ∷ [])
+prefix_grows xs es e p = (p.0 ++ e ∷ [], sym (append_assoc xs p.0 (e ∷ [])) ∙ ap (λ w. w ++ e ∷ []) p.1)
+
+pub prefix_self : (xs : List Entry) → IsPrefix xs xs
+prefix_self xs = ([], append-nil xs)
+
+pub seen_prefix : (first after : ℕ) (c d : Run) → IsSeenIn first after c d → IsPrefix c.entries d.entries
+seen_prefix first after c d h = (h.0, sym (ap (λ x. x.entries) h.1))
+
+-- the entries beyond the longer of two beginnings of one list
+pub beyond : (xs ys p q : List Entry) → xs ++ p ≡ ys ++ q → length ys ≤ length xs → (between : List Entry) × (q ≡ between ++ p) × (ys ++ between ≡ xs)
+beyond xs [] p q e le = (xs, sym e, refl)
+beyond [] (y ∷ ys) p q e le = absurd (omega arith)
+beyond (x ∷ xs) (y ∷ ys) p q e le =
+    let heads : x ≡ y = cc in
+    let tails : xs ++ p ≡ ys ++ q = cc in
+    let r = beyond xs ys p q tails (omega arith) in
+    (r.0, r.1, cc (heads, r.2))
+
+pub others_beyond : (first after cpus : ℕ) (xs ys : List Entry) → AreOfOthers first after cpus (xs ++ ys) → AreOfOthers first after cpus ys
+others_beyond first after cpus [] ys h = h
+others_beyond first after cpus (x ∷ xs) ys h = others_beyond first after cpus xs ys h.2
+
+-- outside both of two ranges, of which the second is empty or follows the first
+pub others_both : (first after low high cpus : ℕ) (es : List Entry) → ((high - low) ≡ 0) ⊎ (after ≡ low) → AreOfOthers first after cpus es → AreOfOthers low high cpus es → AreOfOthers first (after + (high - low)) cpus es
+others_both first after low high cpus [] near a b = tt
+others_both first after low high cpus (e ∷ es) near a b = (one near a.0 b.0, a.1, others_both first after low high cpus es near a.2 b.2)
+  where
+    one : ((high - low) ≡ 0) ⊎ (after ≡ low) → (e.cpu < first) ⊎ (after ≤ e.cpu) → (e.cpu < low) ⊎ (high ≤ e.cpu) → (e.cpu < first) ⊎ (after + (high - low) ≤ e.cpu)
+    one (inl none) (inl h) k = inl h
+    one (inl none) (inr h) k = inr (omega arith)
+    one (inr same) (inl h) k = inl h
+    one (inr same) (inr h) (inl k) = absurd (omega arith)
+    one (inr same) (inr h) (inr k) = inr (omega arith)
+
+-- nothing comes of no processor
+pub others_none : (cpus : ℕ) (es : List Entry) → AreOfOthers 0 cpus cpus es → es ≡ []
+others_none cpus [] h = refl
+others_none cpus (e ∷ es) h = absurd (⊎_elim (λ (a : e.cpu < 0). let z : ⊥ = omega arith in z) (λ (a : cpus ≤ e.cpu). let b : e.cpu < cpus = h.1 in let z : ⊥ = omega arith in z) h.0)
+
+-- outside, or within
+pub in_or_out : (first after cpu : ℕ) → ((cpu < first) ⊎ (after ≤ cpu)) ⊎ ((first ≤ cpu) × (cpu < after))
+in_or_out first after cpu = dite (dec_le first cpu) (λ a. dite (dec_le after cpu) (λ b. inl (inr b)) (λ b. inr (a, omega arith))) (λ a. inl (inl (omega arith)))
+
+-- outside a range, so outside a part of it
+pub others_less : (first after low high cpus : ℕ) (es : List Entry) → first ≤ low → high ≤ after → AreOfOthers first after cpus es → AreOfOthers low high cpus es
+others_less first after low high cpus [] a b h = tt
+others_less first after low high cpus (e ∷ es) a b h = (⊎_elim (λ (x : e.cpu < first). inl (lt_of_lt_of_le x a)) (λ (x : after ≤ e.cpu). inr (le_trans b x)) h.0, h.1, others_less first after low high cpus es a b h.2)
+
+pub others_empty : (first after cpus : ℕ) (es : List Entry) → AreOfOthers first after cpus es → AreOfOthers 0 0 cpus es
+others_empty first after cpus [] h = tt
+others_empty first after cpus (e ∷ es) h = (inr (omega arith), h.1, others_empty first after cpus es h.2)
+
+-- what has come after the longer of two cores, of whose run both are beginnings, is of neither's processors
+pub seen_both : (first after low high : ℕ) (a b c : Run) → ((high - low) ≡ 0) ⊎ (after ≡ low) → IsSeenIn first after a c → IsSeenIn low high b c → IsSeenIn first (after + (high - low)) (longer a b) c
+seen_both first after low high a b c near p q = by_length (nat_le (length b.entries) (length a.entries)) refl
+  where
+    lists : a.entries ++ p.0 ≡ b.entries ++ q.0
+    lists = sym (ap (λ x. x.entries) p.1) ∙ ap (λ x. x.entries) q.1
+
+    same_cpus : (cpus_of a) ≡ (cpus_of b)
+    same_cpus = sym (ap (λ x. (cpus_of x)) p.1) ∙ ap (λ x. (cpus_of x)) q.1
+
+    by_length : (t : Bool) → nat_le (length b.entries) (length a.entries) ≡ t → IsSeenIn first (after + (high - low)) (if t then a else b) c
+    by_length true is =
+        let le : length b.entries ≤ length a.entries = leb-true _ _ is in
+        let more = beyond a.entries b.entries p.0 q.0 lists le in
+        let theirs : AreOfOthers low high (cpus_of b) (more.0 ++ p.0) = subst (AreOfOthers low high (cpus_of b)) more.1 q.2 in
+        (p.0, p.1, others_both first after low high (cpus_of a) p.0 near p.2 (subst (λ (n : ℕ). AreOfOthers low high n p.0) (sym same_cpus) (others_beyond low high (cpus_of b) more.0 p.0 theirs)))
+    by_length false is =
+        let lt : length a.entries < length b.entries = leb-false _ _ is in
+        let more = beyond b.entries a.entries q.0 p.0 (sym lists) (omega arith) in
+        let mine : AreOfOthers first after (cpus_of a) (more.0 ++ q.0) = subst (AreOfOthers first after (cpus_of a)) more.1 p.2 in
+        (q.0, q.1, others_both first after low high (cpus_of b) q.0 near (subst (λ (n : ℕ). AreOfOthers first after n q.0) same_cpus (others_beyond first after (cpus_of a) more.0 q.0 mine)) q.2)
+
+-- the whole run has come where what comes is of no processor
+pub seen_whole : (a c : Run) → IsSeenIn 0 (cpus_of a) a c → c ≡ a
+seen_whole a c p = p.1 ∙ ap (λ (es : List Entry). let x : Run = record a { entries = a.entries ++ es } in x) (others_none (cpus_of a) p.0 p.2) ∙ ap (λ (es : List Entry). let x : Run = record a { entries = es } in x) (append-nil a.entries)
+
+pub others_front : (first after cpus : ℕ) (xs ys : List Entry) → AreOfOthers first after cpus (xs ++ ys) → AreOfOthers first after cpus xs
+others_front first after cpus [] ys h = tt
+others_front first after cpus (x ∷ xs) ys h = (h.0, h.1, others_front first after cpus xs ys h.2)
+
+-- the longer of two beginnings of one run is later than the other
+pub seen_longer : (first after low high : ℕ) (a b c : Run) → IsSeenIn first after a c → IsSeenIn low high b c → IsSeenIn first after a (longer a b) × IsSeenIn low high b (longer a b)
+seen_longer first after low high a b c p q = by_length (nat_le (length b.entries) (length a.entries)) refl
+  where
+    lists : a.entries ++ p.0 ≡ b.entries ++ q.0
+    lists = sym (ap (λ x. x.entries) p.1) ∙ ap (λ x. x.entries) q.1
+
+    -- the two are of one run
+    same_run : (es : List Entry) → (let x : Run = record a { entries = es } in x) ≡ (record b { entries = es })
+    same_run es = ap (λ (x : Run). let y : Run = record x { entries = es } in y) (sym p.1 ∙ q.1)
+
+    by_length : (t : Bool) → nat_le (length b.entries) (length a.entries) ≡ t → IsSeenIn first after a (if t then a else b) × IsSeenIn low high b (if t then a else b)
+    by_length true is =
+        let more = beyond a.entries b.entries p.0 q.0 lists (leb-true _ _ is) in (
+          seen_self first after a,
+          (more.0, same_run a.entries ∙ ap (λ (es : List Entry). let x : Run = record b { entries = es } in x) (sym more.2), others_front low high (cpus_of b) more.0 p.0 (subst (AreOfOthers low high (cpus_of b)) more.1 q.2)),
+        )
+    by_length false is =
+        let lt : length a.entries < length b.entries = leb-false _ _ is in
+        let more = beyond b.entries a.entries q.0 p.0 (sym lists) (omega arith) in (
+          (more.0, sym (same_run b.entries) ∙ ap (λ (es : List Entry). let x : Run = record a { entries = es } in x) (sym more.2), others_front first after (cpus_of a) more.0 q.0 (subst (AreOfOthers first after (cpus_of a)) more.1 p.2)),
+          seen_self low high b,
+        )

@@ -1,0 +1,186 @@
+ghost use Rattle.std.specs.Prelude.{◌≡◌, ℕ, ◌+◌, ◌-◌, ◌<◌, ◌≤◌, ◌++◌, length, IfOk, IfErr};
+ghost use Rattle.aps_model.specs.Seat.{IsSeen, own_entries};
+ghost use Rattle.aps_lock.specs.Seats.{HasAllCpus, HasCpu, HasSeen, IsSeatOf, IsSeatTurn, taken, waited_after};
+ghost use Rattle.aps_lock.specs.Seen.{longer};
+
+use crate::rule::CoreTable;
+use crate::seat::CpuSeat;
+use crate::words::{CORE, cut, len_of, merge, turn_place, witness};
+use aps_core::{Core, Turn};
+use aps_model::CpuId;
+use atomic_table::{Refused, Table};
+use std::alloc::{AllocFailed, Global};
+use std::marker::{Brand, Model};
+use std::snapshot::Snapshot;
+use std::sync::Wait;
+
+/// A run whose turns many threads take, one at a time, under a lock. Contracts see the setup of the run, which nothing
+/// changes, and which seats are this dispatcher's.
+#[derive(Drop)]
+pub struct Dispatch {
+    table: CoreTable,
+}
+
+impl Model for Dispatch {
+    ghost use Rattle.std.specs.Prelude.{◌≡◌};
+    ghost use Rattle.aps_lock.specs.Seats.{DispatchData};
+
+    ghost Value = { DispatchData };
+
+    ghost view = { λ d. record { table = d.table.shared.table_id; setup = d.table.shared.key.value.setup } };
+
+    ghost invariant = { λ d. (d.table.shared.table_id.words ≡ 3) × (d.table.shared.table_id.slots ≡ 1) };
+}
+
+impl Dispatch {
+    /// A dispatcher of the core, and the seat that has all its processors and has seen all its entries. Where there is
+    /// no memory the core comes back as it was.
+    pub fn open(alloc: Global, core: Core) -> Result<(Dispatch, CpuSeat), Core>
+        ensures dispatch { IfOk result (λ r. r.0.setup ≡ core.setup) }
+        ensures seat { IfOk result (λ r. r.1 ≡ record { table = r.0.table; seen = core; first = 0; last = core.setup.scenario.shape.cpus - 1; waited = 0 }) }
+        ensures of { IfOk result (λ r. IsSeatOf r.0 r.1 × HasAllCpus r.1) }
+        ensures refused { IfErr result (λ c. c ≡ core) }
+    {
+        let about = Snapshot::of(&core);
+        let seen_len = len_of(&core);
+        let last = last_cpu(&core);
+        let mut slots = Vec::new(alloc);
+        if let Err(AllocFailed { value }) = slots.push(Some(core)) {
+            return Err(value.unwrap());
+        }
+        match Table::new(alloc, &[0, 0, seen_len], slots, &about) {
+            Ok((table, place)) => {
+                let seat = CpuSeat {
+                    place,
+                    first: CpuId::at(0),
+                    last,
+                    seen_len,
+                    waited: 0,
+                };
+                Ok((Dispatch { table }, seat))
+            }
+            Err(Refused { mut slots }) => Err(slots.pop().unwrap().unwrap()),
+        }
+    }
+
+    /// Makes one step of the core under the lock, for which it waits. The seat then has seen all of the history up to
+    /// there: what it had seen, what came since of processors of other seats, and the entry of this turn if it took
+    /// one.
+    pub fn turn<R: Wait>(&self, rt: &R, seat: &mut CpuSeat, cpu: CpuId) -> Turn
+        requires seat { IsSeatOf self.now seat.old }
+        requires cpu { HasCpu seat.old cpu }
+        ensures turn { IsSeatTurn seat.old cpu result seat.new }
+        ensures own { own_entries seat.old.first seat.old.last seat.new.seen.entries ≡ own_entries seat.old.first seat.old.last seat.old.seen.entries ++ taken result }
+        ensures of { IsSeatOf self.now seat.new }
+    {
+        let (turn, seen_len) = turn_place(rt, &self.table.shared, &mut seat.place, cpu);
+        seat.seen_len = seen_len;
+        seat.waited = count_waited(seat.first, seat.last, seat.waited, &turn);
+        turn
+    }
+
+    /// Gives the seat's processors from `at` on to a new seat, which has seen what the seat has seen. The seat keeps at
+    /// least its first one.
+    pub fn split(&self, seat: &mut CpuSeat, at: CpuId) -> CpuSeat
+        requires seat { IsSeatOf self.now seat.old }
+        requires at { (seat.old.first < at) × (at ≤ seat.old.last) }
+        ensures kept { seat.new ≡ record seat.old { last = at - 1; waited = 0 } }
+        ensures given { result ≡ record seat.old { first = at; waited = 0 } }
+    {
+        let place = cut::<Brand>(&self.table.shared, &mut seat.place, at);
+        let last = seat.last;
+        seat.last = CpuId::at(at.index() - 1);
+        seat.waited = 0;
+        CpuSeat {
+            place,
+            first: at,
+            last,
+            seen_len: seat.seen_len,
+            waited: 0,
+        }
+    }
+
+    /// Takes in the seat whose processors follow. It keeps the longer seen list, in which are all entries of both
+    /// seats.
+    pub fn join(&self, seat: &mut CpuSeat, other: CpuSeat)
+        requires seat { IsSeatOf self.now seat.old }
+        requires other { IsSeatOf self.now other }
+        requires next { seat.old.last + 1 ≡ other.first }
+        ensures seat { seat.new ≡ record seat.old { seen = longer seat.old.seen other.seen; last = other.last; waited = 0 } }
+        ensures own { HasSeen seat.old seat.new.seen }
+        ensures other { HasSeen other seat.new.seen }
+        ensures of { IsSeatOf self.now seat.new }
+    {
+        let CpuSeat {
+            place,
+            first: _,
+            last,
+            seen_len,
+            waited: _,
+        } = other;
+        merge(&self.table.shared, &mut seat.place, place);
+        seat.last = last;
+        seat.seen_len = seat.seen_len.max(seen_len);
+        seat.waited = 0;
+    }
+
+    /// Lets `b` see what `a` has seen: its seen list becomes the longer of the two, with which both begin.
+    pub fn meet(&self, a: &mut CpuSeat, b: &mut CpuSeat)
+        requires a { IsSeatOf self.now a.old }
+        requires b { IsSeatOf self.now b.old }
+        ensures a { a.new ≡ a.old }
+        ensures b { b.new ≡ record b.old { seen = longer b.old.seen a.old.seen } }
+        ensures a_seen { IsSeen a.old.seen.entries b.new.seen.entries }
+        ensures b_seen { HasSeen b.old b.new.seen }
+        ensures no_less { length a.new.seen.entries ≤ length b.new.seen.entries }
+    {
+        let seen_len = a.seen_len;
+        let told = witness(&self.table.shared, &mut a.place);
+        merge(&self.table.shared, &mut b.place, told);
+        b.seen_len = b.seen_len.max(seen_len);
+    }
+
+    /// The core out of the dispatcher, by the seat that has all processors. Its entries are those that the seat has
+    /// seen.
+    pub fn close(self, seat: CpuSeat) -> Core
+        requires seat { IsSeatOf self seat }
+        requires all { HasAllCpus seat }
+        ensures { result ≡ seat.seen }
+    {
+        let CpuSeat {
+            place,
+            first: _,
+            last: _,
+            seen_len: _,
+            waited: _,
+        } = seat;
+        let mut closed = self.table.close_with(place);
+        let core = closed.take(CORE).unwrap();
+        closed.free();
+        core
+    }
+}
+
+/// The last of the core's processors, of which there are 1 to 16.
+fn last_cpu(core: &Core) -> CpuId
+    ensures last { result + 1 ≡ core.now.setup.scenario.shape.cpus }
+    ensures few { result ≤ 15 }
+{
+    CpuId::at(usize::from(core.history().scenario().shape().cpus) - 1)
+}
+
+/// How many turns in a row named a processor of another seat, after this answer of a seat with these processors.
+fn count_waited(first: CpuId, last: CpuId, waited: u64, turn: &Turn) -> u64
+    ensures { result ≡ waited_after first last waited turn.now }
+{
+    match turn {
+        Turn::NotYet { cpu, .. } => {
+            if first <= *cpu && *cpu <= last {
+                0
+            } else {
+                waited.saturating_add(1)
+            }
+        }
+        _ => 0,
+    }
+}

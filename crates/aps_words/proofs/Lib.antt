@@ -1,0 +1,9 @@
+pub mod Uses
+pub mod ClapRules
+pub mod ClapTurns
+pub mod ClapWalk
+pub mod ClapAnswer
+pub mod Hyphens
+pub mod Meaning
+pub mod Numerals
+pub mod Plainness

@@ -1,0 +1,72 @@
+-- The command that a list of words is.
+use Rattle.std.specs.Prelude.{◌≡◌, ℕ, ◌≤◌, List, [], ◌∷◌, codes, Option, Some, None, Result, Ok, Err, if◌then◌else◌, option_map, option_and_then, ⊤}
+use Rattle.std.specs.Str.{bytes_eq}
+use Rattle.aps_words.specs.declared.command.Command.{Command}
+use Rattle.aps_words.specs.declared.command.Command.TheVariants.{Solo, Run, Gen}
+use Rattle.aps_words.specs.declared.command.WordsRefusal.{WordsRefusal}
+use Rattle.aps_words.specs.declared.command.WordsRefusal.TheVariants as refusal
+use Rattle.aps_words.specs.Options.{Text, Given, value_of, options}
+use Rattle.aps_words.specs.Values.{report_of, order_of, limit_of, required_in}
+
+infixl 10 ◌>>=◌
+abbrev pub ◌>>=◌ : {A B : Type 0} → Option A → (A → Option B) → Option B
+(Some x) >>= f = f x
+None >>= f = None
+
+-- `solo`, by the values of its options
+abbrev pub solo : (Text → Option Text) → Option Command
+solo value = do
+  report ← report_of (value (codes "report"))
+  limit ← limit_of (value (codes "limit"))
+  Some (Solo report limit)
+
+-- `run`, by the values of its options
+abbrev pub run : (Text → Option Text) → Option Command
+run value = do
+  order ← order_of (value (codes "order"))
+  report ← report_of (value (codes "report"))
+  limit ← limit_of (value (codes "limit"))
+  Some (Run order report limit)
+
+-- `gen`, by the values of its options
+abbrev pub gen : (Text → Option Text) → Option Command
+gen value = do
+  seed ← required_in 0 18446744073709551615 (value (codes "seed"))
+  cpus ← required_in 1 16 (value (codes "cpus"))
+  partitions ← required_in 1 32 (value (codes "partitions"))
+  ticks ← required_in 1 1000000 (value (codes "ticks"))
+  Some (Gen seed cpus partitions ticks)
+
+abbrev pub solo_options : List Text
+solo_options = codes "report" ∷ codes "limit" ∷ []
+
+abbrev pub run_options : List Text
+run_options = codes "order" ∷ codes "report" ∷ codes "limit" ∷ []
+
+abbrev pub gen_options : List Text
+gen_options = codes "seed" ∷ codes "cpus" ∷ codes "partitions" ∷ codes "ticks" ∷ []
+
+-- a command with options of these names, by the words behind its own
+abbrev pub with_options : List Text → ((Text → Option Text) → Option Command) → List Text → Option Command
+with_options names by words = options names words >>= λ given. by (value_of given)
+
+-- the command that these words are, or nothing
+abbrev pub command : List Text → Option Command
+command [] = None
+command (word ∷ words) =
+    if bytes_eq word (codes "solo") then with_options solo_options solo words
+    else (if bytes_eq word (codes "run") then with_options run_options run words
+    else (if bytes_eq word (codes "gen") then with_options gen_options gen words else None))
+
+-- the answer is this command, or a refusal of the words where there is none; want of memory tells nothing
+abbrev pub Says : Result Command WordsRefusal → Option Command → Type 0
+Says (Ok said) meant = meant ≡ Some said
+Says (Err refusal.Words) meant = meant ≡ None
+Says (Err refusal.NoMemory) meant = ⊤
+
+-- the numbers of a command have their ranges
+abbrev pub HasRanges : Command → Type 0
+HasRanges (Solo report limit) = (1 ≤ limit) × (limit ≤ 4000000)
+HasRanges (Run order report limit) = (1 ≤ limit) × (limit ≤ 4000000)
+HasRanges (Gen seed cpus partitions ticks) =
+    (1 ≤ cpus) × (cpus ≤ 16) × (1 ≤ partitions) × (partitions ≤ 32) × (1 ≤ ticks) × (ticks ≤ 1000000)

@@ -1,0 +1,6 @@
+pub mod Options
+pub mod Number
+pub mod Values
+pub mod Command
+pub mod Plain
+pub mod Clap

@@ -1,0 +1,12 @@
+//! The command that a list of words is.
+#![tactic(auto)]
+
+mod command;
+mod number;
+mod options;
+mod plain;
+#[cfg(test)]
+mod tests;
+mod values;
+
+pub use command::{Command, Report, WordsRefusal, command_of};
