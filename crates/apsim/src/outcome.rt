@@ -45,7 +45,9 @@ pub enum Outcome {
         history: History,
     },
     /// This is the text of the scenario that was asked for.
-    Generated { text: String },
+    Generated {
+        text: String,
+    },
     /// There was no memory.
     NoMemory,
 }
@@ -67,12 +69,14 @@ impl Outcome {
     {
         match command_of(alloc, words) {
             Ok(Command::Solo { report, limit }) => Outcome::of_solo(alloc, report, limit, source),
-            Ok(Command::Gen {
-                seed,
-                cpus,
-                partitions,
-                ticks,
-            }) => Outcome::of_gen(alloc, seed, cpus, partitions, ticks),
+            Ok(
+                Command::Gen {
+                    seed,
+                    cpus,
+                    partitions,
+                    ticks,
+                },
+            ) => Outcome::of_gen(alloc, seed, cpus, partitions, ticks),
             Ok(Command::Run { .. }) | Err(WordsRefusal::Words) => Outcome::WordsRefused,
             Err(WordsRefusal::NoMemory) => Outcome::NoMemory,
         }

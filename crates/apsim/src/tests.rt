@@ -1,5 +1,6 @@
 //! Whole calls of the program in memory: what they write, and the statuses.
 mod threads;
+mod worked;
 
 use crate::top::{Ended, calm_top};
 use aps_io::{CalmSink, CalmSource, MemSink, MemSource, Sink, Source};
@@ -93,7 +94,13 @@ fn a_run_stops_at_its_limit(rt: HostRuntime) -> Result<(), Fail> {
 #[test]
 fn a_scenario_is_generated(rt: HostRuntime) -> Result<(), Fail> {
     let alloc = rt.alloc();
-    let words = ["gen", "--seed=7", "--cpus=2", "--partitions=3", "--ticks=100"];
+    let words = [
+        "gen",
+        "--seed=7",
+        "--cpus=2",
+        "--partitions=3",
+        "--ticks=100",
+    ];
     let (ended, sink) = calm(alloc, &words, Vec::new(alloc))?;
     assert_eq!(rt; ended.status, 0);
     assert_eq!(rt; entries_of(&ended.history), None);
@@ -101,7 +108,12 @@ fn a_scenario_is_generated(rt: HostRuntime) -> Result<(), Fail> {
     let again = text.clone()?;
     let (whole, summary) = calm(alloc, &["solo"], text)?;
     assert_eq!(rt; whole.status, 0);
-    assert_eq!(rt; summary.written().starts_with(b"aps summary 1\nend horizon\n".as_slice()), true);
+    assert_eq!(rt;
+        summary
+            .written()
+            .starts_with(b"aps summary 1\nend horizon\n".as_slice()),
+        true
+    );
     let (limited, _) = calm(alloc, &["solo", "--limit", "100"], again)?;
     assert_eq!(rt; limited.status, 6);
     assert_eq!(rt; entries_of(&limited.history), Some(100));

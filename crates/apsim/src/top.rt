@@ -120,11 +120,13 @@ pub fn top<R: Threads + Wait + Sync, S: Source, K: Sink, G: Gate + Sync>(
         }) result }
 {
     match command_of(alloc, words) {
-        Ok(Command::Run {
-            order,
-            report,
-            limit,
-        }) => {
+        Ok(
+            Command::Run {
+                order,
+                report,
+                limit,
+            },
+        ) => {
             let outcome = Outcome::of_run(rt, alloc, order, report, limit, source, gate);
             tell(alloc, outcome, sink)
         }

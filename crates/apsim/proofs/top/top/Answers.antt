@@ -2,7 +2,6 @@ use Rattle.std.proofs.Common.{rules, ◌≡◌, List, ℕ, [], Some, map, string
 use Rattle.aps_words.specs.declared.command.Command.{Command}
 use Rattle.aps_words.specs.declared.command.Command.TheVariants.{Run}
 use Rattle.aps_words.specs.Command.{command}
-
 use Rattle.apsim.specs.Asked.{RunAsked, calm_command, run_asked}
 use Rattle.apsim.specs.declared.outcome.Outcome.TheVariants.{NoMemory}
 use Rattle.apsim.proofs.Caused.{asked_as, caused}
