@@ -73,7 +73,7 @@ def status(summary):
 
 
 def file_of(theme, about, scenarios):
-    lines = [f"//! {about} Written by tools/worked_tests.py.", "use super::{Worked, check_all};", "use std::test::Fail;", ""]
+    lines = [f"//! {about} Written by tools/worked_tests.py.", "use super::{Worked, run};", "use std::test::Fail;", ""]
     cases = []
     for name, reports in scenarios:
         scenario = read(f"{name}.toml")
@@ -84,7 +84,18 @@ def file_of(theme, about, scenarios):
             lines += [f"const {constant(name)}_{constant(report)}: &str = {raw(text)};", ""]
             cases.append(f"Worked {{ scenario: {constant(name)}, report: \"{report}\", status: {status(summary)}, text: {constant(name)}_{constant(report)} }}")
     lines += [f"const ALL: [Worked; {len(cases)}] = ["] + [f"    {case}," for case in cases] + ["];", ""]
-    lines += ["#[test]", f"fn {theme}_give_their_texts(rt: HostRuntime) -> Result<(), Fail> {{", "    check_all(&rt, &ALL)", "}", ""]
+    lines += [
+        "#[test]",
+        f"fn {theme}_give_their_texts(rt: HostRuntime) -> Result<(), Fail> {{",
+        "    for worked in &ALL {",
+        "        let (ended, sink) = run(rt.alloc(), worked)?;",
+        "        assert_eq!(rt; sink.written(), worked.text.as_bytes());",
+        "        assert_eq!(rt; ended.status, worked.status);",
+        "    }",
+        "    Ok(())",
+        "}",
+        "",
+    ]
     return "\n".join(lines)
 
 
