@@ -136,6 +136,55 @@ short none
 overcritical none
 "#;
 
+const ROUND_ROBIN: &str = r#"version = 1
+cpus = 1
+window = 10
+ticks = 12
+thread = [
+  {name = "s", policy = "rr", program = ["run forever"]},
+  {name = "a", policy = "rr", program = ["run forever"]},
+]
+"#;
+
+const ROUND_ROBIN_JOURNAL: &str = r#"0 0 0 - - - - 0 - -
+0 0 1000000 0 0 - - 0 - -
+0 1000000 2000000 0 0 - - 0 - -
+0 2000000 3000000 0 0 - - 0 - -
+0 3000000 4000000 0 0 - - 1 - -
+0 4000000 5000000 1 0 - - 1 - -
+0 5000000 6000000 1 0 - - 1 - -
+0 6000000 7000000 1 0 - - 1 - -
+0 7000000 8000000 1 0 - - 0 - -
+0 8000000 9000000 0 0 - - 0 - -
+0 9000000 10000000 0 0 - - 0 - -
+0 10000000 11000000 0 0 - - 0 - -
+0 11000000 12000000 0 0 - - - - -
+"#;
+
+const FIRST_IN_FIRST_OUT: &str = r#"version = 1
+cpus = 1
+window = 10
+ticks = 12
+thread = [
+  {name = "s", policy = "fifo", program = ["run forever"]},
+  {name = "a", policy = "fifo", program = ["run forever"]},
+]
+"#;
+
+const FIRST_IN_FIRST_OUT_SUMMARY: &str = r#"aps summary 1
+end horizon
+shape cpus 1 tick 1000000 window 10 ticks 12
+entries 13
+partition 0 System budget 100 billed 12000000 critical 0
+idle 0
+thread 0 s ran 12000000
+thread 1 a ran 0
+loaded 0
+over 0 partition 0 window 0
+short 0 partition 0 window 0
+overcritical 0 partition 0 window 0
+"#;
+
 const FREE_PRIORITY: &str = r#"version = 1
 cpus = 1
 window = 10
@@ -351,7 +400,7 @@ overcritical 0 partition 0 window 31
 reply 0 modified
 "#;
 
-const ALL: [Worked; 14] = [
+const ALL: [Worked; 16] = [
     Worked {
         scenario: CRITICAL_THREAD,
         report: "summary",
@@ -387,6 +436,18 @@ const ALL: [Worked; 14] = [
         report: "summary",
         status: 3,
         text: REBOOTED_SUMMARY,
+    },
+    Worked {
+        scenario: ROUND_ROBIN,
+        report: "journal",
+        status: 0,
+        text: ROUND_ROBIN_JOURNAL,
+    },
+    Worked {
+        scenario: FIRST_IN_FIRST_OUT,
+        report: "summary",
+        status: 0,
+        text: FIRST_IN_FIRST_OUT_SUMMARY,
     },
     Worked {
         scenario: FREE_PRIORITY,
