@@ -1,4 +1,4 @@
 //! Worked rows of two processors, whose numbers come from outside.
-mod two_processors;
 mod seats;
 mod threads;
+mod two_processors;
