@@ -16,4 +16,3 @@ pub mod Kept
 pub mod Finish
 pub mod Recent
 pub mod Rising
-pub mod Given

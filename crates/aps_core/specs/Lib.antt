@@ -11,6 +11,5 @@ pub mod Run
 pub mod Turn
 pub mod Core
 pub mod CoreView
-pub mod Given
 pub mod Rising
 pub mod CanRecord

@@ -8,8 +8,6 @@ mod merit;
 mod recording;
 mod room;
 mod simulator;
-#[cfg(test)]
-mod tests;
 mod turn;
 mod usage;
 
