@@ -97,7 +97,7 @@ none_from changes s c a b low steady settled =
 
 -- ---- the loaded windows
 
-in_range : (s n a : ℕ) → s ≤ a → a < s + n → Contains (range_with_len s n) a
+pub in_range : (s n a : ℕ) → s ≤ a → a < s + n → Contains (range_with_len s n) a
 in_range s n a from below =
     let inside : a - s < n = omega (arith, from, below) in
     let there : s + (a - s) ≡ a = omega (arith, from) in

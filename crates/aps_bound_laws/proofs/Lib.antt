@@ -15,4 +15,5 @@ pub mod Below
 pub mod BoundLaws
 pub mod SteadyTicks
 pub mod Audited
+pub mod Worst
 pub mod Rows

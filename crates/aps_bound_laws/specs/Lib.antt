@@ -4,3 +4,4 @@ pub mod Debts
 pub mod Pasts
 pub mod Picks
 pub mod Loaded
+pub mod Worst

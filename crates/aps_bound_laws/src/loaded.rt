@@ -8,10 +8,22 @@ ghost use Rattle.aps_model.specs.Valid.{IsScenario};
 ghost use Rattle.aps_model.specs.Legal.{IsLegal};
 ghost use Rattle.aps_model.specs.History.{Rooms};
 ghost use Rattle.aps_model.specs.Recorded.{recorded};
-ghost use Rattle.aps_model.specs.Audit.{audit_of};
+ghost use Rattle.aps_model.specs.Audit.{audit_of, over_from, short_from, critical_over_from};
+ghost use Rattle.aps_model.specs.History.{History};
 ghost use Rattle.aps_bound_laws.specs.Loaded.{IsLoaded, IsSettled, IsUncritical, KeepsLast};
+ghost use Rattle.aps_bound_laws.specs.Worst.{IsAudited, TellsWorst};
 
-/// Where no change stands at the first unfinished tick or later, each loaded window keeps both bounds by the rows and the window that stand last.
+/// Each amount of an audit (ns) is the greatest of its kind over all partitions in all loaded windows. Its window is
+/// the first in which a partition attains it, and of these partitions it names the lowest. There is none exactly where
+/// no partition stands in a loaded window. This holds of every history, whether or not it came from a run.
+pub fn worst_is_greatest()
+    ensures over { (h : History) → TellsWorst (over_from h) (IsAudited h) (audit_of h).worst_over }
+    ensures short { (h : History) → TellsWorst (short_from h) (IsAudited h) (audit_of h).worst_short }
+    ensures critical { (h : History) → TellsWorst (critical_over_from h) (IsAudited h) (audit_of h).critical_worst }
+{}
+
+/// Where no change stands at the first unfinished tick or later, each loaded window keeps both bounds by the rows and
+/// the window that stand last.
 pub fn loaded_windows_keep_bounds()
     ensures { (scenario : Scenario) (order : Order) (h : List Entry) (limit : ℕ) (rooms : Rooms) → IsScenario scenario → IsLegal scenario order h → IsSettled (recorded scenario limit rooms h) → (a : ℕ) → IsLoaded (recorded scenario limit rooms h) a → KeepsLast (recorded scenario limit rooms h) a }
 {}

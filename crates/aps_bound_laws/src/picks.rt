@@ -11,7 +11,8 @@ ghost use Rattle.aps_model.specs.Legal.{IsLegal};
 ghost use Rattle.aps_laws.specs.Choices.{MadeNoPick};
 ghost use Rattle.aps_bound_laws.specs.Picks.{IsFundedPick, tick_of, wide_at};
 
-/// Where no partition with a budget lacks a candidate somebody is picked, critically or in budget, unless the entry stood at the horizon or ended the run.
+/// Where no partition with a budget lacks a candidate somebody is picked, critically or in budget, unless the entry
+/// stood at the horizon or ended the run.
 pub fn steady_pick()
     ensures { (scenario : Scenario) (order : Order) (h : List Entry) (e : Entry) → IsScenario scenario → IsLegal scenario order (h ++ e ∷ []) → e.starved ≡ None → MadeNoPick (state_after scenario h) e (after scenario (h ++ e ∷ [])).reboot ⊎ IsFundedPick scenario h e (state_after scenario (h ++ e ∷ [])) }
 {}

@@ -15,7 +15,8 @@ pub fn others_untouched()
     ensures { (scenario : Scenario) (order : Order) (h : List Entry) (e : Entry) → IsScenario scenario → IsLegal scenario order (h ++ e ∷ []) → IsStepOf scenario (state_after scenario h) h e.cpu e (state_after scenario (h ++ e ∷ [])) }
 {}
 
-/// What a processor keeps is the thread that its entry picked, with the partition and the mark that this thread inherits then.
+/// What a processor keeps is the thread that its entry picked, with the partition and the mark that this thread
+/// inherits then.
 pub fn kept_as_inherited()
     ensures { (scenario : Scenario) (order : Order) (h : List Entry) (e : Entry) → IsScenario scenario → IsLegal scenario order (h ++ e ∷ []) → IsPickSaid (state_after scenario h) h e.cpu e (state_after scenario (h ++ e ∷ [])) (after scenario (h ++ e ∷ [])).reboot }
 {}

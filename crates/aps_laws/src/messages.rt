@@ -19,12 +19,14 @@ pub fn waiting_stands()
     ensures { (scenario : Scenario) (order : Order) (h : List Entry) → IsScenario scenario → IsLegal scenario order h → IsWaiting (state_at (state_after scenario h)) (channel_at (state_after scenario h)) (state_after scenario h).triples }
 {}
 
-/// A server has its client's values, raised by what waits at the channel of its triple, and who serves nobody has its own.
+/// A server has its client's values, raised by what waits at the channel of its triple, and who serves nobody has its
+/// own.
 pub fn servers_inherit()
     ensures { (scenario : Scenario) (order : Order) (h : List Entry) → IsScenario scenario → IsLegal scenario order h → IsChained (state_after scenario h) }
 {}
 
-/// Each number of a thread, processor, channel or partition names one that exists, in states, messages, receivers, triples, inherited values and what processors keep; each priority that waits or is inherited is between 1 and 255.
+/// Each number of a thread, processor, channel or partition names one that exists, in states, messages, receivers,
+/// triples, inherited values and what processors keep; each priority that waits or is inherited is between 1 and 255.
 pub fn ids_fit()
     ensures { (scenario : Scenario) (order : Order) (h : List Entry) → IsScenario scenario → IsLegal scenario order h → IsInRange scenario (state_after scenario h) }
 {}

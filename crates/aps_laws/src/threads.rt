@@ -32,17 +32,20 @@ pub fn none_shared()
     ensures { (scenario : Scenario) (order : Order) (h : List Entry) → IsScenario scenario → IsLegal scenario order h → NoneShared (state_after scenario h) }
 {}
 
-/// Each thread stands at an operation of its program that fits its state, with nothing left exactly where that has no end; what is left, its moment to wake, its own priority and partition have their ranges.
+/// Each thread stands at an operation of its program that fits its state, with nothing left exactly where that has no
+/// end; what is left, its moment to wake, its own priority and partition have their ranges.
 pub fn places_fit()
     ensures { (scenario : Scenario) (order : Order) (h : List Entry) → IsScenario scenario → IsLegal scenario order h → Each (IsThreadFit scenario (length (state_after scenario h).rows)) (state_after scenario h).threads }
 {}
 
-/// A ready thread has time left, and so has a running one unless the run is over for its processor; the time that a thread ran since its stamp is at most the time that has passed, and that of its processor where it runs.
+/// A ready thread has time left, and so has a running one unless the run is over for its processor; the time that a
+/// thread ran since its stamp is at most the time that has passed, and that of its processor where it runs.
 pub fn time_is_left()
     ensures { (scenario : Scenario) (order : Order) (h : List Entry) → IsScenario scenario → IsLegal scenario order h → Each (λ x t. IsThreadTimed scenario (after scenario h).reboot h t) (state_after scenario h).threads }
 {}
 
-/// A step gives at most one stamp for each thread and two more; so for 4,000,000 entries all stamps of ready and running threads are below 2^32.
+/// A step gives at most one stamp for each thread and two more; so for 4,000,000 entries all stamps of ready and
+/// running threads are below 2^32.
 pub fn stamps_are_few()
     ensures { (scenario : Scenario) (order : Order) (h : List Entry) → IsScenario scenario → IsLegal scenario order h → HasFewStamps (state_after scenario h) h }
 {}
