@@ -1,14 +1,14 @@
 ghost use Rattle.std.specs.Prelude.{◌≡◌, ℕ, ◌<◌, ◌≤◌, length, All, IfSome, nat_eq, ◌&&◌, ◌||◌, if◌then◌else◌, Some, None};
 ghost use Rattle.std.specs.Option.{option_or};
 ghost use Rattle.aps_model.specs.Budget.{part_at};
-ghost use Rattle.aps_model.specs.Flag.{lower_ranked};
+ghost use Rattle.aps_model.specs.Flag.{at_most, lower_ranked};
 ghost use Rattle.aps_model.specs.Merit.{is_candidate, is_critical_pick};
 ghost use Rattle.aps_model.specs.Pick.{merit_among};
 ghost use Rattle.aps_core.specs.Scan.{better_candidate};
 ghost use Rattle.aps_core.specs.Small.{IsSmall};
 
 use aps_merit::{is_candidate, is_critical_pick, is_greater, merit_of};
-use aps_model::{Contender, CpuId, Free, Merit, PartFacts, PartitionId};
+use aps_model::{Contender, CpuId, Free, Merit, PartFacts, PartitionId, Rank};
 
 /// How a partition stands.
 pub fn part_at(parts: &[PartFacts], p: PartitionId) -> PartFacts
@@ -89,9 +89,9 @@ pub fn better(
 /// Of the processors so far and one more, the one of least rank, and of equal ranks the later.
 pub fn lower_ranked(
     c: CpuId,
-    rank: Option<(u8, u8)>,
-    best: Option<(CpuId, (u8, u8))>,
-) -> Option<(CpuId, (u8, u8))>
+    rank: Option<Rank>,
+    best: Option<(CpuId, Rank)>,
+) -> Option<(CpuId, Rank)>
     ensures same { result ≡ lower_ranked c rank best }
     ensures below { (n : ℕ) → c < n → IfSome best (λ b. b.0 < n) → IfSome result (λ r. r.0 < n) }
 {
@@ -101,10 +101,26 @@ pub fn lower_ranked(
     let Some((d, least)) = best else {
         return Some((c, rank));
     };
-    if rank.0 < least.0 || (rank.0 == least.0 && rank.1 <= least.1) {
+    if is_at_most(rank, least) {
         Some((c, rank))
     } else {
         Some((d, least))
+    }
+}
+
+/// Whether the first of two ranks is the lower one, or they are equal.
+fn is_at_most(rank: Rank, other: Rank) -> bool
+    ensures { result ≡ at_most rank other }
+{
+    let Rank::Running { class, priority } = rank else {
+        return true;
+    };
+    match other {
+        Rank::Idle => false,
+        Rank::Running {
+            class: other_class,
+            priority: other_priority,
+        } => class < other_class || (class == other_class && priority <= other_priority),
     }
 }
 

@@ -138,7 +138,8 @@ impl History {
         self.end
     }
 
-    /// Appends an entry, for which there is room. All else stays.
+    /// Appends an entry, for which there is room. Its `from` is at most its `to`, `to` at most 10,000,000,000,000 ns and
+    /// `to - from` at most 10,000,000 ns. All else stays.
     pub fn add_entry(&mut self, e: Entry)
         requires room { length self.old.entries < self.old.room.entries }
         requires entry { IsEntry e }
@@ -192,7 +193,9 @@ impl History {
         append(&mut self.changes, c);
     }
 
-    /// Replaces the row of `p`, or appends it where `p` is the number of rows. All else stays.
+    /// Replaces the row of `p`, or appends it where `p` is the number of rows, which it may not exceed. The row's budget
+    /// and maximum are at most 1,000, whatever the shape's parts, and its critical budget is at most 64,000,000,000. All
+    /// else stays.
     pub fn set_row(&mut self, p: PartitionId, row: PartitionRow)
         requires place { p ≤ length self.old.rows }
         requires row { IsRow row }
@@ -206,7 +209,7 @@ impl History {
         }
     }
 
-    /// The shape is this one from now on. All else stays.
+    /// The shape is this one from now on. It has its ranges (`docs/DEFINITIONS.md`, Shape). All else stays.
     pub fn set_shape(&mut self, shape: Shape)
         requires { IsShape shape }
         ensures { self.new ≡ record self.old { shape = shape } }

@@ -53,7 +53,7 @@ impl CpuId {
         }
     }
 
-    /// The processor with this number, of which the caller knows that it is one.
+    /// The processor with this number, which is at most 15.
     pub fn at(index: usize) -> Self
         requires { index ≤ 15 }
         ensures { result ≡ index }
@@ -107,7 +107,7 @@ impl ThreadId {
         }
     }
 
-    /// The thread with this number, of which the caller knows that it is one.
+    /// The thread with this number, which is at most 1,023.
     pub fn at(index: usize) -> Self
         requires { index ≤ 1023 }
         ensures { result ≡ index }
@@ -161,7 +161,7 @@ impl PartitionId {
         }
     }
 
-    /// The partition with this number, of which the caller knows that it is one.
+    /// The partition with this number, which is at most 31.
     pub fn at(index: usize) -> Self
         requires { index ≤ 31 }
         ensures { result ≡ index }
@@ -211,7 +211,7 @@ impl ChannelId {
         }
     }
 
-    /// The channel with this number, of which the caller knows that it is one.
+    /// The channel with this number, which is at most 255.
     pub fn at(index: usize) -> Self
         requires { index ≤ 255 }
         ensures { result ≡ index }

@@ -23,7 +23,7 @@ pub use command::{
 pub use entry::{Done, End, Entry, Order};
 pub use history::History;
 pub use ids::{ChannelId, CpuId, Nanos, NoMemory, OutOfRange, PartitionId, ThreadId};
-pub use merit::{Contender, Merit, PartFacts, has_allowance, less_fraction};
+pub use merit::{Contender, Merit, PartFacts, Rank, has_allowance, less_fraction};
 pub use name::{Name, NameBad};
 pub use partition::{PartitionRow, TreeRefusal};
 pub use program::{Op, Program};

@@ -6,7 +6,7 @@ ghost use Rattle.aps_core.specs.Small.{IsSmall};
 use super::Machine;
 use crate::merit;
 use aps_merit::{is_below, merit_of};
-use aps_model::{Contender, CpuId, CpuNow, Entry, Nanos, PartFacts, Pick};
+use aps_model::{Contender, CpuId, CpuNow, Entry, Nanos, PartFacts, Pick, Rank};
 
 impl Machine {
     /// The rank of a processor that keeps this, if it is idle or its thread is below the greatest candidate left.
@@ -15,18 +15,21 @@ impl Machine {
         parts: &[PartFacts],
         left: &Contender,
         running: &Option<Pick>,
-    ) -> Option<(u8, u8)>
+    ) -> Option<Rank>
         requires { All IsSmall parts.now }
         ensures { result ≡ rank_of self.now parts.now (merit_among parts.now left.now) running.now }
     {
         let Some(pick) = running else {
-            return Some((0, 0));
+            return Some(Rank::Idle);
         };
         let facts = self.facts_of(pick.thread);
         let stamp = self.thread(pick.thread).stamp;
         let merit = merit_of(facts, stamp, &merit::part_at(parts, facts.partition));
         if is_below(&merit, &merit::merit_among(parts, left), self.shape.free) {
-            Some((merit.class + 1, merit.priority))
+            Some(Rank::Running {
+                class: merit.class,
+                priority: merit.priority,
+            })
         } else {
             None
         }
@@ -43,7 +46,7 @@ impl Machine {
         c: CpuId,
         now: Nanos,
         d: CpuId,
-    ) -> Option<(u8, u8)>
+    ) -> Option<Rank>
         requires small { All IsSmall parts.now }
         requires entries { All IsEntry entries.now }
         requires d { d < length self.now.cpus }
