@@ -23,6 +23,7 @@ use Rattle.aps_model.specs.Valid.{IsScenario}
 use Rattle.aps_model.proofs.AfterLaws.{IsLegal-append, after-append, after_none, legal_none}
 use Rattle.aps_laws.proofs.ChangeLaws.{only_grow, room}
 use Rattle.aps_laws.proofs.Counts.{counts_law}
+use Rattle.aps_laws.proofs.EnoughThreads.{enough_law}
 use Rattle.aps_laws.proofs.ReplyLaws.{few_answered}
 use Rattle.aps_laws.proofs.RowLaws.{in_order, in_range, rows_stay}
 use Rattle.aps_laws.proofs.Turns.{any_turn, one_turn}
@@ -31,7 +32,8 @@ use Rattle.aps_laws.specs.Runs.{EndsNoSooner}
 use Rattle.aps_core.specs.Core.{IsCore, IsSetup, IsUnderWay}
 use Rattle.aps_core.specs.CanRecord.{CanRecord}
 use Rattle.aps_core.specs.Run.{Run, Setup, end_of_run, history_of, rooms_of, state_of, with_last}
-use Rattle.aps_core.specs.Turn.{HasTurnIn, with_entry}
+use Rattle.aps_core.specs.declared.turn.Turn.TheVariants.{Took}
+use Rattle.aps_core.specs.Turn.{HasTurnIn, IsFed, with_entry}
 use Rattle.aps_core.specs.Ready.{IsReady}
 use Rattle.aps_core.proofs.Ready.{ready}
 use Rattle.aps_core.proofs.Turns.{IsDueNow, due_now}
@@ -177,6 +179,13 @@ one_more run kept state parts c e left core goes_on turn steps =
           ∙ ap (λ d. left_by (step scenario state run.entries d)) own
           ∙ ap left_by steps;
     }
+
+-- enough threads of each partition with a budget feed it at the entry
+pub fed_in : (run : Run) (kept : History) (state : SchedulerState) (parts : List PartFacts) (c : ℕ) (e : Entry) (left : After) → IsCore run kept state parts → end_of_run run ≡ None → HasTurnIn run c
+    → step run.setup.scenario state run.entries c ≡ record { entry = e; state = left.state; reboot = left.reboot } → IsFed run (Took e)
+fed_in run kept state parts c e left core goes_on turn steps =
+    let more = one_more run kept state parts c e left core goes_on turn steps in
+    enough_law run.setup.scenario run.setup.order run.entries e core.keeps.setup.valid more.legal
 
 core_more : (run : Run) (kept : History) (state : SchedulerState) (parts : List PartFacts) (c : ℕ) (e : Entry) (kept' : History) (left : After) (parts' : List PartFacts)
     → IsCore run kept state parts → end_of_run run ≡ None → HasTurnIn run c → IsMore run kept state c e kept' left → length parts' ≡ length parts

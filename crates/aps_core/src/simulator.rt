@@ -9,9 +9,10 @@ ghost use Rattle.aps_model.specs.Tiled.{IsTiled, IsBilledAsInherited};
 ghost use Rattle.aps_model.specs.Bound.{KeepsWindowBound, KeepsCriticalBound};
 ghost use Rattle.aps_laws.specs.Choices.{EachPickIsGreatest};
 ghost use Rattle.aps_laws.specs.Runs.{EndsNoSooner};
+ghost use Rattle.aps_core.specs.declared.turn.Turn.TheVariants.{Took};
 ghost use Rattle.aps_core.specs.Core.{IsUnderWay};
 ghost use Rattle.aps_core.specs.Run.{IsLater, end_of_run, finished_run, history_of, most_changes, state_of, with_last};
-ghost use Rattle.aps_core.specs.Turn.{HasTurnIn, IsOwn, IsTaken, IsTurn, after_turn, with_entry};
+ghost use Rattle.aps_core.specs.Turn.{HasTurnIn, IsFed, IsOwn, IsTaken, IsTurn, after_turn, with_entry};
 
 use crate::machine::Machine;
 use crate::machine::wake::Sleepers;
@@ -128,6 +129,7 @@ impl Core {
         ensures turn { IsTurn self.old cpu result }
         ensures run { self.new ≡ after_turn self.old result }
         ensures own { IsOwn cpu result }
+        ensures fed { IsFed self.old result }
     {
         if let Some(end) = self.ended() {
             return Turn::Ended(end);
@@ -188,6 +190,7 @@ impl Core {
         ensures taken { IsTaken self.old cpu result }
         ensures run { self.new ≡ with_entry self.old result }
         ensures own { result.cpu ≡ cpu }
+        ensures fed { IsFed self.old (Took result) }
         ensures room { length self.old.entries < self.old.setup.limit }
     {
         let (e, reboot) = self.machine.step(

@@ -3,8 +3,9 @@ use Rattle.std.proofs.lemmas.Grind.{common_steps}
 use Rattle.aps_core.specs.CoreView.{run_of}
 use Rattle.aps_core.specs.Rising.{IsRising}
 use Rattle.aps_core.specs.Run.{end_of_run}
-use Rattle.aps_core.specs.Turn.{HasTurnIn}
-use Rattle.aps_core.proofs.Kept.{can_record_in, core_kept, entry_fits, own_entry, ready_in, step_read}
+use Rattle.aps_core.specs.declared.turn.Turn.TheVariants.{Took}
+use Rattle.aps_core.specs.Turn.{HasTurnIn, IsFed}
+use Rattle.aps_core.proofs.Kept.{can_record_in, core_kept, entry_fits, fed_in, own_entry, ready_in, step_read}
 use Rattle.aps_core.proofs.Rising.{rising_law}
 use Rattle.aps_core.proofs.simulator.Core.take_turn.Goals as goal
 
@@ -40,6 +41,14 @@ returns-clause-own c =
     (subst (λ run. end_of_run run ≡ None) (sym c.self.view_is) c.requires.goes_on)
     (subst (λ run. HasTurnIn run c.args.cpu) (sym c.self.view_is) c.requires.turn)
     (step_read _ _ c.self.inside.machine _ _ c.args.cpu _ c.scenario.ensures c.entries.ensures.same c.step.ensures.same)
+
+pub returns-clause-fed : goal.returns-clause-fed
+returns-clause-fed c =
+    subst (λ run. IsFed run (Took c.step.result.0)) c.self.view_is
+    (fed_in (run_of c.self.inside) c.self.inside.history c.self.inside.machine c.self.inside.parts.items c.args.cpu c.step.result.0 (record { state = c.step.new.self; reboot = c.step.result.1 }) c.self.invariant
+    (subst (λ run. end_of_run run ≡ None) (sym c.self.view_is) c.requires.goes_on)
+    (subst (λ run. HasTurnIn run c.args.cpu) (sym c.self.view_is) c.requires.turn)
+    (step_read _ _ c.self.inside.machine _ _ c.args.cpu _ c.scenario.ensures c.entries.ensures.same c.step.ensures.same))
 
 pub invariant_of-self : goal.invariant_of-self
 invariant_of-self c =
