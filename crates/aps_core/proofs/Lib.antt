@@ -16,3 +16,4 @@ pub mod Kept
 pub mod Finish
 pub mod Recent
 pub mod Rising
+pub mod Recorded

@@ -6,6 +6,7 @@ ghost use Rattle.aps_model.specs.Legal.{IsLegal, fixed_run};
 ghost use Rattle.aps_model.specs.After.{is_at_horizon, or_limit, over_by};
 ghost use Rattle.aps_model.specs.History.{IsEntry};
 ghost use Rattle.aps_model.specs.Tiled.{IsTiled, IsBilledAsInherited};
+ghost use Rattle.aps_model.specs.Valid.{IsScenario};
 ghost use Rattle.aps_model.specs.Bound.{KeepsWindowBound, KeepsCriticalBound};
 ghost use Rattle.aps_laws.specs.Choices.{EachPickIsGreatest};
 ghost use Rattle.aps_laws.specs.Runs.{EndsNoSooner};
@@ -94,6 +95,7 @@ impl Core {
     /// it has ended; what follows for its entries stands beside.
     pub fn history(&self) -> &History
         ensures same { result.now ≡ history_of self.now }
+        ensures valid { IsScenario self.now.setup.scenario }
         ensures legal { IsLegal self.now.setup.scenario self.now.setup.order self.now.entries }
         ensures no_sooner { EndsNoSooner self.now.setup.scenario self.now.setup.limit self.now.entries }
         ensures tiled { IsTiled self.now.setup.scenario.shape.tick self.now.entries }
@@ -109,6 +111,7 @@ impl Core {
     /// The same, taken out of the core.
     pub fn into_history(self) -> History
         ensures same { result ≡ history_of self }
+        ensures valid { IsScenario self.setup.scenario }
         ensures legal { IsLegal self.setup.scenario self.setup.order self.entries }
         ensures no_sooner { EndsNoSooner self.setup.scenario self.setup.limit self.entries }
         ensures tiled { IsTiled self.setup.scenario.shape.tick self.entries }
@@ -149,12 +152,14 @@ impl Core {
         ensures run { self.new ≡ finished_run self.old }
         ensures later { IsLater self.old self.new }
         ensures fixed { self.old.entries ≡ [] → self.new.entries ≡ fixed_run self.old.setup.scenario self.old.setup.limit }
+        ensures legal { IsLegal self.new.setup.scenario self.new.setup.order self.new.entries }
+        ensures no_sooner { EndsNoSooner self.new.setup.scenario self.new.setup.limit self.new.entries }
     {
         loop {
+            let first = self.first_due();
             if let Some(end) = self.ended() {
                 return end;
             }
-            let first = self.first_due();
             self.take_turn(first);
         }
     }
