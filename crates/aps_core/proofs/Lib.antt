@@ -17,3 +17,4 @@ pub mod Finish
 pub mod Recent
 pub mod Rising
 pub mod Recorded
+pub mod Pending

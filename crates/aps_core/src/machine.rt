@@ -1,7 +1,9 @@
-ghost use Rattle.std.specs.Prelude.{◌≡◌, ◌-◌, ◌<◌, ◌≤◌, ◌/◌, [], length, All, None};
+ghost use Rattle.std.specs.Prelude.{◌≡◌, ◌-◌, ◌<◌, ◌≤◌, ◌/◌, ◌++◌, [], ◌∷◌, length, All, None};
 ghost use Rattle.std.specs.Option.{option_map};
 ghost use Rattle.aps_model.specs.History.{IsEntry};
 ghost use Rattle.aps_model.specs.Shape.{horizon};
+ghost use Rattle.aps_model.specs.Valid.{IsScenario};
+ghost use Rattle.aps_core.specs.Pending.{IsPending};
 ghost use Rattle.aps_core.specs.Rising.{IsRising};
 
 mod bankruptcy;
@@ -21,6 +23,7 @@ mod triple;
 pub mod wake;
 
 use crate::{due, merit, usage};
+use aps_ctl::Ctl;
 use aps_model::{
     Change, Contender, CpuId, CpuNow, Entry, Nanos, PartFacts, PartitionId, PartitionRow, Reply,
     Scenario, Shape, ThreadId, ThreadNow,
@@ -171,20 +174,24 @@ impl Machine {
         entries: &[Entry],
         parts: &mut [PartFacts],
         sleepers: &mut Sleepers,
+        ctl: &mut Ctl,
         cpu: CpuId,
     ) -> (Entry, Option<PartitionId>)
+        requires valid { IsScenario scenario.now }
         requires ready { IsReady scenario.now self.old entries.now cpu }
+        requires pending { IsPending scenario.now self.old.shape.tick entries.now ctl.old }
         requires room { length parts.old ≡ 32 }
         requires entries { All IsEntry entries.now }
         requires rising { IsRising entries.now }
         requires few { length entries.now ≤ 4000000 }
         ensures same { step scenario.now self.old entries.now cpu ≡ record { entry = result.0; state = self.new; reboot = result.1 } }
+        ensures pending { IsPending scenario.now self.old.shape.tick (entries.now ++ result.0 ∷ []) ctl.new }
         ensures parts { length parts.new ≡ length parts.old }
     {
         let now = self.due(entries, cpu);
         let from = due::last_end(entries, cpu);
         let running = self.begin(cpu);
-        self.work_tick(scenario, entries, sleepers, now);
+        self.work_tick(scenario, entries, sleepers, ctl, now);
         let e = bill::bill_of(cpu, from, now, &running);
         self.bill(&e, &running);
         let reboot = self.test(entries, &e);

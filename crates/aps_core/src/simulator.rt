@@ -19,6 +19,7 @@ use crate::machine::Machine;
 use crate::machine::wake::Sleepers;
 use crate::recording;
 use crate::turn::Turn;
+use aps_ctl::Ctl;
 use aps_model::{CpuId, End, Entry, History, Nanos, NoMemory, Order, PartFacts, Scenario};
 use std::alloc::Global;
 use std::marker::Model;
@@ -33,6 +34,7 @@ pub struct Core {
     machine: Machine,
     parts: Vec<PartFacts>,
     sleepers: Sleepers,
+    ctl: Ctl,
 }
 
 impl Model for Core {
@@ -63,6 +65,7 @@ impl Core {
         let machine = Machine::boot(alloc, &scenario)?;
         let parts = start_parts(alloc, MOST_PARTITIONS)?;
         let sleepers = Sleepers::new(alloc)?;
+        let ctl = Ctl::new(alloc, &scenario)?;
         let replies = scenario.commands().len() as u16;
         let changes = most_changes(&scenario);
         let history = History::begin(alloc, scenario, limit, replies, changes)?;
@@ -73,6 +76,7 @@ impl Core {
             machine,
             parts,
             sleepers,
+            ctl,
         })
     }
 
@@ -203,6 +207,7 @@ impl Core {
             self.history.entries(),
             self.parts.as_mut_slice(),
             &mut self.sleepers,
+            &mut self.ctl,
             cpu,
         );
         // the check wants a copy of its own of what is handed on and answered too

@@ -1,7 +1,10 @@
-ghost use Rattle.std.specs.Prelude.{◌≡◌, ◌+◌, ◌/◌, ◌%◌, ◌<◌, ◌≤◌, ◌^◌, [], length, All, IfOk, vec_capacity};
+ghost use Rattle.std.specs.Prelude.{◌≡◌, ◌+◌, ◌/◌, ◌%◌, ◌<◌, ◌≤◌, ◌^◌, ◌++◌, [], ◌∷◌, length, All, IfOk, vec_capacity};
 ghost use Rattle.std.specs.Prelude.{nat_eq};
 ghost use Rattle.std.specs.List.{list_any};
+ghost use Rattle.aps_model.specs.declared.entry.Entry.{Entry as EntryOf};
 ghost use Rattle.aps_model.specs.History.{IsEntry};
+ghost use Rattle.aps_model.specs.Valid.{IsScenario};
+ghost use Rattle.aps_core.specs.Pending.{IsPending};
 ghost use Rattle.aps_model.specs.TickWork.{has_tick_work, insert_sleeper, is_earlier, tick_work, wake_all, waking, wakes_at};
 ghost use Rattle.aps_core.specs.Rising.{IsRising};
 ghost use Rattle.aps_core.specs.Room.{HasRoomToWake};
@@ -10,6 +13,7 @@ use super::Machine;
 use super::channel::MOST_THREADS;
 use crate::due;
 use crate::room::insert_at;
+use aps_ctl::Ctl;
 use aps_model::{Entry, Nanos, NoMemory, Scenario, State, ThreadId};
 use std::alloc::Global;
 use std::marker::Model;
@@ -161,8 +165,11 @@ impl Machine {
         scenario: &Scenario,
         entries: &[Entry],
         sleepers: &mut Sleepers,
+        ctl: &mut Ctl,
         now: Nanos,
     )
+        requires valid { IsScenario scenario.now }
+        requires pending { IsPending scenario.now self.old.shape.tick entries.now ctl.old }
         requires entries { All IsEntry entries.now }
         requires rising { IsRising entries.now }
         requires few { length entries.now ≤ 4000000 }
@@ -170,11 +177,12 @@ impl Machine {
         requires room { HasRoomToWake 256 6000000000 self.old }
         requires replies { length (tick_work scenario.now self.old entries.now now).replies ≤ 1024 }
         requires changes { length (tick_work scenario.now self.old entries.now now).changes ≤ 2079 }
-        ensures { self.new ≡ tick_work scenario.now self.old entries.now now }
+        ensures same { self.new ≡ tick_work scenario.now self.old entries.now now }
+        ensures pending { (e : EntryOf) → e.to ≡ now → IsPending scenario.now self.old.shape.tick (entries.now ++ e ∷ []) ctl.new }
     {
         if self.has_tick_work(entries, now) {
             let tick = self.tick_of(now);
-            self.do_commands(scenario, entries, tick);
+            self.do_commands(entries, ctl, tick);
             self.wake_all(scenario, now, sleepers);
         }
     }

@@ -4,19 +4,19 @@ use Rattle.aps_core.proofs.Recorded.{recorded_law}
 use Rattle.aps_core.proofs.simulator.Core.history.Goals as goal
 
 pub returns-clause-tiled : goal.returns-clause-tiled
-returns-clause-tiled c = (recorded_law c.args.self.now (subst IsUnderWay c.self.view_is c.self.invariant.keeps)).tiled
+returns-clause-tiled c = (recorded_law c.args.self.now (subst IsUnderWay c.self.view_is c.self.invariant.core.keeps)).tiled
 
 pub returns-clause-billed : goal.returns-clause-billed
-returns-clause-billed c = (recorded_law c.args.self.now (subst IsUnderWay c.self.view_is c.self.invariant.keeps)).billed
+returns-clause-billed c = (recorded_law c.args.self.now (subst IsUnderWay c.self.view_is c.self.invariant.core.keeps)).billed
 
 pub returns-clause-picks : goal.returns-clause-picks
-returns-clause-picks c = (recorded_law c.args.self.now (subst IsUnderWay c.self.view_is c.self.invariant.keeps)).picks
+returns-clause-picks c = (recorded_law c.args.self.now (subst IsUnderWay c.self.view_is c.self.invariant.core.keeps)).picks
 
 pub returns-clause-bound : goal.returns-clause-bound
-returns-clause-bound c = (recorded_law c.args.self.now (subst IsUnderWay c.self.view_is c.self.invariant.keeps)).bound
+returns-clause-bound c = (recorded_law c.args.self.now (subst IsUnderWay c.self.view_is c.self.invariant.core.keeps)).bound
 
 pub returns-clause-critical_bound : goal.returns-clause-critical_bound
-returns-clause-critical_bound c = (recorded_law c.args.self.now (subst IsUnderWay c.self.view_is c.self.invariant.keeps)).critical_bound
+returns-clause-critical_bound c = (recorded_law c.args.self.now (subst IsUnderWay c.self.view_is c.self.invariant.core.keeps)).critical_bound
 
 pub returns-clause-cpus : goal.returns-clause-cpus
-returns-clause-cpus c = (recorded_law c.args.self.now (subst IsUnderWay c.self.view_is c.self.invariant.keeps)).cpus
+returns-clause-cpus c = (recorded_law c.args.self.now (subst IsUnderWay c.self.view_is c.self.invariant.core.keeps)).cpus
