@@ -25,7 +25,7 @@ use std::alloc::Global;
 use std::marker::Model;
 
 /// A run under way. Contracts see its setup, which is the scenario, the order of turns and the limit, and its
-/// entries so far.
+/// entries so far. What a scenario, an entry, a turn and a step are is said in docs/DEFINITIONS.md.
 #[derive(Drop)]
 pub struct Core {
     history: History,
@@ -50,8 +50,8 @@ impl Model for Core {
 }
 
 impl Core {
-    /// A run that begins. `limit` is the greatest number of entries. All memory of the run is taken here; where it isn't
-    /// there the scenario is dropped.
+    /// A run that begins. `limit` is the greatest number of entries, 1 to 4,000,000. All memory of the run is taken here;
+    /// where it isn't there the answer is `NoMemory`, and the scenario is dropped.
     pub fn boot(
         alloc: Global,
         scenario: Scenario,
@@ -88,7 +88,9 @@ impl Core {
         self.machine.due(self.history.entries(), cpu)
     }
 
-    /// The end of the run, if it has come.
+    /// The end of the run, if it has come. Where several hold it is the first of these: by a reboot, where the last entry
+    /// made a partition bankrupt under that policy; at the horizon, where every processor has stepped there; by the limit,
+    /// where there are that many entries.
     pub fn ended(&self) -> Option<End>
         ensures { result ≡ end_of_run self.now }
     {
@@ -130,7 +132,8 @@ impl Core {
 
     /// One step of the processor. The answer is the end of the run where it has ended, the lowest processor that has
     /// the turn where this one hasn't, and else the entry of the step, which the history then has as its last one.
-    /// But for that entry nothing changes.
+    /// But for that entry nothing changes. Who has the turn and what a step does is said in docs/DEFINITIONS.md, under
+    /// "Who steps, and when".
     pub fn step(&mut self, cpu: CpuId) -> Turn
         requires { cpu < self.old.setup.scenario.shape.cpus }
         ensures turn { IsTurn self.old cpu result }
