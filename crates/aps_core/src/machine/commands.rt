@@ -8,6 +8,7 @@ ghost use Rattle.aps_model.specs.Usage.{window_used, window_critical};
 ghost use Rattle.aps_ctl.specs.Pending.{all_at};
 ghost use Rattle.aps_core.specs.Calls.{AreInRange, IsInRange, all_done, command_at};
 ghost use Rattle.aps_core.specs.Rising.{IsRising};
+ghost use Rattle.aps_core.specs.Room.{changes_of_a_run};
 
 use super::Machine;
 use crate::room::{push_change, push_reply};
@@ -109,7 +110,7 @@ impl Machine {
         requires tick { tick ≤ 1000000 }
         requires call { IsInRange call.now }
         requires replies { length self.old.replies < 1024 }
-        requires changes { length (do_command entries.now tick self.old (command_at tick place call.now)).changes ≤ 2079 }
+        requires changes { length (do_command entries.now tick self.old (command_at tick place call.now)).changes ≤ changes_of_a_run }
         ensures { self.new ≡ do_command entries.now tick self.old (command_at tick place call.now) }
     {
         let view = self.view_of(entries, tick, call);
@@ -135,7 +136,7 @@ impl Machine {
         requires tick { tick ≤ 1000000 }
         requires calls { AreInRange (all_at tick ctl.old) }
         requires replies { length (all_done entries.now tick self.old ctl.old).replies ≤ 1024 }
-        requires changes { length (all_done entries.now tick self.old ctl.old).changes ≤ 2079 }
+        requires changes { length (all_done entries.now tick self.old ctl.old).changes ≤ changes_of_a_run }
         ensures same { self.new ≡ all_done entries.now tick self.old ctl.old }
         ensures others { (j : ℕ) → j ≢ tick → all_at j ctl.new ≡ all_at j ctl.old }
     {
