@@ -1,9 +1,9 @@
--- What a command leaves, and the commands of a tick that are still to be done.
-use Rattle.std.proofs.Common.{◌≡◌, ℕ, zero, suc, ◌+◌, ◌<◌, ◌≤◌, List, [], ◌∷◌, ◌++◌, length, drop, get_or, map, refl, sym, ◌∙◌, ap, subst, cond, Bool, nat_eq, Option, Some, None, IfSome, arith}
-use Rattle.std.specs.List.{enumerate_from, filter, fold}
+-- What a command leaves, and the commands of a tick that are still to come.
+use Rattle.std.proofs.Common.{◌≡◌, ℕ, ◌+◌, ◌<◌, ◌≤◌, List, [], ◌∷◌, ◌++◌, length, get_or, map, refl, sym, ◌∙◌, ap, subst, Bool, nat_eq, Option, Some, None, All, IfSome, arith}
+use Rattle.std.specs.List.{enumerate_from, fold}
 use Rattle.std.proofs.Math.ListN.{get_or-map}
 use Rattle.std.proofs.Math.Seq.{map-set_same}
-use Rattle.std.proofs.lemmas.List.Elements.{All-get_or}
+use Rattle.std.proofs.lemmas.List.Elements.{All-cons, All-filter, All-head, All-nil, All-tail, All-weaker}
 use Rattle.std.proofs.lemmas.List.{length-append}
 use Rattle.aps_model.specs.declared.command.Answer.{Answer}
 use Rattle.aps_model.specs.declared.command.Call.{Call}
@@ -22,11 +22,12 @@ use Rattle.aps_model.specs.Command.{Performed, perform, shape_set}
 use Rattle.aps_model.specs.Scenario.{Scenario}
 use Rattle.aps_model.specs.SchedulerState.{SchedulerState, no_thread, thread_at}
 use Rattle.aps_model.specs.Shape.{IsShape}
-use Rattle.aps_model.specs.TickWork.{changes_with, do_command, thread_named, view_of, with_mark}
+use Rattle.aps_model.specs.TickWork.{changes_with, commands_of, do_command, thread_named, view_of, with_mark}
 use Rattle.aps_model.specs.Valid.{IsCall, IsCommand, IsScenario, IsWindow}
 use Rattle.aps_laws.proofs.Performed.{performed_by}
-use Rattle.aps_laws.proofs.WaitFacts.{test_eq}
-use Rattle.aps_core.specs.Calls.{IsInRange}
+use Rattle.aps_ctl.specs.Pending.{all_at, given, next_at, without_next}
+use Rattle.aps_ctl.proofs.InTurn.{next_first, next_left, none_next}
+use Rattle.aps_core.specs.Calls.{AreInRange, IsInRange, all_done, command_at}
 use Rattle.aps_core.specs.Machine.{IsMachine}
 use Rattle.aps_core.specs.Room.{HasRoomToWake}
 
@@ -165,29 +166,61 @@ all_changes h j (c ∷ cs) s = let rest = all_changes h j cs (do_command h j s c
 
 -- ---- the commands of a tick
 
--- the state after those from place i on
-abbrev pub left_from : List Entry → ℕ → List CommandRow → ℕ → SchedulerState → SchedulerState
-left_from h j commands i s = fold (do_command h j) s (filter (λ (c : ℕ × CommandRow). nat_eq c.1.tick j) (enumerate_from i (drop i commands)))
+some_call : (a b : ℕ × Call) → Some a ≡ Some b → a ≡ b
+some_call a b e = cc
 
-one_left : {X : Type 0} (xs : List X) (i : ℕ) (d : X) → i < length xs → drop i xs ≡ get_or xs i d ∷ drop (suc i) xs
-one_left [] i d below = absurd (omega (arith, below))
-one_left (x ∷ xs) zero d below = refl
-one_left (x ∷ xs) (suc i) d below = one_left xs i d (omega (arith, below))
+no_call : (a : ℕ × Call) → None ≡ Some a → ⊥
+no_call a e = cc
 
-next_left : (h : List Entry) (j : ℕ) (commands : List CommandRow) (i : ℕ) (row : CommandRow) (s : SchedulerState) → i < length commands → row ≡ get_or commands i row
-    → left_from h j commands i s ≡ fold (do_command h j) s (cond (nat_eq row.tick j) ((i, row) ∷ filter (λ (c : ℕ × CommandRow). nat_eq c.1.tick j) (enumerate_from (i + 1) (drop (i + 1) commands))) (filter (λ (c : ℕ × CommandRow). nat_eq c.1.tick j) (enumerate_from (i + 1) (drop (i + 1) commands))))
-next_left h j commands i row s below is =
-    let next : suc i ≡ i + 1 = omega arith in
-    let split : drop i commands ≡ row ∷ drop (i + 1) commands =
-    one_left commands i row below ∙ (λ k. sym is k ∷ drop (next k) commands) in
-    ap (λ l. fold (do_command h j) s (filter (λ (c : ℕ × CommandRow). nat_eq c.1.tick j) (enumerate_from i l))) split
+-- the next command of a tick is the first one that is still to come
+pub record IsNext (h : List Entry) (j : ℕ) (s : SchedulerState) (pending : List (ℕ × CommandRow)) (place : ℕ) (call : Call) : Type 0 where
+  pub done : all_done h j s pending ≡ all_done h j (do_command h j s (command_at j place call)) (without_next j pending)
+  pub range : AreInRange (all_at j pending) → IsInRange call
+  pub left : AreInRange (all_at j pending) → AreInRange (all_at j (without_next j pending))
+  pub fewer : length (all_at j (without_next j pending)) < length (all_at j pending)
 
--- a command of the tick
-pub left_at : (h : List Entry) (j : ℕ) (commands : List CommandRow) (i : ℕ) (row : CommandRow) (s : SchedulerState) → i < length commands → row ≡ get_or commands i row → row.tick ≡ j
-    → left_from h j commands i s ≡ left_from h j commands (i + 1) (do_command h j s (i, row))
-left_at h j commands i row s below is at =
-    next_left h j commands i row s below is
-    ∙ ap (λ b. fold (do_command h j) s (cond b ((i, row) ∷ filter (λ (c : ℕ × CommandRow). nat_eq c.1.tick j) (enumerate_from (i + 1) (drop (i + 1) commands))) (filter (λ (c : ℕ × CommandRow). nat_eq c.1.tick j) (enumerate_from (i + 1) (drop (i + 1) commands))))) (test_eq row.tick j at)
+pub next_of : (h : List Entry) (j : ℕ) (s : SchedulerState) (pending : List (ℕ × CommandRow)) (place : ℕ) (call : Call) → Some (place, call) ≡ next_at j pending → IsNext h j s pending place call
+next_of h j s pending place call is = by (all_at j pending) refl
+  where
+    by : (all : List (ℕ × CommandRow)) → all_at j pending ≡ all → IsNext h j s pending place call
+    by [] e = absurd (no_call (place, call) (sym (is ∙ none_next j pending e)))
+    by (next ∷ later) e =
+        let same : (place, call) ≡ given next = some_call _ _ (is ∙ next_first j pending next later e) in
+        let rest = next_left j pending next later e in
+        record {
+          done =
+              ap (fold (do_command h j) s) e
+              ∙ ap (λ (c : ℕ × Call). fold (do_command h j) (do_command h j s (command_at j c.0 c.1)) later) (sym same)
+              ∙ ap (fold (do_command h j) (do_command h j s (command_at j place call))) (sym rest);
+          range = λ all. subst (λ (c : ℕ × Call). IsInRange c.1) (sym same) (All-head (λ (c : ℕ × CommandRow). IsInRange c.1.call) next later (subst AreInRange e all));
+          left = λ all. subst AreInRange (sym rest) (All-tail (λ (c : ℕ × CommandRow). IsInRange c.1.call) next later (subst AreInRange e all));
+          fewer = omega (arith, ap length rest, ap length e);
+        }
+
+-- where there is none, none is still to come
+pub none_left : (h : List Entry) (j : ℕ) (s : SchedulerState) (pending : List (ℕ × CommandRow)) → None ≡ next_at j pending → all_done h j s pending ≡ s
+none_left h j s pending is = by (all_at j pending) refl
+  where
+    by : (all : List (ℕ × CommandRow)) → all_at j pending ≡ all → all_done h j s pending ≡ s
+    by [] e = ap (fold (do_command h j) s) e
+    by (next ∷ later) e = absurd (no_call (given next) (is ∙ next_first j pending next later e))
+
+-- the next command has room where all that are still to come have
+pub record HasRoomAt (h : List Entry) (j place : ℕ) (call : Call) (s : SchedulerState) : Type 0 where
+  pub replies : length s.replies < 1024
+  pub changes : length (do_command h j s (command_at j place call)).changes ≤ 2079
+
+pub room_at : (h : List Entry) (j place : ℕ) (call : Call) (s whole : SchedulerState) (pending : List (ℕ × CommandRow)) → IsNext h j s pending place call
+    → all_done h j s pending ≡ whole → length whole.replies ≤ 1024 → length whole.changes ≤ 2079 → HasRoomAt h j place call s
+room_at h j place call s whole pending next all replies changes =
+    let did = do_command h j s (command_at j place call) in
+    let left : all_done h j did (without_next j pending) ≡ whole = sym next.done ∙ all in
+    let r = all_replies h j (all_at j (without_next j pending)) did in
+    let c = all_changes h j (all_at j (without_next j pending)) did in
+    let one = more_replies h j s (command_at j place call) in
+    let same_replies = ap (λ (u : SchedulerState). length u.replies) left in
+    let same_changes = ap (λ (u : SchedulerState). length u.changes) left in
+    record { replies = omega (arith, r, one, same_replies, replies); changes = omega (arith, c, same_changes, changes) }
 
 -- ---- places and stamps
 
@@ -218,26 +251,18 @@ pub commands_room : (place stamp : ℕ) (h : List Entry) (j : ℕ) (cs : List (�
 commands_room place stamp h j [] s m = m
 commands_room place stamp h j (c ∷ cs) s m = commands_room place stamp h j cs (do_command h j s c) (command_room place stamp h j s c m)
 
--- ---- what a command of the tick rests on
+-- ---- what the commands of a tick rest on
 
-pub in_range : (scenario : Scenario) (commands : List CommandRow) (i : ℕ) (row : CommandRow) → IsScenario scenario → commands ≡ scenario.commands → i < length commands → row ≡ get_or commands i row → IsInRange row.call
-in_range scenario commands i row valid same below is =
-    let within : i < length scenario.commands = subst (λ (l : List CommandRow). i < length l) same below in
-    let fits = All-get_or (IsCommand scenario.shape.parts scenario.shape.ticks (length scenario.threads)) scenario.commands i row within valid.commands in
-    subst (λ (r : CommandRow). IsInRange r.call) (sym (is ∙ ap (λ l. get_or l i row) same)) (scenario.shape.parts, length scenario.threads, fits.call)
+numbered_in_range : (n : ℕ) (rows : List CommandRow) → All (λ (row : CommandRow). IsInRange row.call) rows → AreInRange (enumerate_from n rows)
+numbered_in_range n [] all = All-nil (λ (c : ℕ × CommandRow). IsInRange c.1.call)
+numbered_in_range n (row ∷ rows) all =
+    All-cons (λ (c : ℕ × CommandRow). IsInRange c.1.call) (n, row) (enumerate_from (n + 1) rows)
+    (All-head (λ (r : CommandRow). IsInRange r.call) row rows all)
+    (numbered_in_range (n + 1) rows (All-tail (λ (r : CommandRow). IsInRange r.call) row rows all))
 
-pub record HasRoomAt (h : List Entry) (j i : ℕ) (row : CommandRow) (s : SchedulerState) : Type 0 where
-  pub replies : length s.replies < 1024
-  pub changes : length (do_command h j s (i, row)).changes ≤ 2079
-
-pub room_at : (h : List Entry) (j : ℕ) (commands : List CommandRow) (i : ℕ) (row : CommandRow) (s whole : SchedulerState) → i < length commands → row ≡ get_or commands i row → row.tick ≡ j
-    → left_from h j commands i s ≡ whole → length whole.replies ≤ 1024 → length whole.changes ≤ 2079 → HasRoomAt h j i row s
-room_at h j commands i row s whole below is at all replies changes =
-    let next = do_command h j s (i, row) in
-    let left : left_from h j commands (i + 1) next ≡ whole = sym (left_at h j commands i row s below is at) ∙ all in
-    let r = all_replies h j (filter (λ (c : ℕ × CommandRow). nat_eq c.1.tick j) (enumerate_from (i + 1) (drop (i + 1) commands))) next in
-    let c = all_changes h j (filter (λ (c : ℕ × CommandRow). nat_eq c.1.tick j) (enumerate_from (i + 1) (drop (i + 1) commands))) next in
-    let one = more_replies h j s (i, row) in
-    let same_replies = ap (λ (u : SchedulerState). length u.replies) left in
-    let same_changes = ap (λ (u : SchedulerState). length u.changes) left in
-    record { replies = omega (arith, r, one, same_replies, replies); changes = omega (arith, c, same_changes, changes) }
+pub in_range : (scenario : Scenario) (j : ℕ) → IsScenario scenario → AreInRange (commands_of scenario j)
+in_range scenario j valid =
+    All-filter (λ (c : ℕ × CommandRow). nat_eq c.1.tick j) (λ (c : ℕ × CommandRow). IsInRange c.1.call) (enumerate_from 0 scenario.commands)
+    (numbered_in_range 0 scenario.commands
+    (All-weaker (IsCommand scenario.shape.parts scenario.shape.ticks (length scenario.threads)) (λ (r : CommandRow). IsInRange r.call)
+    (λ row fits. (scenario.shape.parts, length scenario.threads, fits.call)) scenario.commands valid.commands))

@@ -3,6 +3,7 @@ use Rattle.std.proofs.Common.{◌≡◌, ◌≢◌, ◌⊎◌, ℕ, zero, suc, �
 use Rattle.std.specs.List.{list_all, range_with_len}
 use Rattle.std.proofs.lemmas.List.{length-append}
 use Rattle.std.proofs.lemmas.Bool.Decides.{nat_tests}
+use Rattle.aps_model.specs.declared.command.CommandRow.{CommandRow}
 use Rattle.aps_model.specs.declared.entry.End.{End}
 use Rattle.aps_model.specs.declared.entry.End.TheVariants.{Limit}
 use Rattle.aps_model.specs.declared.entry.Entry.{Entry}
@@ -23,15 +24,18 @@ use Rattle.aps_model.specs.Valid.{IsScenario}
 use Rattle.aps_model.proofs.AfterLaws.{IsLegal-append, after-append, after_none, legal_none}
 use Rattle.aps_laws.proofs.ChangeLaws.{only_grow, room}
 use Rattle.aps_laws.proofs.Counts.{counts_law}
+use Rattle.aps_laws.proofs.EnoughThreads.{enough_law}
 use Rattle.aps_laws.proofs.ReplyLaws.{few_answered}
 use Rattle.aps_laws.proofs.RowLaws.{in_order, in_range, rows_stay}
 use Rattle.aps_laws.proofs.Turns.{any_turn, one_turn}
 use Rattle.aps_laws.proofs.WaitFacts.{test_eq, test_ne}
 use Rattle.aps_laws.specs.Runs.{EndsNoSooner}
 use Rattle.aps_core.specs.Core.{IsCore, IsSetup, IsUnderWay}
+use Rattle.aps_core.specs.Pending.{IsPending}
 use Rattle.aps_core.specs.CanRecord.{CanRecord}
 use Rattle.aps_core.specs.Run.{Run, Setup, end_of_run, history_of, rooms_of, state_of, with_last}
-use Rattle.aps_core.specs.Turn.{HasTurnIn, with_entry}
+use Rattle.aps_core.specs.declared.turn.Turn.TheVariants.{Took}
+use Rattle.aps_core.specs.Turn.{HasTurnIn, IsFed, with_entry}
 use Rattle.aps_core.specs.Ready.{IsReady}
 use Rattle.aps_core.proofs.Ready.{ready}
 use Rattle.aps_core.proofs.Turns.{IsDueNow, due_now}
@@ -178,6 +182,13 @@ one_more run kept state parts c e left core goes_on turn steps =
           ∙ ap left_by steps;
     }
 
+-- enough threads of each partition with a budget feed it at the entry
+pub fed_in : (run : Run) (kept : History) (state : SchedulerState) (parts : List PartFacts) (c : ℕ) (e : Entry) (left : After) → IsCore run kept state parts → end_of_run run ≡ None → HasTurnIn run c
+    → step run.setup.scenario state run.entries c ≡ record { entry = e; state = left.state; reboot = left.reboot } → IsFed run (Took e)
+fed_in run kept state parts c e left core goes_on turn steps =
+    let more = one_more run kept state parts c e left core goes_on turn steps in
+    enough_law run.setup.scenario run.setup.order run.entries e core.keeps.setup.valid more.legal
+
 core_more : (run : Run) (kept : History) (state : SchedulerState) (parts : List PartFacts) (c : ℕ) (e : Entry) (kept' : History) (left : After) (parts' : List PartFacts)
     → IsCore run kept state parts → end_of_run run ≡ None → HasTurnIn run c → IsMore run kept state c e kept' left → length parts' ≡ length parts
     → IsCore (with_entry run e) kept' left.state parts'
@@ -283,3 +294,15 @@ core_kept run kept state parts c e kept' left parts' core goes_on turn m count =
     ap (λ z. record { setup = record run.setup { scenario = z }; entries = run.entries ++ e ∷ [] }) (sym scenario)
     ∙ ap (λ z. record { setup = record run.setup { scenario = kept'.scenario }; entries = z }) (sym entries) in
     subst (λ r. IsCore r kept' left.state parts') same (core_more run kept state parts c e kept' left parts' core goes_on turn m count)
+
+-- ---- the commands that are still to come
+
+pub tick_of_core : (run : Run) (kept : History) (state : SchedulerState) (parts : List PartFacts) → IsCore run kept state parts → state.shape.tick ≡ run.setup.scenario.shape.tick
+tick_of_core run kept state parts core =
+    ap (λ (t : SchedulerState). t.shape.tick) core.machine ∙ (counts_law run.setup.scenario run.setup.order run.entries core.keeps.setup.valid core.keeps.legal).sizes.tick
+
+pub pending_read : (scenario scenario' : Scenario) (tick : ℕ) (h h' : List Entry) (pending : List (ℕ × CommandRow)) → scenario' ≡ scenario → tick ≡ scenario.shape.tick → h' ≡ h
+    → IsPending scenario tick h pending → IsPending scenario' scenario'.shape.tick h' pending
+pending_read scenario scenario' tick h h' pending e1 e2 e3 p =
+    subst (λ (s : Scenario). IsPending s s.shape.tick h' pending) (sym e1)
+    (subst (λ l. IsPending scenario scenario.shape.tick l pending) (sym e3) (subst (λ t. IsPending scenario t h pending) e2 p))

@@ -16,3 +16,5 @@ pub mod Kept
 pub mod Finish
 pub mod Recent
 pub mod Rising
+pub mod Recorded
+pub mod Pending

@@ -1,10 +1,12 @@
-use Rattle.std.specs.Prelude.{◌≡◌, ◌≤◌, List, length}
+use Rattle.std.specs.Prelude.{◌≡◌, ℕ, ◌≤◌, List, length}
+use Rattle.aps_model.specs.declared.command.CommandRow.{CommandRow}
 use Rattle.aps_model.specs.declared.merit.PartFacts.{PartFacts}
 use Rattle.aps_model.specs.History.{History}
 use Rattle.aps_model.specs.Legal.{IsLegal}
 use Rattle.aps_model.specs.SchedulerState.{SchedulerState}
 use Rattle.aps_model.specs.Valid.{IsScenario}
 use Rattle.aps_laws.specs.Runs.{EndsNoSooner}
+use Rattle.aps_core.specs.Pending.{IsPending}
 use Rattle.aps_core.specs.Run.{Run, Setup, history_of, state_of}
 
 -- what a core can be set up with
@@ -20,9 +22,14 @@ pub record IsUnderWay (run : Run) : Type 0 where
   pub no_sooner : EndsNoSooner run.setup.scenario run.setup.limit run.entries
   pub fits : length run.entries ≤ run.setup.limit
 
--- what each core keeps, of its run and of the parts that stand for it
+-- what the run and the parts that stand for it have to do with each other
 pub record IsCore (run : Run) (kept : History) (state : SchedulerState) (parts : List PartFacts) : Type 0 where
   pub keeps : IsUnderWay run
   pub recorded : kept ≡ history_of run
   pub machine : state ≡ state_of run
   pub room : length parts ≡ 32
+
+-- what each core keeps: its parts stand for its run, and the commands are still to come whose ticks no entry has begun
+pub record IsCoreWith (run : Run) (kept : History) (state : SchedulerState) (parts : List PartFacts) (commands : List (ℕ × CommandRow)) : Type 0 where
+  pub core : IsCore run kept state parts
+  pub pending : IsPending run.setup.scenario run.setup.scenario.shape.tick run.entries commands

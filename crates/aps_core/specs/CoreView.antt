@@ -1,5 +1,5 @@
 use Rattle.aps_core.specs.declared.simulator.Core.TheInside.{Inside}
-use Rattle.aps_core.specs.Core.{IsCore}
+use Rattle.aps_core.specs.Core.{IsCoreWith}
 use Rattle.aps_core.specs.Run.{Run}
 
 -- the run that the fields stand for
@@ -10,4 +10,4 @@ run_of core = record {
 }
 
 abbrev pub keeps : Inside → Type 0
-keeps core = IsCore (run_of core) core.history core.machine core.parts.items
+keeps core = IsCoreWith (run_of core) core.history core.machine core.parts.items core.ctl

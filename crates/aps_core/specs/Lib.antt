@@ -13,3 +13,4 @@ pub mod Core
 pub mod CoreView
 pub mod Rising
 pub mod CanRecord
+pub mod Pending

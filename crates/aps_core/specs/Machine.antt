@@ -1,6 +1,7 @@
 use Rattle.std.specs.Prelude.{◌≡◌, ℕ, ◌≤◌, length}
 use Rattle.aps_model.specs.SchedulerState.{SchedulerState}
 use Rattle.aps_model.specs.Shape.{IsShape}
+use Rattle.aps_core.specs.Room.{changes_of_a_run}
 
 -- what each machine keeps: its numbers have their ranges, its tree counts in the parts of the shape, and there is room for
 -- all replies and changes of a run
@@ -10,4 +11,4 @@ pub record IsMachine (s : SchedulerState) (tree_parts reply_space change_space :
   pub cpus : length s.cpus ≡ s.shape.cpus
   pub parts : tree_parts ≡ s.shape.parts
   pub reply_room : 1024 ≤ reply_space
-  pub change_room : 2079 ≤ change_space
+  pub change_room : changes_of_a_run ≤ change_space

@@ -6,7 +6,7 @@ use Rattle.aps_model.specs.Scenario.{Scenario}
 use Rattle.aps_model.specs.SchedulerState.{SchedulerState, cpu_at, thread_at}
 use Rattle.aps_model.specs.Shape.{horizon}
 use Rattle.aps_laws.specs.Between.{after_bill, after_tick, before_pick}
-use Rattle.aps_core.specs.Room.{HasRoom, HasRoomToWake}
+use Rattle.aps_core.specs.Room.{HasRoom, HasRoomToWake, changes_of_a_run, last_place, stamps_before}
 
 -- what a step of processor c rests on: the processor exists, its moments fit, and so does what its parts make greater
 pub record IsReady (scenario : Scenario) (s : SchedulerState) (h : List Entry) (c : ℕ) : Type 0 where
@@ -15,12 +15,12 @@ pub record IsReady (scenario : Scenario) (s : SchedulerState) (h : List Entry) (
   pub short : due s h c - last_end h c ≤ 10000000
   pub within : due s h c ≤ horizon s.shape
   pub early : due s h c ≤ 10000000000000
-  pub wakes : HasRoomToWake 256 6000000000 s
+  pub wakes : HasRoomToWake last_place stamps_before s
   pub since : (x : ℕ) → (thread_at (after_tick scenario s h c) x).since ≤ 10000000000000
   pub room : (p : Pick) → (cpu_at s c).running ≡ Some p → HasRoom (after_bill scenario s h c)
   pub replies : length (after_tick scenario s h c).replies ≤ 1024
-  pub changes_ticked : length (after_tick scenario s h c).changes ≤ 2079
-  pub changes_billed : length (after_bill scenario s h c).changes ≤ 2079
+  pub changes_ticked : length (after_tick scenario s h c).changes ≤ changes_of_a_run
+  pub changes_billed : length (after_bill scenario s h c).changes ≤ changes_of_a_run
   pub within_ticked : due s h c ≤ horizon (after_tick scenario s h c).shape
   pub within_settled : due s h c ≤ horizon (before_pick scenario s h c).shape
   pub exists_settled : c < length (before_pick scenario s h c).cpus

@@ -3,6 +3,7 @@ use Rattle.aps_model.specs.declared.entry.Entry.{Entry}
 use Rattle.aps_model.specs.declared.entry.Order.TheVariants.{Fixed}
 use Rattle.aps_model.specs.Due.{HasTurn, due}
 use Rattle.aps_model.specs.Step.{step}
+use Rattle.aps_laws.specs.Starving.{HasEnough}
 use Rattle.aps_core.specs.declared.turn.Turn.{Turn}
 use Rattle.aps_core.specs.declared.turn.Turn.TheVariants.{Ended, NotYet, Took}
 use Rattle.aps_core.specs.Run.{Run, end_of_run, state_of}
@@ -45,3 +46,10 @@ abbrev pub IsOwn : ℕ → Turn → Type 0
 IsOwn c (Ended end) = ⊤
 IsOwn c (NotYet first moment) = ⊤
 IsOwn c (Took e) = e.cpu ≡ c
+
+-- where there is no limit, and as many threads of each partition with a budget, by inheritance, are ready or run as there are
+-- processors, no partition is starved at the entry that was taken; the pick moves threads between ready and running alone
+abbrev pub IsFed : Run → Turn → Type 0
+IsFed run (Ended end) = ⊤
+IsFed run (NotYet first moment) = ⊤
+IsFed run (Took e) = HasEnough (state_of (with_entry run e)) → e.starved ≡ None

@@ -2,6 +2,7 @@
 //! Threads of several processors share it under a lock above, and the checker of journals replays by it.
 #![tactic(auto)]
 
+mod carried;
 mod due;
 mod machine;
 mod merit;

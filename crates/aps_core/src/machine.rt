@@ -1,7 +1,14 @@
-ghost use Rattle.std.specs.Prelude.{◌≡◌, ◌-◌, ◌<◌, ◌≤◌, ◌/◌, [], length, All, None};
+ghost use Rattle.std.specs.Prelude.{◌≡◌, ◌-◌, ◌<◌, ◌≤◌, ◌/◌, ◌++◌, [], ◌∷◌, length, All, None};
 ghost use Rattle.std.specs.Option.{option_map};
+ghost use Rattle.aps_model.specs.After.{is_at_horizon};
+ghost use Rattle.aps_model.specs.Due.{due, first_due};
 ghost use Rattle.aps_model.specs.History.{IsEntry};
 ghost use Rattle.aps_model.specs.Shape.{horizon};
+ghost use Rattle.aps_model.specs.Step.{pick, step};
+ghost use Rattle.aps_model.specs.Valid.{IsScenario};
+ghost use Rattle.aps_core.specs.Kept.{IsKept};
+ghost use Rattle.aps_core.specs.Pending.{IsPending};
+ghost use Rattle.aps_core.specs.Ready.{IsReady};
 ghost use Rattle.aps_core.specs.Rising.{IsRising};
 
 mod bankruptcy;
@@ -20,7 +27,8 @@ mod threads;
 mod triple;
 pub mod wake;
 
-use crate::{due, merit, usage};
+use crate::{carried, due, usage};
+use aps_ctl::Ctl;
 use aps_model::{
     Change, Contender, CpuId, CpuNow, Entry, Nanos, PartFacts, PartitionId, PartitionRow, Reply,
     Scenario, Shape, ThreadId, ThreadNow,
@@ -61,8 +69,6 @@ impl Model for Machine {
 }
 
 impl Machine {
-    ghost use Rattle.aps_model.specs.Due.{due};
-
     /// When the processor steps next.
     pub fn due(&self, entries: &[Entry], cpu: CpuId) -> Nanos
         requires cpu { cpu < length self.now.cpus }
@@ -76,9 +82,6 @@ impl Machine {
         };
         due::due_at(&self.shape, now.flag, due::last_to(entries, cpu), left)
     }
-
-    ghost use Rattle.aps_model.specs.Due.{first_due};
-    ghost use Rattle.aps_model.specs.After.{is_at_horizon};
 
     /// The lowest of the processors that are due least.
     pub fn first_due(&self, entries: &[Entry]) -> CpuId
@@ -105,14 +108,10 @@ impl Machine {
         let mut all = true;
         for c in 0..self.cpus.len() {
             let stands = due::stands_at(horizon, due::last_to(entries, CpuId::at(c)));
-            all = merit::both(all, stands);
+            all = carried::both(all, stands);
         }
         all
     }
-
-    ghost use Rattle.aps_model.specs.Step.{pick, step};
-    ghost use Rattle.aps_core.specs.Kept.{IsKept};
-    ghost use Rattle.aps_core.specs.Ready.{IsReady};
 
     /// The pick of the processor after this entry, which has its operation, and then the flag. The answer is the
     /// entry with both.
@@ -171,20 +170,24 @@ impl Machine {
         entries: &[Entry],
         parts: &mut [PartFacts],
         sleepers: &mut Sleepers,
+        ctl: &mut Ctl,
         cpu: CpuId,
     ) -> (Entry, Option<PartitionId>)
+        requires valid { IsScenario scenario.now }
         requires ready { IsReady scenario.now self.old entries.now cpu }
+        requires pending { IsPending scenario.now self.old.shape.tick entries.now ctl.old }
         requires room { length parts.old ≡ 32 }
         requires entries { All IsEntry entries.now }
         requires rising { IsRising entries.now }
         requires few { length entries.now ≤ 4000000 }
         ensures same { step scenario.now self.old entries.now cpu ≡ record { entry = result.0; state = self.new; reboot = result.1 } }
+        ensures pending { IsPending scenario.now self.old.shape.tick (entries.now ++ result.0 ∷ []) ctl.new }
         ensures parts { length parts.new ≡ length parts.old }
     {
         let now = self.due(entries, cpu);
         let from = due::last_end(entries, cpu);
         let running = self.begin(cpu);
-        self.work_tick(scenario, entries, sleepers, now);
+        self.work_tick(scenario, entries, sleepers, ctl, now);
         let e = bill::bill_of(cpu, from, now, &running);
         self.bill(&e, &running);
         let reboot = self.test(entries, &e);

@@ -1,5 +1,4 @@
-ghost use Rattle.std.specs.Prelude.{◌≡◌, ℕ, ◌<◌, ◌≤◌, length, All, IfSome, nat_eq, ◌&&◌, ◌||◌, if◌then◌else◌, Some, None};
-ghost use Rattle.std.specs.Option.{option_or};
+ghost use Rattle.std.specs.Prelude.{◌≡◌, ℕ, ◌<◌, ◌≤◌, length, All, IfSome, nat_eq, ◌&&◌};
 ghost use Rattle.aps_model.specs.Budget.{part_at};
 ghost use Rattle.aps_model.specs.Flag.{at_most, lower_ranked};
 ghost use Rattle.aps_model.specs.Merit.{is_candidate, is_critical_pick};
@@ -121,29 +120,5 @@ fn is_at_most(rank: Rank, other: Rank) -> bool
             class: other_class,
             priority: other_priority,
         } => class < other_class || (class == other_class && priority <= other_priority),
-    }
-}
-
-/// One of the two holds.
-pub fn either(a: bool, b: bool) -> bool
-    ensures { result ≡ (a || b) }
-{
-    a || b
-}
-
-/// Both hold.
-pub fn both(a: bool, b: bool) -> bool
-    ensures { result ≡ (a && b) }
-{
-    a && b
-}
-
-/// The lowest partition so far, or else this one if it is another.
-pub fn or_first(lowest: Option<PartitionId>, id: PartitionId, is_next: bool) -> Option<PartitionId>
-    ensures { result ≡ option_or lowest (if is_next then Some id else None) }
-{
-    match lowest {
-        Some(p) => Some(p),
-        None => { if is_next { Some(id) } else { None } }
     }
 }

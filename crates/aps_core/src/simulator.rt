@@ -6,23 +6,26 @@ ghost use Rattle.aps_model.specs.Legal.{IsLegal, fixed_run};
 ghost use Rattle.aps_model.specs.After.{is_at_horizon, or_limit, over_by};
 ghost use Rattle.aps_model.specs.History.{IsEntry};
 ghost use Rattle.aps_model.specs.Tiled.{IsTiled, IsBilledAsInherited};
+ghost use Rattle.aps_model.specs.Valid.{IsScenario};
 ghost use Rattle.aps_model.specs.Bound.{KeepsWindowBound, KeepsCriticalBound};
 ghost use Rattle.aps_laws.specs.Choices.{EachPickIsGreatest};
 ghost use Rattle.aps_laws.specs.Runs.{EndsNoSooner};
+ghost use Rattle.aps_core.specs.declared.turn.Turn.TheVariants.{Took};
 ghost use Rattle.aps_core.specs.Core.{IsUnderWay};
 ghost use Rattle.aps_core.specs.Run.{IsLater, end_of_run, finished_run, history_of, most_changes, state_of, with_last};
-ghost use Rattle.aps_core.specs.Turn.{HasTurnIn, IsOwn, IsTaken, IsTurn, after_turn, with_entry};
+ghost use Rattle.aps_core.specs.Turn.{HasTurnIn, IsFed, IsOwn, IsTaken, IsTurn, after_turn, with_entry};
 
 use crate::machine::Machine;
 use crate::machine::wake::Sleepers;
 use crate::recording;
 use crate::turn::Turn;
+use aps_ctl::Ctl;
 use aps_model::{CpuId, End, Entry, History, Nanos, NoMemory, Order, PartFacts, Scenario};
 use std::alloc::Global;
 use std::marker::Model;
 
 /// A run under way. Contracts see its setup, which is the scenario, the order of turns and the limit, and its
-/// entries so far.
+/// entries so far. What a scenario, an entry, a turn and a step are is said in docs/DEFINITIONS.md.
 #[derive(Drop)]
 pub struct Core {
     history: History,
@@ -31,6 +34,7 @@ pub struct Core {
     machine: Machine,
     parts: Vec<PartFacts>,
     sleepers: Sleepers,
+    ctl: Ctl,
 }
 
 impl Model for Core {
@@ -46,8 +50,8 @@ impl Model for Core {
 }
 
 impl Core {
-    /// A run that begins. `limit` is the greatest number of entries. All memory of the run is taken here; where it isn't
-    /// there the scenario is dropped.
+    /// A run that begins. `limit` is the greatest number of entries, 1 to 4,000,000. All memory of the run is taken here;
+    /// where it isn't there the answer is `NoMemory`, and the scenario is dropped.
     pub fn boot(
         alloc: Global,
         scenario: Scenario,
@@ -61,6 +65,7 @@ impl Core {
         let machine = Machine::boot(alloc, &scenario)?;
         let parts = start_parts(alloc, MOST_PARTITIONS)?;
         let sleepers = Sleepers::new(alloc)?;
+        let ctl = Ctl::new(alloc, &scenario)?;
         let replies = scenario.commands().len() as u16;
         let changes = most_changes(&scenario);
         let history = History::begin(alloc, scenario, limit, replies, changes)?;
@@ -71,6 +76,7 @@ impl Core {
             machine,
             parts,
             sleepers,
+            ctl,
         })
     }
 
@@ -82,7 +88,9 @@ impl Core {
         self.machine.due(self.history.entries(), cpu)
     }
 
-    /// The end of the run, if it has come.
+    /// The end of the run, if it has come. Where several hold it is the first of these: by a reboot, where the last entry
+    /// made a partition bankrupt under that policy; at the horizon, where every processor has stepped there; by the limit,
+    /// where there are that many entries.
     pub fn ended(&self) -> Option<End>
         ensures { result ≡ end_of_run self.now }
     {
@@ -93,6 +101,7 @@ impl Core {
     /// it has ended; what follows for its entries stands beside.
     pub fn history(&self) -> &History
         ensures same { result.now ≡ history_of self.now }
+        ensures valid { IsScenario self.now.setup.scenario }
         ensures legal { IsLegal self.now.setup.scenario self.now.setup.order self.now.entries }
         ensures no_sooner { EndsNoSooner self.now.setup.scenario self.now.setup.limit self.now.entries }
         ensures tiled { IsTiled self.now.setup.scenario.shape.tick self.now.entries }
@@ -108,6 +117,7 @@ impl Core {
     /// The same, taken out of the core.
     pub fn into_history(self) -> History
         ensures same { result ≡ history_of self }
+        ensures valid { IsScenario self.setup.scenario }
         ensures legal { IsLegal self.setup.scenario self.setup.order self.entries }
         ensures no_sooner { EndsNoSooner self.setup.scenario self.setup.limit self.entries }
         ensures tiled { IsTiled self.setup.scenario.shape.tick self.entries }
@@ -122,12 +132,14 @@ impl Core {
 
     /// One step of the processor. The answer is the end of the run where it has ended, the lowest processor that has
     /// the turn where this one hasn't, and else the entry of the step, which the history then has as its last one.
-    /// But for that entry nothing changes.
+    /// But for that entry nothing changes. Who has the turn and what a step does is said in docs/DEFINITIONS.md, under
+    /// "Who steps, and when".
     pub fn step(&mut self, cpu: CpuId) -> Turn
         requires { cpu < self.old.setup.scenario.shape.cpus }
         ensures turn { IsTurn self.old cpu result }
         ensures run { self.new ≡ after_turn self.old result }
         ensures own { IsOwn cpu result }
+        ensures fed { IsFed self.old result }
     {
         if let Some(end) = self.ended() {
             return Turn::Ended(end);
@@ -147,12 +159,14 @@ impl Core {
         ensures run { self.new ≡ finished_run self.old }
         ensures later { IsLater self.old self.new }
         ensures fixed { self.old.entries ≡ [] → self.new.entries ≡ fixed_run self.old.setup.scenario self.old.setup.limit }
+        ensures legal { IsLegal self.new.setup.scenario self.new.setup.order self.new.entries }
+        ensures no_sooner { EndsNoSooner self.new.setup.scenario self.new.setup.limit self.new.entries }
     {
         loop {
+            let first = self.first_due();
             if let Some(end) = self.ended() {
                 return end;
             }
-            let first = self.first_due();
             self.take_turn(first);
         }
     }
@@ -188,6 +202,7 @@ impl Core {
         ensures taken { IsTaken self.old cpu result }
         ensures run { self.new ≡ with_entry self.old result }
         ensures own { result.cpu ≡ cpu }
+        ensures fed { IsFed self.old (Took result) }
         ensures room { length self.old.entries < self.old.setup.limit }
     {
         let (e, reboot) = self.machine.step(
@@ -195,6 +210,7 @@ impl Core {
             self.history.entries(),
             self.parts.as_mut_slice(),
             &mut self.sleepers,
+            &mut self.ctl,
             cpu,
         );
         // the check wants a copy of its own of what is handed on and answered too

@@ -1,6 +1,6 @@
 use aps_model::{CpuId, End, Entry, Nanos};
 
-/// What a processor's step answers.
+/// What a processor's step answers. Due moments, turns and entries are defined in docs/DEFINITIONS.md.
 #[derive(Clone, Copy, Debug, PartialEq, Eq)]
 pub enum Turn {
     /// The run has ended. Nothing changed.

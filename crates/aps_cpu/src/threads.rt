@@ -127,7 +127,5 @@ fn finished(mut core: Core) -> Core
     ensures no_sooner { EndsNoSooner result.setup.scenario result.setup.limit result.entries }
 {
     core.finish();
-    // that the history is legal and ends no sooner is said where it is read
-    let _history = core.history();
     core
 }

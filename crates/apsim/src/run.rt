@@ -77,7 +77,5 @@ pub fn run_to_end(mut core: Core) -> (End, History)
     ensures run { IsRun core.setup.order core.setup.limit result.0 result.1 }
 {
     let end = core.finish();
-    // that a scenario is valid is said where its shape is read
-    let _shape = core.history().scenario().shape();
     (end, core.into_history())
 }

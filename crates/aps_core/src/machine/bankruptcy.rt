@@ -5,6 +5,7 @@ ghost use Rattle.aps_model.specs.SchedulerState.{row_at};
 ghost use Rattle.aps_model.specs.Shape.{horizon};
 ghost use Rattle.aps_model.specs.Step.{tested};
 ghost use Rattle.aps_core.specs.Rising.{IsRising};
+ghost use Rattle.aps_core.specs.Room.{changes_of_a_run};
 
 use super::Machine;
 use crate::room::push_change;
@@ -47,7 +48,7 @@ impl Machine {
 
     /// The partition has no critical budget from this tick on, which is a change where it had one.
     fn cancel(&mut self, tick: u64, p: PartitionId)
-        requires few { length (cancel self.old tick p).changes ≤ 2079 }
+        requires few { length (cancel self.old tick p).changes ≤ changes_of_a_run }
         requires tick { tick ≤ 1000000 }
         ensures { self.new ≡ cancel self.old tick p }
     {
@@ -68,7 +69,7 @@ impl Machine {
         requires few { length entries.now ≤ 4000000 }
         requires entry { IsEntry e.now }
         requires within { e.now.to ≤ horizon self.old.shape }
-        requires changes { length (tested self.old entries.now e.now).state.changes ≤ 2079 }
+        requires changes { length (tested self.old entries.now e.now).state.changes ≤ changes_of_a_run }
         ensures { tested self.old entries.now e.now ≡ record { state = self.new; reboot = result } }
     {
         let p = self.bankrupt(entries, e)?;

@@ -1,6 +1,7 @@
-ghost use Rattle.std.specs.Prelude.{◌≡◌, ℕ, ◌<◌, ◌≤◌, ◌++◌, [], ◌∷◌, length, drop, unwrap_or, IfOk, vec_capacity};
+ghost use Rattle.std.specs.Prelude.{◌≡◌, ℕ, ◌<◌, ◌≤◌, ◌++◌, [], ◌∷◌, length, drop, slice_get, unwrap_or, IfOk, vec_capacity};
 ghost use Rattle.aps_model.specs.Inherit.{top_of};
 ghost use Rattle.aps_model.specs.Messages.{first_message, higher, without_sender};
+ghost use Rattle.aps_model.specs.SchedulerState.{no_channel};
 
 use aps_model::{NoMemory, ThreadId};
 use std::alloc::Global;
@@ -66,8 +67,6 @@ impl Model for Channel {
 }
 
 impl Channel {
-    ghost use Rattle.aps_model.specs.SchedulerState.{no_channel};
-
     /// A channel at which nobody waits.
     pub fn new(alloc: Global) -> Result<Self, NoMemory>
         ensures { IfOk result (λ c. c ≡ no_channel) }
@@ -127,8 +126,6 @@ impl Channel {
     {
         self.receivers.first().copied()
     }
-
-    ghost use Rattle.std.specs.Prelude.{slice_get};
 
     /// The receiver that came first is gone.
     pub fn remove_receiver(&mut self)

@@ -1,20 +1,21 @@
-ghost use Rattle.std.specs.Prelude.{◌≡◌, ℕ, ◌*◌, ◌<◌, ◌≤◌, length, map, All};
+ghost use Rattle.std.specs.Prelude.{◌≡◌, ◌≢◌, ℕ, ◌*◌, ◌<◌, ◌≤◌, length, map, All};
 ghost use Rattle.std.specs.List.{range_with_len};
 ghost use Rattle.std.specs.Option.{option_map};
 ghost use Rattle.aps_model.specs.History.{IsEntry};
 ghost use Rattle.aps_model.specs.Shape.{IsShape};
-ghost use Rattle.aps_model.specs.TickWork.{do_command, do_commands, thread_named, thread_view, view_of, with_mark};
+ghost use Rattle.aps_model.specs.TickWork.{do_command, thread_named, thread_view, view_of, with_mark};
 ghost use Rattle.aps_model.specs.Usage.{window_used, window_critical};
-ghost use Rattle.aps_core.specs.Calls.{IsInRange};
+ghost use Rattle.aps_ctl.specs.Pending.{all_at};
+ghost use Rattle.aps_core.specs.Calls.{AreInRange, IsInRange, all_done, command_at};
 ghost use Rattle.aps_core.specs.Rising.{IsRising};
+ghost use Rattle.aps_core.specs.Room.{changes_of_a_run};
 
 use super::Machine;
 use crate::room::{push_change, push_reply};
 use crate::usage;
-use aps_ctl::{change_by, mark_by, perform};
+use aps_ctl::{Ctl, change_by, mark_by, perform};
 use aps_model::{
-    Call, Change, CommandRow, CtlView, Entry, Nanos, PartitionId, Reply, Scenario, Shape, ThreadId,
-    ThreadView,
+    Call, Change, CtlView, Entry, Nanos, PartitionId, Reply, Shape, ThreadId, ThreadView,
 };
 
 /// The thread that a command names.
@@ -102,17 +103,16 @@ impl Machine {
     }
 
     /// Does the command at this place of the scenario, and keeps its reply and its change.
-    fn do_command(&mut self, entries: &[Entry], tick: u64, place: u16, row: &CommandRow)
+    fn do_command(&mut self, entries: &[Entry], tick: u64, place: u16, call: &Call)
         requires entries { All IsEntry entries.now }
         requires rising { IsRising entries.now }
         requires few { length entries.now ≤ 4000000 }
         requires tick { tick ≤ 1000000 }
-        requires call { IsInRange row.now.call }
+        requires call { IsInRange call.now }
         requires replies { length self.old.replies < 1024 }
-        requires changes { length (do_command entries.now tick self.old (place, row.now)).changes ≤ 2079 }
-        ensures { self.new ≡ do_command entries.now tick self.old (place, row.now) }
+        requires changes { length (do_command entries.now tick self.old (command_at tick place call.now)).changes ≤ changes_of_a_run }
+        ensures { self.new ≡ do_command entries.now tick self.old (command_at tick place call.now) }
     {
-        let call = &row.call;
         let view = self.view_of(entries, tick, call);
         let answer = perform(call, &mut self.tree, &mut self.shape, &view);
         let change = change_by(call, &answer, &self.tree);
@@ -128,22 +128,20 @@ impl Machine {
         }
     }
 
-    /// Does the commands of a tick, in order of the scenario.
-    pub fn do_commands(&mut self, scenario: &Scenario, entries: &[Entry], tick: u64)
+    /// Does the commands of a tick that are still to come, in order of the scenario. Those of other ticks stay.
+    pub fn do_commands(&mut self, entries: &[Entry], ctl: &mut Ctl, tick: u64)
         requires entries { All IsEntry entries.now }
         requires rising { IsRising entries.now }
         requires few { length entries.now ≤ 4000000 }
         requires tick { tick ≤ 1000000 }
-        requires replies { length (do_commands scenario.now entries.now tick self.old).replies ≤ 1024 }
-        requires changes { length (do_commands scenario.now entries.now tick self.old).changes ≤ 2079 }
-        ensures { self.new ≡ do_commands scenario.now entries.now tick self.old }
+        requires calls { AreInRange (all_at tick ctl.old) }
+        requires replies { length (all_done entries.now tick self.old ctl.old).replies ≤ 1024 }
+        requires changes { length (all_done entries.now tick self.old ctl.old).changes ≤ changes_of_a_run }
+        ensures same { self.new ≡ all_done entries.now tick self.old ctl.old }
+        ensures others { (j : ℕ) → j ≢ tick → all_at j ctl.new ≡ all_at j ctl.old }
     {
-        let commands = scenario.commands();
-        for i in 0..commands.len() {
-            let row = &commands[i];
-            if u64::from(row.tick) == tick {
-                self.do_command(entries, tick, i as u16, row);
-            }
+        while let Some((place, call)) = ctl.next_at(tick as u32) {
+            self.do_command(entries, tick, place, &call);
         }
     }
 }

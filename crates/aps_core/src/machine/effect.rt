@@ -1,6 +1,8 @@
 ghost use Rattle.std.specs.Prelude.{◌≡◌, ◌≤◌};
 ghost use Rattle.aps_model.specs.Effect.{effect, joined};
+ghost use Rattle.aps_model.specs.Operation.{with_stamped};
 ghost use Rattle.aps_model.specs.Partition.{partition_named};
+ghost use Rattle.aps_model.specs.SchedulerState.{thread_at, with_own};
 ghost use Rattle.aps_core.specs.Room.{HasRoom};
 
 use super::Machine;
@@ -15,9 +17,6 @@ impl Machine {
         let thread = self.thread(x);
         self.set_stamped(x, thread);
     }
-
-    ghost use Rattle.aps_model.specs.Operation.{with_stamped};
-    ghost use Rattle.aps_model.specs.SchedulerState.{thread_at, with_own};
 
     /// The thread is of the partition of this name, if there is one.
     fn join(&mut self, x: ThreadId, name: &Name) -> Done

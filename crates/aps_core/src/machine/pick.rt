@@ -7,7 +7,7 @@ ghost use Rattle.aps_model.specs.Step.{chosen};
 ghost use Rattle.aps_core.specs.Small.{IsSmall};
 
 use super::Machine;
-use crate::merit;
+use crate::{carried, merit};
 use aps_model::{Contender, CpuId, CpuNow, PartFacts, PartitionId, Pick, State, ThreadId};
 
 impl Machine {
@@ -48,7 +48,7 @@ impl Machine {
         let mut found = false;
         for x in 0..self.threads.len() {
             if let Some(c) = self.ready_at(ThreadId::at(x)) {
-                found = merit::either(found, merit::is_candidate_of(parts, &c, p));
+                found = carried::either(found, merit::is_candidate_of(parts, &c, p));
             }
         }
         found
@@ -70,7 +70,7 @@ impl Machine {
         let mut lowest = None;
         for p in 0..parts.len() {
             let id = PartitionId::at(p);
-            lowest = merit::or_first(lowest, id, self.is_missing(parts, id));
+            lowest = carried::or_first(lowest, id, self.is_missing(parts, id));
         }
         lowest
     }

@@ -1,4 +1,4 @@
-ghost use Rattle.std.specs.Prelude.{◌≡◌, ◌<◌, ◌≤◌, ◌^◌, All};
+ghost use Rattle.std.specs.Prelude.{◌≡◌, ◌<◌, ◌≤◌, ◌^◌, All, IsSome};
 ghost use Rattle.aps_model.specs.Operation.{is_slice_over};
 ghost use Rattle.aps_model.specs.Scenario.{thread_row};
 ghost use Rattle.aps_model.specs.SchedulerState.{thread_at};
@@ -87,8 +87,6 @@ impl Machine {
         self.give_back(scenario, pick.thread);
         done
     }
-
-    ghost use Rattle.std.specs.Prelude.{IsSome};
 }
 
 /// The policy of the thread.

@@ -1,5 +1,6 @@
-ghost use Rattle.std.specs.Prelude.{◌≡◌, length, replicate, IfOk};
-ghost use Rattle.aps_model.specs.Opening.{first_op, opening, start_stamps, start_threads, started};
+ghost use Rattle.std.specs.Prelude.{◌≡◌, ◌≤◌, length, replicate, IfOk};
+ghost use Rattle.aps_model.specs.Opening.{first_op, opening, stamp_after, start_stamps, start_threads, started};
+ghost use Rattle.aps_model.specs.Scenario.{thread_row};
 ghost use Rattle.aps_model.specs.SchedulerState.{idle, no_channel};
 
 use super::channel::Channel;
@@ -66,8 +67,6 @@ fn started(scenario: &Scenario, x: ThreadId, next: u64, row: &ThreadRow) -> Thre
     ThreadNow { stamp, ..thread }
 }
 
-ghost use Rattle.aps_model.specs.Scenario.{thread_row};
-
 /// A thread that begins with a sleep has this stamp and its number, until it wakes.
 const FIRST_SLEEPER_STAMP: u64 = 1 << 63;
 
@@ -81,9 +80,6 @@ fn stamp_after(state: &State, next: u64) -> u64
         _ => next,
     }
 }
-
-ghost use Rattle.std.specs.Prelude.{◌≤◌};
-ghost use Rattle.aps_model.specs.Opening.{stamp_after};
 
 /// The threads in their first operation, the ready ones with stamps in this order, and the next stamp after them.
 fn start_threads(alloc: Global, scenario: &Scenario) -> Result<(Vec<ThreadNow>, u64), NoMemory>

@@ -1,6 +1,6 @@
 ghost use Rattle.std.specs.Prelude.{◌≡◌, ◌<◌, ◌^◌};
 ghost use Rattle.aps_model.specs.Operation.{with_ready, with_stamped};
-ghost use Rattle.aps_model.specs.SchedulerState.{thread_at, with_thread, with_state, with_own};
+ghost use Rattle.aps_model.specs.SchedulerState.{no_facts, no_thread, thread_at, with_thread, with_state, with_own};
 
 use super::Machine;
 use aps_model::{Facts, PartitionId, State, ThreadId, ThreadNow};
@@ -18,8 +18,6 @@ fn no_thread() -> ThreadNow
         since: 0,
     }
 }
-
-ghost use Rattle.aps_model.specs.SchedulerState.{no_facts, no_thread};
 
 /// Its values.
 fn no_facts() -> Facts

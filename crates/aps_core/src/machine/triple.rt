@@ -1,4 +1,4 @@
-ghost use Rattle.std.specs.Prelude.{◌≡◌, ◌<◌, ◌≤◌, ◌∷◌, length, IfOk, vec_capacity};
+ghost use Rattle.std.specs.Prelude.{◌≡◌, ◌<◌, ◌≤◌, [], ◌∷◌, length, IfOk, vec_capacity};
 ghost use Rattle.aps_model.specs.Inherit.{client_of, without_server};
 
 use super::channel::MOST_THREADS;
@@ -75,8 +75,6 @@ impl Model for Triples {
 }
 
 impl Triples {
-    ghost use Rattle.std.specs.Prelude.{[]};
-
     /// No triples.
     pub fn new(alloc: Global) -> Result<Self, NoMemory>
         ensures { IfOk result (λ t. t ≡ []) }

@@ -1,15 +1,20 @@
-ghost use Rattle.std.specs.Prelude.{◌≡◌, ◌+◌, ◌/◌, ◌%◌, ◌<◌, ◌≤◌, ◌^◌, [], length, All, IfOk, vec_capacity};
-ghost use Rattle.std.specs.Prelude.{nat_eq};
+ghost use Rattle.std.specs.Prelude.{◌≡◌, ◌+◌, ◌/◌, ◌%◌, ◌<◌, ◌≤◌, ◌^◌, ◌++◌, [], ◌∷◌, length, All, IfOk, vec_capacity};
+ghost use Rattle.std.specs.Prelude.{nat_eq, slice_index_or};
 ghost use Rattle.std.specs.List.{list_any};
+ghost use Rattle.aps_model.specs.declared.entry.Entry.{Entry as EntryOf};
 ghost use Rattle.aps_model.specs.History.{IsEntry};
+ghost use Rattle.aps_model.specs.Valid.{IsScenario};
+ghost use Rattle.aps_core.specs.Pending.{IsPending};
+ghost use Rattle.aps_model.specs.SchedulerState.{thread_at};
 ghost use Rattle.aps_model.specs.TickWork.{has_tick_work, insert_sleeper, is_earlier, tick_work, wake_all, waking, wakes_at};
 ghost use Rattle.aps_core.specs.Rising.{IsRising};
-ghost use Rattle.aps_core.specs.Room.{HasRoomToWake};
+ghost use Rattle.aps_core.specs.Room.{HasRoomToWake, changes_of_a_run, last_place, stamps_before};
 
 use super::Machine;
 use super::channel::MOST_THREADS;
 use crate::due;
 use crate::room::insert_at;
+use aps_ctl::Ctl;
 use aps_model::{Entry, Nanos, NoMemory, Scenario, State, ThreadId};
 use std::alloc::Global;
 use std::marker::Model;
@@ -99,8 +104,6 @@ impl Sleepers {
     {
         self.list[place].thread
     }
-
-    ghost use Rattle.std.specs.Prelude.{slice_index_or};
 }
 
 impl Machine {
@@ -120,8 +123,6 @@ impl Machine {
         }
     }
 
-    ghost use Rattle.aps_model.specs.SchedulerState.{thread_at};
-
     /// Finds the sleepers whose moment has come, in order of moment, then of number.
     fn find_waking(&self, now: Nanos, sleepers: &mut Sleepers)
         ensures same { sleepers.new ≡ waking self.now now }
@@ -138,7 +139,7 @@ impl Machine {
     /// The sleepers whose moment has come go on.
     fn wake_all(&mut self, scenario: &Scenario, now: Nanos, sleepers: &mut Sleepers)
         requires now { now ≤ 10000000000000 }
-        requires room { HasRoomToWake 256 6000000000 self.old }
+        requires room { HasRoomToWake last_place stamps_before self.old }
         ensures { self.new ≡ wake_all scenario.now now self.old }
     {
         self.find_waking(now, sleepers);
@@ -161,20 +162,24 @@ impl Machine {
         scenario: &Scenario,
         entries: &[Entry],
         sleepers: &mut Sleepers,
+        ctl: &mut Ctl,
         now: Nanos,
     )
+        requires valid { IsScenario scenario.now }
+        requires pending { IsPending scenario.now self.old.shape.tick entries.now ctl.old }
         requires entries { All IsEntry entries.now }
         requires rising { IsRising entries.now }
         requires few { length entries.now ≤ 4000000 }
         requires now { now ≤ 10000000000000 }
-        requires room { HasRoomToWake 256 6000000000 self.old }
+        requires room { HasRoomToWake last_place stamps_before self.old }
         requires replies { length (tick_work scenario.now self.old entries.now now).replies ≤ 1024 }
-        requires changes { length (tick_work scenario.now self.old entries.now now).changes ≤ 2079 }
-        ensures { self.new ≡ tick_work scenario.now self.old entries.now now }
+        requires changes { length (tick_work scenario.now self.old entries.now now).changes ≤ changes_of_a_run }
+        ensures same { self.new ≡ tick_work scenario.now self.old entries.now now }
+        ensures pending { (e : EntryOf) → e.to ≡ now → IsPending scenario.now self.old.shape.tick (entries.now ++ e ∷ []) ctl.new }
     {
         if self.has_tick_work(entries, now) {
             let tick = self.tick_of(now);
-            self.do_commands(scenario, entries, tick);
+            self.do_commands(entries, ctl, tick);
             self.wake_all(scenario, now, sleepers);
         }
     }

@@ -1,5 +1,4 @@
-use Rattle.std.proofs.Common.{◌≡◌, ◌∙◌, ap, rules, sym, subst}
-use Rattle.aps_model.specs.Valid.{IsScenario}
+use Rattle.std.proofs.Common.{◌≡◌, ap, rules, sym, subst}
 use Rattle.aps_core.specs.Run.{Run, Setup}
 use Rattle.aps_laws.proofs.FixedRun.{run_is_one}
 use Rattle.aps_model.specs.declared.entry.Order.TheVariants.{Fixed}
@@ -14,7 +13,7 @@ returns-clause-run c =
     let known = c.into_history.ensures in
     let run : Run = c.finish-end.new.self in
     let setup : run.setup ≡ c.args.core.setup = ap (λ (r : Run). r.setup) c.finish-end.ensures.run in
-    let one : run.setup.order ≡ Fixed → run.entries ≡ fixed_run run.setup.scenario run.setup.limit = λ is. run_is_one run.setup.scenario run.setup.limit run.entries (subst IsScenario (c.scenario.ensures ∙ ap (λ (h : History). h.scenario) c.history.ensures.same) c.shape-shape.ensures.valid) record {
+    let one : run.setup.order ≡ Fixed → run.entries ≡ fixed_run run.setup.scenario run.setup.limit = λ is. run_is_one run.setup.scenario run.setup.limit run.entries known.valid record {
       legal = subst (λ o. IsLegal run.setup.scenario o run.entries) is known.legal;
       ended = search rules;
       no_sooner = known.no_sooner;

@@ -1,6 +1,7 @@
 use Rattle.std.proofs.Common.{◌≤◌, length, ◌∙◌, sym, ap, subst, arith}
 use Rattle.aps_model.specs.SchedulerState.{SchedulerState}
 use Rattle.aps_model.specs.TickWork.{changes_with, do_command, view_of}
+use Rattle.aps_core.specs.Calls.{command_at}
 use Rattle.aps_core.specs.MachineView.{state_of}
 use Rattle.aps_core.proofs.Commands.{IsPerformed, added_change, done_by, few_replies, performed_machine, performed_of}
 use Rattle.aps_core.proofs.machine.Machine.do_command.Goals as goal
@@ -8,14 +9,14 @@ use Rattle.aps_core.proofs.machine.Machine.do_command.Goals as goal
 pub invariant_of-self : goal.invariant_of-self
 invariant_of-self c =
     let s = state_of c.self.inside in
-    performed_machine _ _ c.args.row.now.call c.view_of-view.result s c.perform-answer.new.tree.rows c.perform-answer.new.shape _ _ _ _ c.requires.call.2 c.self.invariant c.perform-answer.ensures.shape c.perform-answer.ensures.parts
+    performed_machine _ _ c.args.call.now c.view_of-view.result s c.perform-answer.new.tree.rows c.perform-answer.new.shape _ _ _ _ c.requires.call.2 c.self.invariant c.perform-answer.ensures.shape c.perform-answer.ensures.parts
 
 pub push_reply-requires : goal.push_reply-requires
 push_reply-requires c =
     let s = state_of c.self.inside in
     let h = c.args.entries.now in
     let j = c.args.tick in
-    let call = c.args.row.now.call in
+    let call = c.args.call.now in
     let t = state_of c.self-2.inside in
     let done : IsPerformed s h j call c.perform-answer.result c.change_by-change.result t =
     performed_of s h j call c.view_of-view.result c.perform-answer.result c.perform-answer.new.tree.rows c.perform-answer.new.shape c.change_by-change.result c.mark_by.result t
@@ -35,7 +36,7 @@ push_change-requires c =
     let s = state_of c.self.inside in
     let h = c.args.entries.now in
     let j = c.args.tick in
-    let call = c.args.row.now.call in
+    let call = c.args.call.now in
     let t = state_of c.self-2.inside in
     let done : IsPerformed s h j call c.perform-answer.result c.change_by-change.result t =
     performed_of s h j call c.view_of-view.result c.perform-answer.result c.perform-answer.new.tree.rows c.perform-answer.new.shape c.change_by-change.result c.mark_by.result t
@@ -44,8 +45,8 @@ push_change-requires c =
     (c.change_by-change.ensures.law s.rows s.shape c.view_of-view.result c.perform-answer.ensures.answer c.perform-answer.ensures.rows)
     (c.mark_by.ensures.law call s.rows s.shape c.view_of-view.result c.perform-answer.ensures.answer)
     (c.self-2.view_is ∙ c.set_mark.ensures) in
-    let one = added_change s h j c.args.place c.args.row.now c.perform-answer.result c.change_by-change.result c.in-Some.kind t done c.in-Some.is in
-    let few = subst (λ (u : SchedulerState). length (do_command h j u (c.args.place, c.args.row.now)).changes ≤ 2079) (sym c.self.view_is) c.requires.changes in
+    let one = added_change s h j c.args.place (record { tick = c.args.tick; call = c.args.call.now }) c.perform-answer.result c.change_by-change.result c.in-Some.kind t done c.in-Some.is in
+    let few = subst (λ (u : SchedulerState). length (do_command h j u (command_at c.args.tick c.args.place c.args.call.now)).changes ≤ 2079) (sym c.self.view_is) c.requires.changes in
     let space = c.self-2.invariant.change_room in
     record { room = omega (arith, one, few, space) }
 
@@ -54,7 +55,7 @@ returns-in_default c =
     let s = state_of c.self.inside in
     let h = c.args.entries.now in
     let j = c.args.tick in
-    let call = c.args.row.now.call in
+    let call = c.args.call.now in
     let t = state_of c.self-2.inside in
     let done : IsPerformed s h j call c.perform-answer.result c.change_by-change.result t =
     performed_of s h j call c.view_of-view.result c.perform-answer.result c.perform-answer.new.tree.rows c.perform-answer.new.shape c.change_by-change.result c.mark_by.result t
@@ -63,6 +64,6 @@ returns-in_default c =
     (c.change_by-change.ensures.law s.rows s.shape c.view_of-view.result c.perform-answer.ensures.answer c.perform-answer.ensures.rows)
     (c.mark_by.ensures.law call s.rows s.shape c.view_of-view.result c.perform-answer.ensures.answer)
     (c.self-2.view_is ∙ c.set_mark.ensures) in
-    done_by s h j c.args.place c.args.row.now c.perform-answer.result c.change_by-change.result t c.push_reply.new.replies.items c.self-2.inside.changes.items done
+    done_by s h j c.args.place (record { tick = c.args.tick; call = c.args.call.now }) c.perform-answer.result c.change_by-change.result t c.push_reply.new.replies.items c.self-2.inside.changes.items done
     c.push_reply.ensures.items (sym (ap (changes_with t.changes j) c.in_default.is))
-    ∙ ap (λ u. do_command h j u (c.args.place, c.args.row.now)) c.self.view_is
+    ∙ ap (λ u. do_command h j u (command_at c.args.tick c.args.place c.args.call.now)) c.self.view_is

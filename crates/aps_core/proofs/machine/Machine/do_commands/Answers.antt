@@ -1,17 +1,45 @@
-use Rattle.std.proofs.Common.{◌∙◌, sym}
-use Rattle.aps_core.proofs.Commands.{in_range, room_at}
+use Rattle.std.proofs.Common.{◌≡◌, ◌∙◌, ap, arith, length, subst, sym}
+use Rattle.aps_ctl.specs.Pending.{all_at}
+use Rattle.aps_ctl.proofs.InTurn.{others_left}
+use Rattle.aps_core.specs.Calls.{AreInRange, all_done}
+use Rattle.aps_core.proofs.Commands.{next_of, none_left, room_at}
 use Rattle.aps_core.proofs.machine.Machine.do_commands.Goals as goal
 
 pub do_command-requires-clause-call : goal.do_command-requires-clause-call
-do_command-requires-clause-call c =
-    in_range c.args.scenario.now c.commands-commands.result.now c.loop-i.i c.index-commands-i.result c.commands-commands.ensures.valid c.commands-commands.ensures.same c.loop-i-test.true c.index-commands-i.is
+do_command-requires-clause-call c = (next_of c.args.entries.now c.args.tick c.loop-place.self c.loop-place.ctl c.in-Some.place c.in-Some.call c.in-Some.ensures.next).range c.loop-place.invariant.calls
 
 pub do_command-requires-clause-replies : goal.do_command-requires-clause-replies
 do_command-requires-clause-replies c =
-    (room_at c.args.entries.now c.args.tick c.commands-commands.result.now c.loop-i.i c.index-commands-i.result c.loop-i.self _ c.loop-i-test.true c.index-commands-i.is
-    (sym c.from.ensures ∙ c.if-from-tick.true) c.loop-i.invariant c.requires.replies c.requires.changes).replies
+    let next = next_of c.args.entries.now c.args.tick c.loop-place.self c.loop-place.ctl c.in-Some.place c.in-Some.call c.in-Some.ensures.next in
+    (room_at c.args.entries.now c.args.tick c.in-Some.place c.in-Some.call c.loop-place.self _ c.loop-place.ctl next c.loop-place.invariant.same c.requires.replies c.requires.changes).replies
 
 pub do_command-requires-clause-changes : goal.do_command-requires-clause-changes
 do_command-requires-clause-changes c =
-    (room_at c.args.entries.now c.args.tick c.commands-commands.result.now c.loop-i.i c.index-commands-i.result c.loop-i.self _ c.loop-i-test.true c.index-commands-i.is
-    (sym c.from.ensures ∙ c.if-from-tick.true) c.loop-i.invariant c.requires.replies c.requires.changes).changes
+    let next = next_of c.args.entries.now c.args.tick c.loop-place.self c.loop-place.ctl c.in-Some.place c.in-Some.call c.in-Some.ensures.next in
+    (room_at c.args.entries.now c.args.tick c.in-Some.place c.in-Some.call c.loop-place.self _ c.loop-place.ctl next c.loop-place.invariant.same c.requires.replies c.requires.changes).changes
+
+pub loop-place-smaller : goal.loop-place-smaller
+loop-place-smaller c =
+    let next = next_of c.args.entries.now c.args.tick c.loop-place.self c.loop-place.ctl c.in-Some.place c.in-Some.call c.in-Some.ensures.next in
+    let fewer = next.fewer in
+    let left = ap (λ pending. length (all_at c.args.tick pending)) c.in-Some.ensures.left in
+    omega (arith, fewer, left)
+
+pub loop-place-preserved : goal.loop-place-preserved
+loop-place-preserved c =
+    let next = next_of c.args.entries.now c.args.tick c.loop-place.self c.loop-place.ctl c.in-Some.place c.in-Some.call c.in-Some.ensures.next in
+    record {
+      same =
+          (λ k. all_done c.args.entries.now c.args.tick (c.do_command.ensures k) (c.in-Some.ensures.left k))
+          ∙ sym next.done
+          ∙ c.loop-place.invariant.same;
+      others = λ j apart.
+          ap (all_at j) c.in-Some.ensures.left ∙ others_left c.args.tick j c.loop-place.ctl apart ∙ c.loop-place.invariant.others j apart;
+      calls = subst (λ pending. AreInRange (all_at c.args.tick pending)) (sym c.in-Some.ensures.left) (next.left c.loop-place.invariant.calls);
+    }
+
+pub returns-clause-same : goal.returns-clause-same
+returns-clause-same c = sym (none_left c.args.entries.now c.args.tick c.loop-place.self c.loop-place.ctl (sym c.in_default.is ∙ c.next_at.ensures.next)) ∙ c.loop-place.invariant.same
+
+pub returns-clause-others : goal.returns-clause-others
+returns-clause-others c j apart = ap (all_at j) c.next_at.ensures.left ∙ others_left c.args.tick j c.loop-place.ctl apart ∙ c.loop-place.invariant.others j apart

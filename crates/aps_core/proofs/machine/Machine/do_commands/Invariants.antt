@@ -1,7 +1,14 @@
-use Rattle.std.proofs.Common.{◌≡◌}
-use Rattle.aps_model.specs.TickWork.{do_commands}
-use Rattle.aps_core.proofs.Commands.{left_from}
+use Rattle.std.proofs.Common.{◌≡◌, ◌≢◌, ℕ, length}
+use Rattle.aps_ctl.specs.Pending.{all_at}
+use Rattle.aps_core.specs.Calls.{AreInRange, all_done}
 use Rattle.aps_core.proofs.machine.Machine.do_commands.Given as goal
 
-abbrev pub invariant-loop-i : goal.invariant-loop-i
-invariant-loop-i l = left_from l.entries l.tick l.commands l.i l.self ≡ do_commands l.scenario l.entries l.tick l.initial.self
+abbrev pub invariant-loop-place : goal.invariant-loop-place
+invariant-loop-place l = record {
+  same : all_done l.entries l.tick l.self l.ctl ≡ all_done l.entries l.tick l.initial.self l.initial.ctl;
+  others : (j : ℕ) → j ≢ l.tick → all_at j l.ctl ≡ all_at j l.initial.ctl;
+  calls : AreInRange (all_at l.tick l.ctl);
+}
+
+abbrev pub decreases-loop-place : goal.decreases-loop-place
+decreases-loop-place l = length (all_at l.tick l.ctl)

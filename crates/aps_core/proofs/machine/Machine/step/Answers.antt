@@ -1,5 +1,6 @@
 use Rattle.std.proofs.Common.{ℕ, ◌≤◌, sym, ◌∙◌, refl, subst, length}
 use Rattle.aps_model.specs.SchedulerState.{SchedulerState, thread_at}
+use Rattle.aps_core.specs.Pending.{IsPending}
 use Rattle.aps_core.specs.Room.{HasRoomToWake}
 use Rattle.aps_core.proofs.StepParts.{none_is, step_below, tested_by, ticked_by}
 use Rattle.aps_core.proofs.machine.Machine.step.Goals as goal
@@ -24,6 +25,10 @@ work_tick-requires-clause-changes c =
     subst (λ (s : SchedulerState). length s.changes ≤ 2079)
     (sym (ticked_by c.args.scenario.now c.args.self.now c.args.entries.now c.args.cpu _ _ _ c.due-now.ensures c.begin-running.ensures.same refl)) c.requires.ready.changes_ticked
 
+pub work_tick-requires-clause-pending : goal.work_tick-requires-clause-pending
+work_tick-requires-clause-pending c =
+    subst (λ (s : SchedulerState). IsPending c.args.scenario.now s.shape.tick c.args.entries.now c.args.ctl.now) (sym c.begin-running.ensures.same) c.requires.pending
+
 -- ---- the bill
 
 pub bill-requires-clause-to : goal.bill-requires-clause-to
@@ -35,7 +40,7 @@ bill-requires-clause-forward c = rw (c.bill_of-e.ensures.from, c.bill_of-e.ensur
 pub bill-requires-clause-since : goal.bill-requires-clause-since
 bill-requires-clause-since c =
     subst (λ (s : SchedulerState). (x : ℕ) → (thread_at s x).since ≤ 10000000000000)
-    (sym (ticked_by c.args.scenario.now c.args.self.now c.args.entries.now c.args.cpu _ _ _ c.due-now.ensures c.begin-running.ensures.same c.work_tick.ensures))
+    (sym (ticked_by c.args.scenario.now c.args.self.now c.args.entries.now c.args.cpu _ _ _ c.due-now.ensures c.begin-running.ensures.same c.work_tick.ensures.same))
     c.requires.ready.since
 
 -- ---- the whole
@@ -44,7 +49,7 @@ pub returns-clause-same : goal.returns-clause-same
 returns-clause-same c =
     let b =
     tested_by c.args.scenario.now c.args.self.now c.args.entries.now c.args.cpu _ _ _ _ _ _ _ _ _
-    c.due-now.ensures c.last_end-from.ensures.same c.begin-running.ensures.running c.begin-running.ensures.same c.work_tick.ensures c.bill_of-e.ensures.same c.bill.ensures c.test-reboot.ensures in
+    c.due-now.ensures c.last_end-from.ensures.same c.begin-running.ensures.running c.begin-running.ensures.same c.work_tick.ensures.same c.bill_of-e.ensures.same c.bill.ensures c.test-reboot.ensures in
     step_below c.args.scenario.now c.args.self.now c.args.entries.now c.args.cpu _ _ _ _ _ _ _ b
     (none_is c.test-reboot.result (sym c.is_some.ensures ∙ c.if-is_some.false))
     (λ there. c.if-now-horizon.false (there ∙ sym c.horizon.ensures.same)) c.settle-done.ensures c.bill_of-e.ensures.to c.pick-picked.ensures.same

@@ -1,4 +1,5 @@
-use Rattle.std.proofs.Common.{refl}
+use Rattle.std.proofs.Common.{ap, refl}
+use Rattle.aps_ctl.specs.Pending.{all_at}
 use Rattle.aps_core.specs.Run.{Setup}
 use Rattle.aps_core.proofs.Kept.{begun_core}
 use Rattle.aps_core.proofs.simulator.Core.boot.Goals as goal
@@ -7,8 +8,12 @@ pub invariant_of-result : goal.invariant_of-result
 invariant_of-result c =
     let setup : Setup = record { scenario = c.args.scenario; order = c.args.order; limit = c.args.limit } in
     rw c.in_ok-history.ensures
-    (begun_core setup _ c.in_ok-machine.machine c.in_ok-parts.parts.items
-    (record { valid = c.commands.ensures.valid; some = c.requires.some; few = c.requires.few })
-    (rw (c.commands.ensures.same, c.most_changes-changes.ensures) refl)
-    c.in_ok-machine.ensures
-    c.in_ok-parts.ensures)
+    (record {
+      core =
+          begun_core setup _ c.in_ok-machine.machine c.in_ok-parts.parts.items
+          (record { valid = c.commands.ensures.valid; some = c.requires.some; few = c.requires.few })
+          (rw (c.commands.ensures.same, c.most_changes-changes.ensures) refl)
+          c.in_ok-machine.ensures
+          c.in_ok-parts.ensures;
+      pending = λ j none. ap (all_at j) c.in_ok-ctl.ensures;
+    })

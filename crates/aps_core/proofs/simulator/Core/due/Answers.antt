@@ -6,4 +6,4 @@ use Rattle.aps_core.proofs.simulator.Core.due.Goals as goal
 pub due-requires-clause-cpu : goal.due-requires-clause-cpu
 due-requires-clause-cpu c =
     cpu_exists c.args.self.now c.self.inside.history c.self.inside.machine c.self.inside.parts.items c.args.cpu
-    (subst (λ run. IsCore run c.self.inside.history c.self.inside.machine c.self.inside.parts.items) c.self.view_is c.self.invariant) c.requires
+    (subst (λ run. IsCore run c.self.inside.history c.self.inside.machine c.self.inside.parts.items) c.self.view_is c.self.invariant.core) c.requires

@@ -1,10 +1,14 @@
-use Rattle.std.proofs.Common.{◌≡◌, None, arith, subst, sym}
+use Rattle.std.proofs.Common.{◌≡◌, ◌∙◌, [], ◌∷◌, ◌++◌, ap, None, arith, subst, sym}
 use Rattle.std.proofs.lemmas.Grind.{common_steps}
+use Rattle.aps_model.specs.History.{History}
+use Rattle.aps_model.specs.Scenario.{Scenario}
+use Rattle.aps_model.specs.Valid.{IsScenario}
 use Rattle.aps_core.specs.CoreView.{run_of}
 use Rattle.aps_core.specs.Rising.{IsRising}
 use Rattle.aps_core.specs.Run.{end_of_run}
-use Rattle.aps_core.specs.Turn.{HasTurnIn}
-use Rattle.aps_core.proofs.Kept.{can_record_in, core_kept, entry_fits, own_entry, ready_in, step_read}
+use Rattle.aps_core.specs.declared.turn.Turn.TheVariants.{Took}
+use Rattle.aps_core.specs.Turn.{HasTurnIn, IsFed}
+use Rattle.aps_core.proofs.Kept.{can_record_in, core_kept, entry_fits, fed_in, own_entry, pending_read, ready_in, step_read, tick_of_core}
 use Rattle.aps_core.proofs.Rising.{rising_law}
 use Rattle.aps_core.proofs.simulator.Core.take_turn.Goals as goal
 
@@ -13,42 +17,66 @@ step-requires-clause-ready c =
     let goes_on = subst (λ run. end_of_run run ≡ None) (sym c.self.view_is) c.requires.goes_on in
     let turn = subst (λ run. HasTurnIn run c.args.cpu) (sym c.self.view_is) c.requires.turn in
     rw (c.scenario.ensures, c.entries.ensures.same)
-    (ready_in (run_of c.self.inside) c.self.inside.history c.self.inside.machine c.self.inside.parts.items c.args.cpu c.self.invariant goes_on turn)
+    (ready_in (run_of c.self.inside) c.self.inside.history c.self.inside.machine c.self.inside.parts.items c.args.cpu c.self.invariant.core goes_on turn)
 
 pub step-requires-clause-rising : goal.step-requires-clause-rising
 step-requires-clause-rising c =
-    let run = c.self.invariant.keeps in
+    let run = c.self.invariant.core.keeps in
     subst IsRising (sym c.entries.ensures.same) (rising_law c.self.inside.history.scenario c.self.inside.order run.setup.valid c.self.inside.history.entries run.legal)
 
 pub record-requires-clause-entry : goal.record-requires-clause-entry
 record-requires-clause-entry c =
-    entry_fits (run_of c.self.inside) c.self.inside.history c.self.inside.machine c.self.inside.parts.items c.args.cpu c.step.result.0 (record { state = c.step.new.self; reboot = c.step.result.1 }) c.self.invariant
+    entry_fits (run_of c.self.inside) c.self.inside.history c.self.inside.machine c.self.inside.parts.items c.args.cpu c.step.result.0 (record { state = c.step.new.self; reboot = c.step.result.1 }) c.self.invariant.core
     (subst (λ run. end_of_run run ≡ None) (sym c.self.view_is) c.requires.goes_on)
     (subst (λ run. HasTurnIn run c.args.cpu) (sym c.self.view_is) c.requires.turn)
     (step_read _ _ c.self.inside.machine _ _ c.args.cpu _ c.scenario.ensures c.entries.ensures.same c.step.ensures.same)
 
 pub record-requires-clause-machine : goal.record-requires-clause-machine
 record-requires-clause-machine c =
-    can_record_in (run_of c.self.inside) c.self.inside.history c.self.inside.machine c.self.inside.parts.items c.args.cpu c.step.result.0 (record { state = c.step.new.self; reboot = c.step.result.1 }) c.self.invariant
+    can_record_in (run_of c.self.inside) c.self.inside.history c.self.inside.machine c.self.inside.parts.items c.args.cpu c.step.result.0 (record { state = c.step.new.self; reboot = c.step.result.1 }) c.self.invariant.core
     (subst (λ run. end_of_run run ≡ None) (sym c.self.view_is) c.requires.goes_on)
     (subst (λ run. HasTurnIn run c.args.cpu) (sym c.self.view_is) c.requires.turn)
     (step_read _ _ c.self.inside.machine _ _ c.args.cpu _ c.scenario.ensures c.entries.ensures.same c.step.ensures.same)
 
 pub returns-clause-own : goal.returns-clause-own
 returns-clause-own c =
-    own_entry (run_of c.self.inside) c.self.inside.history c.self.inside.machine c.self.inside.parts.items c.args.cpu c.step.result.0 (record { state = c.step.new.self; reboot = c.step.result.1 }) c.self.invariant
+    own_entry (run_of c.self.inside) c.self.inside.history c.self.inside.machine c.self.inside.parts.items c.args.cpu c.step.result.0 (record { state = c.step.new.self; reboot = c.step.result.1 }) c.self.invariant.core
     (subst (λ run. end_of_run run ≡ None) (sym c.self.view_is) c.requires.goes_on)
     (subst (λ run. HasTurnIn run c.args.cpu) (sym c.self.view_is) c.requires.turn)
     (step_read _ _ c.self.inside.machine _ _ c.args.cpu _ c.scenario.ensures c.entries.ensures.same c.step.ensures.same)
 
+pub returns-clause-fed : goal.returns-clause-fed
+returns-clause-fed c =
+    subst (λ run. IsFed run (Took c.step.result.0)) c.self.view_is
+    (fed_in (run_of c.self.inside) c.self.inside.history c.self.inside.machine c.self.inside.parts.items c.args.cpu c.step.result.0 (record { state = c.step.new.self; reboot = c.step.result.1 }) c.self.invariant.core
+    (subst (λ run. end_of_run run ≡ None) (sym c.self.view_is) c.requires.goes_on)
+    (subst (λ run. HasTurnIn run c.args.cpu) (sym c.self.view_is) c.requires.turn)
+    (step_read _ _ c.self.inside.machine _ _ c.args.cpu _ c.scenario.ensures c.entries.ensures.same c.step.ensures.same))
+
+pub step-requires-clause-valid : goal.step-requires-clause-valid
+step-requires-clause-valid c = subst IsScenario (sym c.scenario.ensures) c.self.invariant.core.keeps.setup.valid
+
+pub step-requires-clause-pending : goal.step-requires-clause-pending
+step-requires-clause-pending c =
+    rw (c.scenario.ensures, c.entries.ensures.same, tick_of_core (run_of c.self.inside) c.self.inside.history c.self.inside.machine c.self.inside.parts.items c.self.invariant.core)
+    c.self.invariant.pending
+
 pub invariant_of-self : goal.invariant_of-self
-invariant_of-self c =
+invariant_of-self c = record {
+  core =
     core_kept (run_of c.self.inside) c.self.inside.history c.self.inside.machine c.self.inside.parts.items c.args.cpu c.step.result.0 c.record.new.history (record { state = c.step.new.self; reboot = c.step.result.1 }) _
-    c.self.invariant
+    c.self.invariant.core
     (subst (λ run. end_of_run run ≡ None) (sym c.self.view_is) c.requires.goes_on)
     (subst (λ run. HasTurnIn run c.args.cpu) (sym c.self.view_is) c.requires.turn)
     (record {
       steps = step_read _ _ c.self.inside.machine _ _ c.args.cpu _ c.scenario.ensures c.entries.ensures.same c.step.ensures.same;
       added = c.record.ensures;
     })
-    (grind (arith, common_steps))
+    (grind (arith, common_steps));
+  pending =
+    pending_read c.scenario.result.now c.record.new.history.scenario _ _ c.record.new.history.entries c.step.new.ctl
+    (ap (λ (h : History). h.scenario) c.record.ensures ∙ sym c.scenario.ensures)
+    (tick_of_core (run_of c.self.inside) c.self.inside.history c.self.inside.machine c.self.inside.parts.items c.self.invariant.core ∙ ap (λ (s : Scenario). s.shape.tick) (sym c.scenario.ensures))
+    (ap (λ (h : History). h.entries) c.record.ensures ∙ ap (λ h. h ++ c.step.result.0 ∷ []) (sym c.entries.ensures.same))
+    c.step.ensures.pending;
+}
