@@ -23,16 +23,14 @@ pub enum Driven {
 /// After so many turns in a row that named a processor of another seat a driver gives up.
 const MOST_WAITED: u64 = 1_000_000;
 
-/// Up to so many of these turns in a row a driver looks for growth of the history after each one.
-const CLOSE_WAIT: u64 = 32;
+/// After each of its first so many turns in vain in a row a driver looks for growth of the history, and yields where it
+/// saw none.
+const SHORT_WAIT: u64 = 1_000;
 
 /// So often it looks.
 const MOST_LOOKS: u32 = 64;
 
-/// Up to so many of these turns in a row it yields after each one.
-const SHORT_WAIT: u64 = 1_000;
-
-/// In a longer wait it yields after one turn of so many.
+/// In a longer wait it yields after one turn of so many, and doesn't look.
 const TURNS_A_YIELD: u64 = 256;
 
 /// Takes turns of the seat, one processor after the other, and enters the gate before each, until the run has ended, or
@@ -64,22 +62,22 @@ pub fn drive<R: Wait, G: Gate>(rt: &R, dispatch: &Dispatch, seat: &mut CpuSeat, 
     unreachable!()
 }
 
-/// Lets other threads run after a turn in vain, where a processor of another seat has the turn. Until the history has
-/// grown each turn is in vain, so at first it looks for that. In a long wait it yields seldom: where all of the machine's
-/// processors are busy each yield can take as long as a time slice.
+/// Lets other threads run after a turn in vain, where a processor of another seat has the turn. In a long wait it yields
+/// seldom: where all of the machine's processors are busy each yield can take as long as a time slice.
 fn give_way(dispatch: &Dispatch, seat: &mut CpuSeat)
     requires { IsSeatOf dispatch.now seat.old }
     ensures { seat.new ≡ seat.old }
 {
     let waited = seat.waited();
-    if 0 < waited && waited <= CLOSE_WAIT {
+    if 0 < waited && waited <= SHORT_WAIT {
         await_growth(dispatch, seat);
-    } else if 0 < waited && (waited <= SHORT_WAIT || waited % TURNS_A_YIELD == 0) {
+    } else if 0 < waited && waited % TURNS_A_YIELD == 0 {
         thread::yield_now();
     }
 }
 
-/// Looks until the history has grown, but no longer than so many looks.
+/// Looks until the history has grown, since before that each turn is in vain. Where it hasn't grown after so many looks
+/// it yields.
 fn await_growth(dispatch: &Dispatch, seat: &mut CpuSeat)
     requires { IsSeatOf dispatch.now seat.old }
     ensures { seat.new ≡ seat.old }
@@ -89,8 +87,9 @@ fn await_growth(dispatch: &Dispatch, seat: &mut CpuSeat)
         if dispatch.has_grown(seat) {
             return;
         }
-        backoff.snooze();
+        backoff.spin();
     }
+    thread::yield_now();
 }
 
 /// The processor after this one, in the round from the first to the last.
