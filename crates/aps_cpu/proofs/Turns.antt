@@ -5,8 +5,9 @@ use Rattle.aps_core.specs.declared.turn.Turn.{Turn}
 use Rattle.aps_core.specs.declared.turn.Turn.TheVariants.{Ended, NotYet, Took}
 use Rattle.aps_core.specs.Run.{IsLater, Run}
 use Rattle.aps_core.specs.Turn.{after_turn}
-use Rattle.aps_lock.specs.Seats.{DispatchData, HasCpu, IsSeatOf, IsSeatTurn, SeatData, waited_after}
-use Rattle.aps_cpu.specs.Driven.{IsOnFrom}
+use Rattle.aps_model.specs.Seat.{own_entries}
+use Rattle.aps_lock.specs.Seats.{DispatchData, HasCpu, IsSeatOf, IsSeatTurn, SeatData, taken, waited_after}
+use Rattle.aps_cpu.specs.Driven.{AreTurns, EndsWith, IsOnFrom, OwnGrewBy, taken_by}
 
 abbrev with_entries : Run → List Entry → Run
 with_entries run es = record run { entries = es }
@@ -21,9 +22,6 @@ later_by_turn run (Ended end) = later_self run
 
 pub later_trans : (a b c : Run) → IsLater a b → IsLater b c → IsLater a c
 later_trans a b c p q = (p.0 ++ q.0, q.1 ∙ ap (λ (x : Run). with_entries x (x.entries ++ q.0)) p.1 ∙ ap (with_entries a) (append_assoc a.entries p.0 q.0))
-
-pub on_self : (s : SeatData) → IsOnFrom s s
-on_self s = record { table = refl; first = refl; last = refl; seen = later_self s.seen }
 
 pub on_trans : (s t u : SeatData) → IsOnFrom s t → IsOnFrom t u → IsOnFrom s u
 on_trans s t u p q = record { table = q.table ∙ p.table; first = q.first ∙ p.first; last = q.last ∙ p.last; seen = later_trans s.seen t.seen u.seen p.seen q.seen }
@@ -41,20 +39,25 @@ on_turn s cpu turn t h =
 pub on_seat : (d : DispatchData) (s t : SeatData) → IsSeatOf d s → IsOnFrom s t → IsSeatOf d t
 on_seat d s t h on = (on.table ∙ h.0, ap (λ run. run.setup) on.seen.1 ∙ h.1)
 
-in_vain : (s : SeatData) (cpu waited : ℕ) (a b : Bool) → nat_le s.first cpu ≡ a → nat_le cpu s.last ≡ b → (if a && b then 0 else min (waited + 1) (2 ^ 64 - 1)) ≡ 1000000 → HasCpu s cpu → ⊥
-in_vain s cpu waited true true is is' e has = absurd (omega arith)
-in_vain s cpu waited true false is is' e has = let above : s.last < cpu = leb-false _ _ is' in absurd (omega (arith, has.1))
-in_vain s cpu waited false b is is' e has = let below : cpu < s.first = leb-false _ _ is in absurd (omega (arith, has.0))
+-- some turns of the seat lead from the one to the other
+abbrev pub HasMade : SeatData → SeatData → Type 0
+HasMade seat later = (turns : List (ℕ × Turn)) × AreTurns turns seat later × OwnGrewBy turns seat later
 
--- whoever has waited so long has waited for a processor of another seat
-pub long_waited : (s : SeatData) (cpu due waited : ℕ) → waited_after s.first s.last waited (NotYet cpu due) ≡ 1000000 → HasCpu s cpu → ⊥
-long_waited s cpu due waited e = in_vain s cpu waited (nat_le s.first cpu) (nat_le cpu s.last) refl refl e
+pub made_none : (s : SeatData) → HasMade s s
+made_none s = ([], refl, sym (append-nil (own_entries s.first s.last s.seen.entries)))
 
-one_more : (w : ℕ) (b : Bool) → w < 1000000 → (if b then 0 else min (w + 1) (2 ^ 64 - 1)) ≤ 1000000
-one_more w true h = omega arith
-one_more w false h = omega arith
+own_grows : (turns : List (ℕ × Turn)) (s t u : SeatData) (cpu : ℕ) (turn : Turn) → OwnGrewBy turns s t → t.first ≡ s.first → t.last ≡ s.last
+    → own_entries t.first t.last u.seen.entries ≡ own_entries t.first t.last t.seen.entries ++ taken turn
+    → OwnGrewBy ((cpu, turn) ∷ turns) s u
+own_grows turns s t u cpu turn so_far first last own =
+    let here : own_entries s.first s.last u.seen.entries ≡ own_entries s.first s.last t.seen.entries ++ taken turn = subst (λ (x : ℕ × ℕ). own_entries x.0 x.1 u.seen.entries ≡ own_entries x.0 x.1 t.seen.entries ++ taken turn) (λ i. (first i, last i)) own in
+    here ∙ ap (λ l. l ++ taken turn) so_far ∙ append_assoc (own_entries s.first s.last s.seen.entries) (taken_by turns) (taken turn)
 
-pub waited_most : (first last w : ℕ) (turn : Turn) → w < 1000000 → waited_after first last w turn ≤ 1000000
-waited_most first last w (Took e) h = omega arith
-waited_most first last w (Ended end) h = omega arith
-waited_most first last w (NotYet cpu due) h = one_more w (nat_le first cpu && nat_le cpu last) h
+-- one turn more, which gave this answer
+pub made_one : (s t u : SeatData) (cpu : ℕ) (turn : Turn) → HasMade s t → IsOnFrom s t → HasCpu t cpu → IsSeatTurn t cpu turn u
+    → own_entries t.first t.last u.seen.entries ≡ own_entries t.first t.last t.seen.entries ++ taken turn
+    → EndsWith s turn u
+made_one s t u cpu turn made on has turned own = (cpu, made.0, (t, made.1, has, turned), own_grows made.0 s t u cpu turn made.2 on.first on.last own)
+
+pub made_more : (s t : SeatData) (turn : Turn) → EndsWith s turn t → HasMade s t
+made_more s t turn ends = ((ends.0, turn) ∷ ends.1, ends.2, ends.3)

@@ -6,6 +6,7 @@ use crate::gate::Gate;
 use aps_core::Turn;
 use aps_lock::{CpuSeat, Dispatch};
 use aps_model::{CpuId, End, Nanos};
+use crossbeam_utils::Backoff;
 use std::sync::Wait;
 use std::thread;
 
@@ -22,8 +23,20 @@ pub enum Driven {
 /// After so many turns in a row that named a processor of another seat a driver gives up.
 const MOST_WAITED: u64 = 1_000_000;
 
-/// Takes turns of the seat, one processor after the other, and enters the gate before each, until the run has ended or
-/// the processors of other seats were waited for too long.
+/// After each of its first so many turns in vain in a row a driver looks for growth of the history, and yields where it
+/// saw none.
+const SHORT_WAIT: u64 = 1_000;
+
+/// So often it looks.
+const MOST_LOOKS: u32 = 64;
+
+/// In a longer wait it yields after one turn of so many, and doesn't look.
+const TURNS_A_YIELD: u64 = 256;
+
+/// Takes turns of the seat, one processor after the other, and enters the gate before each, until the run has ended, or
+/// 1,000,000 turns in a row answered that a processor of another seat has the turn. What the seat has waited must be 0 at
+/// the start, so that these are turns of this call. docs/DEFINITIONS.md has the words of the contract, under 'Runs,
+/// picks, seats and drivers'.
 pub fn drive<R: Wait, G: Gate>(rt: &R, dispatch: &Dispatch, seat: &mut CpuSeat, gate: &G) -> Driven
     requires seat { IsSeatOf dispatch.now seat.old }
     requires waited { seat.old.waited ≡ 0 }
@@ -40,13 +53,43 @@ pub fn drive<R: Wait, G: Gate>(rt: &R, dispatch: &Dispatch, seat: &mut CpuSeat, 
                 if seat.waited() >= MOST_WAITED {
                     return Driven::Waited { cpu, due };
                 }
-                thread::yield_now();
+                give_way(dispatch, seat);
             }
             Turn::Took(_) => {}
         }
         cpu = following(cpu, first, last);
     }
     unreachable!()
+}
+
+/// Lets other threads run after a turn in vain, where a processor of another seat has the turn. In a long wait it yields
+/// seldom: where all of the machine's processors are busy each yield can take as long as a time slice.
+fn give_way(dispatch: &Dispatch, seat: &mut CpuSeat)
+    requires { IsSeatOf dispatch.now seat.old }
+    ensures { seat.new ≡ seat.old }
+{
+    let waited = seat.waited();
+    if 0 < waited && waited <= SHORT_WAIT {
+        await_growth(dispatch, seat);
+    } else if 0 < waited && waited % TURNS_A_YIELD == 0 {
+        thread::yield_now();
+    }
+}
+
+/// Looks until the history has grown, since before that each turn is in vain. Where it hasn't grown after so many looks
+/// it yields.
+fn await_growth(dispatch: &Dispatch, seat: &mut CpuSeat)
+    requires { IsSeatOf dispatch.now seat.old }
+    ensures { seat.new ≡ seat.old }
+{
+    let backoff = Backoff::new();
+    for _ in 0..MOST_LOOKS {
+        if dispatch.has_grown(seat) {
+            return;
+        }
+        backoff.spin();
+    }
+    thread::yield_now();
 }
 
 /// The processor after this one, in the round from the first to the last.

@@ -2,9 +2,10 @@ use aps_lock::CpuSeat;
 use aps_model::CpuId;
 use std::sync::Wait;
 
-/// What a driver calls before each of its turns, with the seat and the processor that will turn. It has no access to
-/// the core, and no answer. It may wait.
+/// What a driver calls before each of its turns. It has no access to the core, and no answer.
 pub trait Gate {
+    /// Called with the seat and the processor of it that turns next. It may wait, and the driver waits with it. No contract
+    /// says what it does.
     fn enter<R: Wait>(&self, rt: &R, seat: &CpuSeat, cpu: CpuId);
 }
 

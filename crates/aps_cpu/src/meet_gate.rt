@@ -6,7 +6,10 @@ use std::sync::atomic::Ordering::SeqCst;
 use std::sync::atomic::{AtomicBool, AtomicU64};
 use std::thread;
 
-/// After so many looks in vain a hold gives up.
+#[cfg(test)]
+mod tests;
+
+/// After so many looks in vain a hold of a new gate gives up.
 const MOST_LOOKS: u32 = 50_000_000;
 
 /// A gate by which a test sees that two threads were under way at once. It holds the first entry of processor 0 until
@@ -21,11 +24,17 @@ pub struct MeetGate {
     gave_up: AtomicBool,
     passed_0: AtomicBool,
     passed_1: AtomicBool,
+    most_looks: u32,
 }
 
 impl MeetGate {
     /// A gate that nobody has entered.
     pub fn new() -> MeetGate {
+        MeetGate::with_looks(MOST_LOOKS)
+    }
+
+    /// The same, where a hold gives up after so many looks in vain.
+    fn with_looks(most_looks: u32) -> MeetGate {
         MeetGate {
             entries_of_0: AtomicU64::new(0),
             entries_of_1: AtomicU64::new(0),
@@ -34,6 +43,7 @@ impl MeetGate {
             gave_up: AtomicBool::new(false),
             passed_0: AtomicBool::new(false),
             passed_1: AtomicBool::new(false),
+            most_looks,
         }
     }
 
@@ -53,7 +63,7 @@ impl MeetGate {
 
     /// Holds the caller until the count is so high, and tells how that ended.
     fn hold(&self, count: &AtomicU64, at_least: u64, passed: &AtomicBool) {
-        if reaches(count, at_least) {
+        if reaches(count, at_least, self.most_looks) {
             passed.store(true, SeqCst);
         } else {
             self.gave_up.store(true, SeqCst);
@@ -79,9 +89,9 @@ impl MeetGate {
     }
 }
 
-/// Looks at the count until it is so high, and whether it was.
-fn reaches(count: &AtomicU64, at_least: u64) -> bool {
-    for _ in 0..MOST_LOOKS {
+/// Looks at the count until it is so high, but no more than so often, and tells whether it was.
+fn reaches(count: &AtomicU64, at_least: u64, most_looks: u32) -> bool {
+    for _ in 0..most_looks {
         if count.load(SeqCst) >= at_least {
             return true;
         }

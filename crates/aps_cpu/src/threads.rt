@@ -18,6 +18,7 @@ use std::thread::Threads;
 
 /// Takes the turns of all processors, each in a thread of its own, until the run has ended, and answers its core. Where
 /// there is no memory for a seat each, or not every thread could be made, it ends the run all the same.
+/// docs/DEFINITIONS.md has the words of the contract, under 'Runs, picks, seats and drivers'.
 pub fn run_all<R: Threads + Wait + Sync, G: Gate + Sync>(
     rt: &R,
     alloc: Global,

@@ -1,6 +1,5 @@
 -- What comes after what a seat has seen.
 use Rattle.std.proofs.Common.{◌≡◌, ℕ, ◌+◌, ◌-◌, ◌<◌, ◌≤◌, ◌⊎◌, nat_le, if◌then◌else◌, Bool, true, false, leb-true, leb-false, List, [], ◌∷◌, ◌++◌, length, sym, refl, ap, ◌∙◌, subst, ⊎_elim, inl, inr, arith, append_assoc, append-nil, lt_of_lt_of_le, le_trans}
-use mathlib.Core.List.{IsPrefix}
 use mathlib.Core.Logic.{dite}
 use native.Mathlib.Decide.{dec_le}
 use Rattle.aps_model.specs.declared.entry.Entry.{Entry}
@@ -21,15 +20,6 @@ seen_grows first after c d e h out is = (
 
 pub seen_self : (first after : ℕ) (c : Run) → IsSeenIn first after c c
 seen_self first after c = ([], ap (λ (es : List Entry). let x : Run = record c { entries = es } in x) (sym (append-nil c.entries)), tt)
-
-pub prefix_grows : (xs es : List Entry) (e : Entry) → IsPrefix xs es → IsPrefix xs (es ++ e ∷ [])
-prefix_grows xs es e p = (p.0 ++ e ∷ [], sym (append_assoc xs p.0 (e ∷ [])) ∙ ap (λ w. w ++ e ∷ []) p.1)
-
-pub prefix_self : (xs : List Entry) → IsPrefix xs xs
-prefix_self xs = ([], append-nil xs)
-
-pub seen_prefix : (first after : ℕ) (c d : Run) → IsSeenIn first after c d → IsPrefix c.entries d.entries
-seen_prefix first after c d h = (h.0, sym (ap (λ x. x.entries) h.1))
 
 -- the entries beyond the longer of two beginnings of one list
 pub beyond : (xs ys p q : List Entry) → xs ++ p ≡ ys ++ q → length ys ≤ length xs → (between : List Entry) × (q ≡ between ++ p) × (ys ++ between ≡ xs)

@@ -214,4 +214,4 @@ releases id v core live served seen s k deep at small =
 
 pub tells : (id : ℕ) (v : View) → v.live ≡ true → Allows KeepsRule 1 id (v, []) 2 (λ n. n) (Tells (step 1 2 0 0 none) (v, []))
 tells id v live s k deep at small = let it = (k.seats id v at).knows live in
-    (v, keeps, tt, unmoved s k 2 id v at, (refl, it.own, it.other))
+    (v, keeps, tt, unmoved s k 2 id v at, (refl, it.own, it.other, (k.run, it.seen, ap (λ ws. slice_index ws 2) k.words)))

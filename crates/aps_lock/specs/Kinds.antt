@@ -1,5 +1,5 @@
 -- What each kind of step on the words does to the view of the seat that takes it, and what it tells.
-use Rattle.std.specs.Prelude.{◌≡◌, ◌≢◌, ℕ, ◌+◌, ◌<◌, ◌≤◌, ◌⊎◌, true, false, Option, Some, [], ◌∷◌}
+use Rattle.std.specs.Prelude.{◌≡◌, ◌≢◌, ℕ, ◌+◌, ◌<◌, ◌≤◌, ◌⊎◌, true, false, Option, Some, [], ◌∷◌, length}
 use Rattle.atomic_table.specs.Table.{Me, Step}
 use Rattle.aps_model.specs.declared.entry.Entry.{Entry}
 use Rattle.aps_model.specs.declared.entry.Order.TheVariants.{Free}
@@ -57,12 +57,14 @@ Publishes run step me found now = now ≡ (record me.0 { seen = run }, me.1)
 abbrev pub Releases : Step (Option Run) → Seated → ℕ → Seated → Type 0
 Releases step me found now = now ≡ (record me.0 { ticket = NoTicket }, [])
 
--- both seats of the last join had seen the beginning of the longer of what they had seen
+-- both seats of the last join had seen the beginning of the longer of what they had seen; and what the seat has seen is
+-- the beginning of a run of so many entries
 abbrev pub Tells : Step (Option Run) → Seated → ℕ → Seated → Type 0
 Tells step me found now =
     (now ≡ me)
     × IsSeenIn me.0.own.first me.0.own.after me.0.own.seen me.0.joined
     × IsSeenIn me.0.other.first me.0.other.after me.0.other.seen me.0.joined
+    × ((run : Run) × IsSeenIn me.0.first me.0.after me.0.seen run × (found ≡ length run.entries))
 
 -- a seat was cut in two at a processor
 abbrev pub cut_left : ℕ → View → View

@@ -1,11 +1,12 @@
-ghost use Rattle.std.specs.Prelude.{◌≡◌, ℕ, ◌+◌, ◌-◌, ◌<◌, ◌≤◌, ◌++◌, length, IfOk, IfErr};
+ghost use Rattle.std.specs.Prelude.{◌≡◌, ℕ, ◌+◌, ◌-◌, ◌<◌, ◌≤◌, ◌++◌, length, nat_lt, IfOk, IfErr};
+ghost use Rattle.aps_core.specs.Run.{Run};
 ghost use Rattle.aps_model.specs.Seat.{IsSeen, own_entries};
 ghost use Rattle.aps_lock.specs.Seats.{HasAllCpus, HasCpu, HasSeen, IsSeatOf, IsSeatTurn, taken, waited_after};
 ghost use Rattle.aps_lock.specs.Seen.{longer};
 
 use crate::rule::CoreTable;
 use crate::seat::CpuSeat;
-use crate::words::{CORE, cut, len_of, merge, turn_place, witness};
+use crate::words::{CORE, cut, len_of, load_len, merge, turn_place, witness};
 use aps_core::{Core, Turn};
 use aps_model::CpuId;
 use atomic_table::{Refused, Table};
@@ -15,7 +16,8 @@ use std::snapshot::Snapshot;
 use std::sync::Wait;
 
 /// A run whose turns many threads take, one at a time, under a lock. Contracts see the setup of the run, which nothing
-/// changes, and which seats are this dispatcher's.
+/// changes, and which seats are this dispatcher's. What their words mean stands in docs/DEFINITIONS.md, under 'Runs,
+/// picks, seats and drivers'.
 #[derive(Drop)]
 pub struct Dispatch {
     table: CoreTable,
@@ -65,7 +67,8 @@ impl Dispatch {
 
     /// Makes one step of the core under the lock, for which it waits. The seat then has seen all of the history up to
     /// there: what it had seen, what came since of processors of other seats, and the entry of this turn if it took
-    /// one.
+    /// one. Where the answer is that a processor of another seat has the turn, what the seat has waited grows by 1, or
+    /// stands at the greatest `u64`; after any other answer it is 0.
     pub fn turn<R: Wait>(&self, rt: &R, seat: &mut CpuSeat, cpu: CpuId) -> Turn
         requires seat { IsSeatOf self.now seat.old }
         requires cpu { HasCpu seat.old cpu }
@@ -79,13 +82,24 @@ impl Dispatch {
         turn
     }
 
+    /// Whether the history has more entries than the seat has seen. This is advice: it takes no turn and waits for
+    /// nobody, and more entries may have come since.
+    pub fn has_grown(&self, seat: &mut CpuSeat) -> bool
+        requires seat { IsSeatOf self.now seat.old }
+        ensures seat { seat.new ≡ seat.old }
+        ensures found { (run : Run) × HasSeen seat.old run × (result ≡ nat_lt (length seat.old.seen.entries) (length run.entries)) }
+    {
+        load_len(&self.table.shared, &mut seat.place) > seat.seen_len
+    }
+
     /// Gives the seat's processors from `at` on to a new seat, which has seen what the seat has seen. The seat keeps at
-    /// least its first one.
+    /// least its first one. What both have waited becomes 0.
     pub fn split(&self, seat: &mut CpuSeat, at: CpuId) -> CpuSeat
         requires seat { IsSeatOf self.now seat.old }
         requires at { (seat.old.first < at) × (at ≤ seat.old.last) }
         ensures kept { seat.new ≡ record seat.old { last = at - 1; waited = 0 } }
         ensures given { result ≡ record seat.old { first = at; waited = 0 } }
+        ensures of { IsSeatOf self.now seat.new × IsSeatOf self.now result }
     {
         let place = cut::<Brand>(&self.table.shared, &mut seat.place, at);
         let last = seat.last;
@@ -101,7 +115,7 @@ impl Dispatch {
     }
 
     /// Takes in the seat whose processors follow. It keeps the longer seen list, in which are all entries of both
-    /// seats.
+    /// seats. What the seat has waited becomes 0.
     pub fn join(&self, seat: &mut CpuSeat, other: CpuSeat)
         requires seat { IsSeatOf self.now seat.old }
         requires other { IsSeatOf self.now other }
@@ -124,7 +138,8 @@ impl Dispatch {
         seat.waited = 0;
     }
 
-    /// Lets `b` see what `a` has seen: its seen list becomes the longer of the two, with which both begin.
+    /// Lets `b` see what `a` has seen: the seen list of `b` becomes the longer of the two, and the other one is a
+    /// beginning of it. `a` stays as it was, and so does what `b` has waited.
     pub fn meet(&self, a: &mut CpuSeat, b: &mut CpuSeat)
         requires a { IsSeatOf self.now a.old }
         requires b { IsSeatOf self.now b.old }
@@ -133,6 +148,7 @@ impl Dispatch {
         ensures a_seen { IsSeen a.old.seen.entries b.new.seen.entries }
         ensures b_seen { HasSeen b.old b.new.seen }
         ensures no_less { length a.new.seen.entries ≤ length b.new.seen.entries }
+        ensures of { IsSeatOf self.now a.new × IsSeatOf self.now b.new }
     {
         let seen_len = a.seen_len;
         let told = witness(&self.table.shared, &mut a.place);

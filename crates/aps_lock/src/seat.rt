@@ -4,8 +4,9 @@ use crate::rule::Place;
 use aps_model::CpuId;
 use std::marker::Model;
 
-/// The right to take the turns of some processors. Contracts see the run as the seat has seen it: all of its
-/// dispatcher's history up to the seat's last turn.
+/// The right to take the turns of some processors. Contracts see the run as the seat has seen it: the dispatcher's
+/// history up to some moment, which is that of the last turn of this seat, or a later one where it met or took in a seat
+/// that had seen more. docs/DEFINITIONS.md says more, under 'Runs, picks, seats and drivers'.
 #[derive(Drop)]
 pub struct CpuSeat {
     pub(crate) place: Place,
@@ -28,7 +29,7 @@ impl Model for CpuSeat {
 
 impl CpuSeat {
     /// How many turns in a row, up to the seat's last one, answered that a processor of another seat has the turn.
-    /// It stands still at the greatest `u64`.
+    /// A split or a join begins the count anew. It stands still at the greatest `u64`.
     pub fn waited(&self) -> u64
         ensures { result ≡ self.now.waited }
     {

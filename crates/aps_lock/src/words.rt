@@ -161,6 +161,17 @@ pub(crate) fn merge(shared: &SharedCore, place: &mut Place, other: Place)
     shared.load::<Tell>(place, LENGTH);
 }
 
+/// How many entries the history has. More may have come since.
+pub(crate) fn load_len(shared: &SharedCore, place: &mut Place) -> u64
+    requires table { IsFor shared.now.table_id place.old.table_id }
+    requires seat { (place.old.me.0.live ≡ true) × (place.old.me.1 ≡ []) }
+    ensures table { place.new.table_id ≡ place.old.table_id }
+    ensures seat { place.new.me ≡ place.old.me }
+    ensures seen { (run : Run) × IsSeenIn place.old.me.0.first place.old.me.0.after place.old.me.0.seen run × (result ≡ length run.entries) }
+{
+    shared.load::<Tell>(place, LENGTH)
+}
+
 /// A seat with no processor, which has seen as much.
 pub(crate) fn witness(shared: &SharedCore, place: &mut Place) -> Place
     requires table { IsFor shared.now.table_id place.old.table_id }
