@@ -1,3 +1,4 @@
+//! A generated scenario as a whole.
 ghost use Rattle.std.specs.Prelude.{◌≡◌, ◌≤◌, IfOk};
 ghost use Rattle.aps_gen.specs.Generated.{generated};
 
@@ -6,11 +7,13 @@ use crate::threads::thread_rows;
 use aps_model::{Bankruptcy, Free, Name, NoMemory, Scenario, Shape};
 use std::alloc::Global;
 
-/// The load that this seed gives for so many processors, partitions (the root counts) and ticks.
+/// The scenario that this seed, any number, gives for 1 to 16 processors, 1 to 32 partitions (the
+/// root counts) and 1 to 1,000,000 ticks: docs/FORMATS.md, "Generated scenarios".
 ///
 /// In each partition stand an endless thread for each processor and a worker that runs and sleeps
 /// by turns, and in each but the root a client of the one server. Priorities, policies and times
-/// are drawn from the seed. The same numbers give the same scenario.
+/// are drawn from the seed. The same numbers give the same scenario. `NoMemory` comes where memory
+/// runs out.
 pub fn generate(
     alloc: Global,
     seed: u64,

@@ -34,9 +34,13 @@ fn zeros(alloc: Global, length: usize) -> Result<Vec<u8>, AllocError>
     Ok(buffer)
 }
 
-/// All bytes of the source, read to its end in at most `most + 2` reads. `TooLong` comes exactly
-/// where it gave more than `most` bytes, of which at most one more is read. `ReadFault` comes only
-/// where its count of faults rose in this call. After a refusal part of the source was read.
+/// All bytes of the source, read to its end in at most `most + 2` reads. `most` counts bytes, and is
+/// 1,000,000,000 at the most.
+///
+/// `TooLong` comes only where the source gave more than `most` bytes, of which one more is read, and
+/// then nothing but `NoMemory` comes in its place. `ReadFault` comes only where the source's count of
+/// faults rose in this call. `NoMemory` comes where there was no memory for the bytes, or for a
+/// buffer of 65,536 bytes. After a refusal part of the source was read.
 pub fn read_all<S: Source>(
     alloc: Global,
     source: &mut S,
@@ -88,9 +92,9 @@ fn read_by_pieces<S: Source>(
     Err(ReadRefusal::TooLong)
 }
 
-/// Appends the whole text, or after a refusal a prefix of it. `WriteFault` comes only where the
-/// sink's count of faults rose in this call, and `NoMemory` only where its count of wants of memory
-/// did.
+/// Appends the whole text, in as many writes as the sink takes for it, or after a refusal a prefix
+/// of it. `WriteFault` comes only where the sink's count of faults rose in this call, and `NoMemory`
+/// only where its count of wants of memory did: the call itself takes no memory.
 pub fn write_all<K: Sink>(sink: &mut K, text: &[u8]) -> Result<(), WriteRefusal>
     ensures whole { OnOk result (Appends (K.written sink.old) (K.written sink.new) text.now) }
     ensures prefix { OnErr result ((n : ℕ) × (n ≤ length text.now) × Appends (K.written sink.old) (K.written sink.new) (take n text.now)) }

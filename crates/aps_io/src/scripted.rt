@@ -63,7 +63,8 @@ fn is_failing(fails: &[u32], call: u64) -> bool
 }
 
 impl MemSource {
-    /// A source of these bytes, of which no call was made so far.
+    /// A source of these bytes, of which no call was made so far. `fails` has the numbers of the calls
+    /// of `read` that fail, in any order: the first call is number 0.
     pub fn new(bytes: Vec<u8>, fails: Vec<u32>) -> MemSource
         ensures { result ≡ record { left = bytes.items; fails = fails.items; calls = 0; faults = 0 } }
     {
@@ -110,7 +111,8 @@ impl Source for MemSource {
 }
 
 impl MemSink {
-    /// A sink that goes on after these bytes, of which no call was made so far.
+    /// A sink that goes on after these bytes, of which no call was made so far. `fails` has the numbers
+    /// of the calls of `write` that fail, in any order: the first call is number 0.
     pub fn new(written: Vec<u8>, fails: Vec<u32>) -> MemSink
         ensures { result ≡ record { written = written.items; fails = fails.items; calls = 0; faults = 0; shortages = 0 } }
     {

@@ -46,9 +46,10 @@ impl From<WriteRefusal> for JournalFault {
     }
 }
 
-/// Writes the line of each entry, in their order and in large pieces. `WriteFault` comes only where
-/// the sink's count of faults rose in this call; `NoMemory` is want of memory, the sink's too. After
-/// either a prefix of the journal was written.
+/// Writes the line of each entry, in their order and in pieces of some 65,536 bytes (docs/FORMATS.md,
+/// "Journal"). `WriteFault` comes only where the sink's count of faults rose in this call; `NoMemory`
+/// is want of memory, be it for a piece or the sink's own. After either a prefix of the journal was
+/// written.
 pub fn journal<K: Sink>(alloc: Global, history: &History, sink: &mut K) -> Result<(), JournalFault>
     ensures whole { OnOk result (Appends (K.written sink.old) (K.written sink.new) (journal_text history.now.entries)) }
     ensures prefix { OnErr result (IsPrefixWritten (K.written sink.old) (K.written sink.new) (journal_text history.now.entries)) }

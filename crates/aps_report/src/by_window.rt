@@ -16,7 +16,8 @@ use std::fmt::Write;
 const PARTITIONS: usize = 32;
 
 /// One line for each finished window, from tick 0 on and one after the other, with the nanoseconds
-/// that each partition used in it. The length of a window is the one that stands last.
+/// that each partition used in it (docs/FORMATS.md, "Windows"). The length of a window is the one
+/// that stands last, and so is the number of partitions. `NoMemory` comes where memory runs out.
 pub fn windows(alloc: Global, history: &History) -> Result<String, NoMemory>
     ensures { IfOk result (λ text. string_bytes text ≡ windows_text history.now) }
 {

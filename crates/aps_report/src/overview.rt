@@ -13,7 +13,8 @@ use aps_model::{Audit, History, NoMemory, PartitionRow, Reply, ThreadRow};
 use std::alloc::Global;
 
 /// The summary without what the audit and the commands add: the end, the sizes, the number of
-/// entries, and the nanoseconds that each partition and each thread used.
+/// entries, and the nanoseconds that each partition and each thread used. `NoMemory` comes where
+/// memory runs out.
 pub fn usage(alloc: Global, history: &History) -> Result<String, NoMemory>
     ensures { IfOk result (λ text. string_bytes text ≡ usage_text history.now) }
 {
@@ -24,8 +25,10 @@ pub fn usage(alloc: Global, history: &History) -> Result<String, NoMemory>
     Ok(out)
 }
 
-/// The whole summary: the usage, then what the audit found, then the answers to the timed
-/// commands in the order in which they were done.
+/// The whole summary (docs/FORMATS.md, "Summary"): the usage, then what the audit found, then the
+/// answers to the timed commands in the order in which they were done. The audit has to be this
+/// history's, as `aps_bound::audit` gives it: any other is printed just the same. `NoMemory` comes
+/// where memory runs out.
 pub fn summary(alloc: Global, history: &History, audit: &Audit) -> Result<String, NoMemory>
     ensures { IfOk result (λ text. string_bytes text ≡ summary_text history.now audit.now) }
 {

@@ -1,3 +1,4 @@
+//! The fields of a line, read one after the other.
 ghost use Rattle.std.specs.Prelude.{◌≡◌, ◌≤◌, IfOk, IfSome, Option};
 ghost use Rattle.aps_text.specs.Reader.{Gives, word_at, digits_at, number_at};
 ghost use Rattle.aps_text.specs.Fields.{option_at, mark_at};

@@ -10,7 +10,7 @@ mod reading;
 mod refusal;
 
 pub use line::{LineBuffer, MAX_LINE};
-pub use printing::{print_journal, push_entry};
+pub use printing::print_journal;
 pub use reading::read_journal;
 pub use refusal::JournalRefusal;
 

@@ -1,3 +1,4 @@
+//! One line of a journal, written without an allocator.
 ghost use Rattle.std.specs.Prelude.{◌≡◌, ◌+◌, ◌<◌, ◌≤◌, ◌++◌, List, [], ◌∷◌, length, drop, if◌then◌else◌, codes, IsAscii, IsTrue, IfSome};
 ghost use Rattle.std.specs.Fmt.{decimal};
 ghost use Rattle.aps_model.specs.Journal.{option_text, done_text, thread_in, entry_line, IsLine};
@@ -8,7 +9,8 @@ use aps_model::{CpuId, Done, Entry, PartitionId, ThreadId};
 use itoa::write_digits;
 use std::marker::Model;
 
-/// The most bytes that a line of a journal has, its newline among them.
+/// The most bytes that the line of an entry has, its newline among them: both moments have the 20 digits of the greatest
+/// `u64` then.
 pub const MAX_LINE: usize = 87;
 
 /// Room for one line of a journal. Nothing that it does takes memory from an allocator.

@@ -1,4 +1,4 @@
-// The words of an operation are read byte by byte, and part where they differ.
+//! What an operation did. Its words are read byte by byte, and part where they differ.
 ghost use Rattle.std.specs.Prelude.{◌≡◌};
 ghost use Rattle.aps_text.specs.Reader.{Gives};
 ghost use Rattle.aps_text.specs.Operation.{critical_at, join_at, send_at, receive_at, repeat_at, run_at, done_at};

@@ -1,3 +1,4 @@
+//! A journal read back.
 ghost use Rattle.std.specs.Prelude.{◌≡◌, ◌≤◌, IfOk, IfErr, MatchResult, List, length};
 ghost use Rattle.aps_model.specs.declared.entry.Entry.{Entry as PlainEntry};
 ghost use Rattle.aps_model.specs.Journal.{IsJournal};
@@ -18,8 +19,12 @@ const LAST_PARTITION: u64 = 31;
 
 const LAST_MOMENT: u64 = 10_000_000_000_000;
 
-/// The entries whose journal the bytes are, of which there is one list at most. `BadLine` is the
-/// answer exactly where the bytes are no journal, unless memory runs out.
+/// The entries whose journal the bytes are, of which there is one list at most. There may be
+/// 4,000,000,000 bytes, so that the number of a line and that of a column fit the refusal.
+///
+/// `BadLine` is the answer exactly where the bytes are no journal, unless memory runs out; it says at
+/// which byte. Lines count from 1, and so do the bytes of a line, which are its columns. `NoMemory`
+/// comes where there was no memory for the entries, and tells nothing of the bytes.
 pub fn read_journal(alloc: Global, bytes: &[u8]) -> Result<Vec<Entry>, JournalRefusal>
     requires { length bytes.now ≤ 4000000000 }
     ensures journal { IfOk result (λ entries. IsJournal entries.items bytes.now) }

@@ -1,5 +1,5 @@
-use crate::{JournalRefusal, print_journal, push_entry, read_journal};
-use aps_model::{Done, Entry, NoMemory, ThreadId};
+use crate::{JournalRefusal, print_journal, read_journal};
+use aps_model::{Done, Entry, ThreadId};
 use std::alloc::Global;
 use std::test::Fail;
 
@@ -52,14 +52,6 @@ fn entries_of(alloc: Global, text: &str) -> Result<Vec<Entry>, JournalRefusal> {
     read_journal(alloc, text.as_bytes())
 }
 
-fn pushed(alloc: Global, entries: &[Entry]) -> Result<Vec<u8>, NoMemory> {
-    let mut bytes = Vec::new(alloc);
-    for entry in entries {
-        push_entry(&mut bytes, entry)?;
-    }
-    Ok(bytes)
-}
-
 #[test]
 fn worked_journals_are_read_and_printed_again(rt: HostRuntime) -> Result<(), Fail> {
     for (text, count) in [
@@ -72,8 +64,6 @@ fn worked_journals_are_read_and_printed_again(rt: HostRuntime) -> Result<(), Fai
         assert_eq!(rt; entries.len(), count);
         let printed = print_journal(rt.alloc(), entries.as_slice())?;
         assert_eq!(rt; printed.as_str(), text);
-        let bytes = pushed(rt.alloc(), entries.as_slice())?;
-        assert_eq!(rt; bytes.as_slice(), text.as_bytes());
     }
     Ok(())
 }
