@@ -1,5 +1,7 @@
 //! How ready threads compare: merits, which of two is greater, who is a candidate, and which picks are critical. The
 //! scheduler chooses by it; `docs/DEFINITIONS.md` has the rules in words.
+//!
+//! Used times are ns of the partition in the window, budgets are parts of all processor time, 100 or 1,000 in all.
 #![tactic(auto)]
 
 #[cfg(test)]
@@ -10,7 +12,8 @@ ghost use Rattle.aps_model.specs.Merit.{merit_of, is_critical_pick, is_candidate
 
 use aps_model::{Facts, Free, Merit, PartFacts, less_fraction};
 
-/// The merit of a thread with these values, in a partition that stands so.
+/// The merit of a thread with these values, in a partition that stands so. Its class is 1 where the partition is in
+/// budget, or where the thread is critical and the partition has critical budget left; else 0.
 pub fn merit_of(facts: Facts, stamp: u64, part: &PartFacts) -> Merit
     ensures { result ≡ merit_of facts stamp part.now }
 {
@@ -27,21 +30,27 @@ pub fn merit_of(facts: Facts, stamp: u64, part: &PartFacts) -> Merit
     }
 }
 
-/// Whether the pick of the thread would be critical.
+/// Whether the pick of the thread would be critical: the thread is, and its partition is out of budget and has critical
+/// budget left.
 pub fn is_critical_pick(facts: Facts, part: &PartFacts) -> bool
     ensures { result ≡ is_critical_pick facts part.now }
 {
     !part.funded && facts.critical && part.standing
 }
 
-/// Whether a ready thread is a candidate.
+/// Whether a ready thread is a candidate: its partition isn't shut, or its pick would be critical.
 pub fn is_candidate(facts: Facts, part: &PartFacts) -> bool
     ensures { result ≡ is_candidate facts part.now }
 {
     !part.shut || is_critical_pick(facts, part)
 }
 
-/// Whether `a` is greater than `b` under this policy of free time. Of two merits with different stamps exactly one is.
+/// Whether `a` is greater than `b` under this policy of free time: the higher class is, then the higher priority, then
+/// the smaller fraction of the budget that is used, then the smaller stamp. Between two of class 0 the fraction comes
+/// before the priority where free time goes by ratio. A budget of 0 counts as a larger fraction than any other. Of two
+/// merits with different stamps exactly one is greater.
+///
+/// Used times are at most 100,000,000,000,000 ns and budgets at most 1,000 parts, so that no product overflows.
 pub fn is_greater(a: &Merit, b: &Merit, free: Free) -> bool
     requires used_a { a.now.used ≤ 100000000000000 }
     requires budget_a { a.now.budget ≤ 1000 }
@@ -70,7 +79,8 @@ pub fn is_greater(a: &Merit, b: &Merit, free: Free) -> bool
     }
 }
 
-/// Whether a running thread is below the greatest candidate that is left.
+/// Whether a running thread is below the greatest candidate that is left: it has a lower class, or the same class and a
+/// lower priority. Between two of class 0 it never is where free time goes by ratio.
 pub fn is_below(running: &Merit, left: &Merit, free: Free) -> bool
     ensures { result ≡ is_below free running.now left.now }
 {

@@ -1,3 +1,4 @@
+//! What a command that isn't refused does to the rows.
 ghost use Rattle.std.specs.Prelude.{◌≡◌, ◌+◌, ◌-◌, ◌^◌, ◌<◌, ◌≤◌, length, None};
 ghost use Rattle.aps_model.specs.Partition.{partition_named, row_or_none};
 ghost use Rattle.aps_model.specs.Tree.{rows_created, row_modified, rows_cancelled};

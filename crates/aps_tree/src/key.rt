@@ -1,3 +1,4 @@
+//! Names as keys of a map.
 ghost use Rattle.std.specs.Prelude.{◌≡◌};
 
 use aps_model::Name;

@@ -1,3 +1,4 @@
+//! The rows of a tree, found by name.
 ghost use Rattle.std.specs.Prelude.{◌≡◌, ◌<◌, ◌++◌, [], ◌∷◌, length, slice_set, IfOk, IfSome, None};
 ghost use Rattle.aps_model.specs.Partition.{partition_named, row_or_none};
 

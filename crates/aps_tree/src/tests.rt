@@ -1,4 +1,4 @@
-//! One tree after another call, answered as by hand.
+//! Calls on trees, answered as by hand.
 ghost use Rattle.std.specs.Prelude.{◌≡◌};
 
 use crate::Tree;
@@ -56,5 +56,51 @@ fn creates_and_modifies_in_turn(rt: HostRuntime) -> Result<(), Fail> {
     );
     assert_eq!(rt; tree.lookup(b), Some(second));
     assert_eq!(rt; tree.count(), 3);
+    Ok(())
+}
+
+/// A child of the root with this critical budget.
+fn row(name: Name, critical: u64) -> PartitionRow {
+    PartitionRow {
+        name,
+        parent: PartitionId::at(0),
+        budget: 50,
+        critical,
+        max: 60,
+    }
+}
+
+#[test]
+fn rows_are_told_copied_and_cancelled(rt: HostRuntime) -> Result<(), Fail> {
+    let mut tree = Tree::new(rt.alloc(), 100)?;
+    let name = Name::new(b"A").unwrap();
+    let root = PartitionId::at(0);
+    let first = PartitionId::at(1);
+    assert_eq!(rt; tree.create(name, root, 50, 7, 60), Ok(first));
+    assert_eq!(rt; tree.row(first), Some(row(name, 7)));
+    assert_eq!(rt; tree.row(PartitionId::at(2)), None);
+    let copy = Tree::of_rows(rt.alloc(), 100, tree.rows())?;
+    assert!(rt; copy.rows() == tree.rows());
+    assert!(rt; tree.count() == 2);
+    tree.cancel(first);
+    assert_eq!(rt; tree.row(first), Some(row(name, 0)));
+    Ok(())
+}
+
+#[test]
+fn a_tree_has_32_partitions(rt: HostRuntime) -> Result<(), Fail> {
+    let mut tree = Tree::new(rt.alloc(), 1000)?;
+    let root = PartitionId::at(0);
+    for i in 1..32u8 {
+        let name = Name::new(&[b'A', b'0' + i / 10, b'0' + i % 10])?;
+        let id = PartitionId::at(i as usize);
+        assert_eq!(rt; tree.create(name, root, 1, 0, 1000), Ok(id));
+    }
+    let name = Name::new(b"B").unwrap();
+    assert_eq!(rt;
+        tree.create(name, root, 970, 0, 0),
+        Err(TreeRefusal::TooMany)
+    );
+    assert_eq!(rt; tree.count(), 32);
     Ok(())
 }

@@ -1,3 +1,4 @@
+//! The tree of a run, and the calls that change it.
 ghost use lib.Chars.{codes};
 ghost use Rattle.std.specs.Prelude.{◌≡◌, ◌+◌, ◌-◌, ◌^◌, ◌<◌, ◌≤◌, ◌⊎◌, [], ◌∷◌, length, slice_get, IfOk, IfSome};
 ghost use Rattle.aps_model.specs.Partition.{AreRows, partition_named, row_or_none};
@@ -44,7 +45,8 @@ impl Model for Tree {
 }
 
 impl Tree {
-    /// `System` alone, with all parts as its budget and its maximum, and no critical budget.
+    /// `System` alone, with all parts, 100 or 1,000, as its budget and its maximum, and no critical budget. `NoMemory`
+    /// comes where there is no room for 32 rows.
     pub fn new(alloc: Global, parts: u16) -> Result<Tree, NoMemory>
         requires { (parts ≡ 100) ⊎ (parts ≡ 1000) }
         ensures { IfOk result (λ tree. tree ≡ record { parts = parts; rows = root_row parts ∷ [] }) }
@@ -60,7 +62,8 @@ impl Tree {
         Ok(Tree { parts, rows })
     }
 
-    /// The tree that has exactly these rows.
+    /// The tree that has exactly these rows, whose budgets sum to the parts, 100 or 1,000. `NoMemory` comes where there
+    /// is no room for 32 rows.
     pub fn of_rows(alloc: Global, parts: u16, rows: &[PartitionRow]) -> Result<Tree, NoMemory>
         requires parts { (parts ≡ 100) ⊎ (parts ≡ 1000) }
         requires named { IsNamedTree rows.now }
@@ -252,7 +255,7 @@ impl Tree {
         }
     }
 
-    /// Takes the partition's critical budget away. Nothing else changes.
+    /// Takes the critical budget of a partition away, whose id must be used. Nothing else changes.
     pub fn cancel(&mut self, p: PartitionId)
         requires { p < length self.old.rows }
         ensures rows { self.new.rows ≡ rows_cancelled self.old.rows p }
