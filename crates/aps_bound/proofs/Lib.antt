@@ -1,5 +1,4 @@
 pub mod Folds
-pub mod Ends
 pub mod Steadiness
 pub mod Sums
 pub mod Growth

@@ -3,7 +3,6 @@
 //! starved partition.
 #![tactic(auto)]
 
-mod finished;
 mod loaded;
 mod recount;
 #[cfg(test)]

@@ -5,11 +5,10 @@ ghost use Rattle.aps_model.specs.Loaded.{finished_ticks};
 ghost use Rattle.aps_bound.specs.Usage.{IsUsage};
 ghost use Rattle.aps_bound.specs.Worst.{with_partition, with_window};
 
-use crate::finished::finished_ticks;
 use crate::loaded::loaded_tick;
 use crate::usage::{Usage, usage_in};
 use crate::worst::{allowance, worse};
-use aps_model::{Audit, History, PartitionId, Shape};
+use aps_model::{Audit, History, PartitionId, Shape, finished_ticks};
 
 /// The tick from which all finished ticks are steady, and over all loaded windows and all partitions the greatest
 /// amounts in nanoseconds by which usage exceeds the budget, falls short of it, and by which critical usage exceeds

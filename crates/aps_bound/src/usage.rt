@@ -1,10 +1,10 @@
 //! What each partition used in a window.
 ghost use Rattle.std.specs.Prelude.{◌≡◌, ℕ, ◌+◌, ◌-◌, ◌*◌, ◌<◌, ◌≤◌, ◌^◌, All, length, if◌then◌else◌, ◌&&◌, min, max, slice_index};
 ghost use Rattle.aps_model.specs.History.{IsEntry};
-ghost use Rattle.aps_model.specs.Usage.{overlap, names, used, critical_used};
+ghost use Rattle.aps_model.specs.Usage.{names, used, critical_used};
 ghost use Rattle.aps_bound.specs.Usage.{IsUsage, HasRoom, IsBilled};
 
-use aps_model::{Entry, Nanos};
+use aps_model::{Entry, Nanos, overlap};
 
 const PARTITIONS: usize = 32;
 
@@ -46,14 +46,4 @@ fn bill(usage: &mut Usage, e: &Entry, ns: Nanos)
             usage.critical[p.index()] += ns;
         }
     }
-}
-
-/// How much of the time from one moment to another lies in ticks `a` to `b - 1`.
-fn overlap(tick: u64, a: u64, b: u64, from: Nanos, to: Nanos) -> Nanos
-    requires first { a * tick < 2 ^ 63 }
-    requires end { b * tick < 2 ^ 63 }
-    ensures same { result ≡ overlap tick a b from to }
-    ensures part { result ≤ to - from }
-{
-    to.min(b * tick).saturating_sub(from.max(a * tick))
 }

@@ -7,16 +7,9 @@ ghost use Rattle.aps_model.specs.Shape.{IsShape};
 ghost use Rattle.aps_core.specs.Rising.{IsRising};
 ghost use Rattle.aps_core.specs.Small.{IsSmall};
 
-use aps_model::{Entry, Nanos, PartFacts, PartitionId, PartitionRow, Shape, has_allowance};
-
-/// How much of the time from one moment to another lies in ticks `a` to `b - 1`.
-fn overlap(tick: u64, a: u64, b: u64, from: Nanos, to: Nanos) -> Nanos
-    requires first { a * tick < 2 ^ 63 }
-    requires end { b * tick < 2 ^ 63 }
-    ensures { result ≡ min to (b * tick) - max from (a * tick) }
-{
-    to.min(b * tick).saturating_sub(from.max(a * tick))
-}
+use aps_model::{
+    Entry, Nanos, PartFacts, PartitionId, PartitionRow, Shape, has_allowance, overlap,
+};
 
 /// What the partition used in ticks `a` to `b - 1`, over all entries.
 fn used_in(entries: &[Entry], tick: u64, p: PartitionId, a: u64, b: u64) -> Nanos

@@ -5,6 +5,7 @@
 pub mod audit;
 pub mod command;
 pub mod entry;
+pub mod finished;
 pub mod history;
 pub mod ids;
 pub mod laws;
@@ -15,12 +16,14 @@ pub mod program;
 pub mod scenario;
 pub mod shape;
 pub mod state;
+pub mod usage;
 
 pub use audit::{Audit, Worst};
 pub use command::{
     Answer, Call, Change, ChangeKind, CommandRow, CtlRefusal, CtlView, Reply, ThreadView,
 };
 pub use entry::{Done, End, Entry, Order};
+pub use finished::finished_ticks;
 pub use history::History;
 pub use ids::{ChannelId, CpuId, Nanos, NoMemory, OutOfRange, PartitionId, ThreadId};
 pub use merit::{Contender, Merit, PartFacts, Rank, has_allowance, less_fraction};
@@ -30,3 +33,4 @@ pub use program::{Op, Program};
 pub use scenario::{Policy, Scenario, ThreadRow};
 pub use shape::{Bankruptcy, Free, Shape};
 pub use state::{CpuNow, Facts, Pick, State, ThreadNow};
+pub use usage::overlap;

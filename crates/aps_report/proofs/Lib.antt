@@ -1,6 +1,5 @@
 pub mod Taken
 pub mod Ranges
-pub mod Ends
 pub mod Spans
 pub mod Sums
 pub mod Cells

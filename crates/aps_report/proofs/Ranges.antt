@@ -15,9 +15,6 @@ range_more n =
     let e : 0 + n ≡ n = omega arith in
     rw add-one (range_suc 0 n) ∙ ap (λ x. range_with_len 0 n ++ x ∷ []) e
 
-pub fold_range_more : {B : Type 0} (f : B → ℕ → B) (b : B) (n : ℕ) → fold f b (range_with_len 0 (n + 1)) ≡ f (fold f b (range_with_len 0 n)) n
-fold_range_more f b n = ap (fold f b) (range_more n) ∙ fold-append f b (range_with_len 0 n) (n ∷ [])
-
 pub flat_map_range_more : {A : Type 0} (f : ℕ → List A) (start out longer : List A) (n : ℕ) → out ≡ start ++ flat_map f (range_with_len 0 n) → longer ≡ out ++ f n
     → longer ≡ start ++ flat_map f (range_with_len 0 (n + 1))
 flat_map_range_more f start out longer n so_far added =

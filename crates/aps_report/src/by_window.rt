@@ -6,10 +6,9 @@ ghost use Rattle.aps_model.specs.History.{IsEntry};
 ghost use Rattle.aps_model.specs.Report.{windows_text};
 ghost use Rattle.aps_report.specs.Windows.{part_in, cell_words, window_with, HaveCellRoom, HaveParts, HaveEntry, AreUsed};
 
-use crate::finished::finished_ticks;
 use crate::lines::add_end;
 use crate::zeros::zeros;
-use aps_model::{Entry, History, NoMemory, Shape};
+use aps_model::{Entry, History, NoMemory, Shape, finished_ticks, overlap};
 use std::alloc::Global;
 use std::fmt::Write;
 
@@ -170,7 +169,6 @@ fn part_in(shape: &Shape, k: usize, e: &Entry) -> u64
     ensures short { result ≤ 10000000 }
 {
     let first = k as u64 * u64::from(shape.window);
-    let begin = first * shape.tick;
-    let end = (first + u64::from(shape.window)) * shape.tick;
-    e.to.min(end).saturating_sub(e.from.max(begin))
+    let past = first + u64::from(shape.window);
+    overlap(shape.tick, first, past, e.from, e.to)
 }

@@ -4,7 +4,6 @@
 mod audit;
 mod by_entry;
 mod by_window;
-mod finished;
 mod lines;
 mod overview;
 mod replies;

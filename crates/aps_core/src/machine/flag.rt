@@ -10,12 +10,7 @@ use aps_model::{Contender, CpuId, CpuNow, Entry, Nanos, PartFacts, Pick, Rank};
 
 impl Machine {
     /// The rank of a processor that keeps this, if it is idle or its thread is below the greatest candidate left.
-    fn rank_of(
-        &self,
-        parts: &[PartFacts],
-        left: &Contender,
-        running: &Option<Pick>,
-    ) -> Option<Rank>
+    fn rank_of(&self, parts: &[PartFacts], left: &Contender, running: &Option<Pick>) -> Option<Rank>
         requires { All IsSmall parts.now }
         ensures { result ≡ rank_of self.now parts.now (merit_among parts.now left.now) running.now }
     {

@@ -1,6 +1,6 @@
 use Rattle.std.proofs.Common.{◌≡◌, ℕ, ◌<◌, ◌≤◌, All, length, slice_index, take}
 use Rattle.aps_model.specs.Due.{last_end}
-use Rattle.aps_report.proofs.finished.last_ends.Given as goal
+use Rattle.aps_model.proofs.finished.last_ends.Given as goal
 
 abbrev pub invariant-loop-e : goal.invariant-loop-e
 invariant-loop-e l = record {

@@ -1,7 +1,7 @@
 use Rattle.std.proofs.Common.{◌≡◌, ◌≤◌, min}
 use Rattle.std.specs.List.{fold, range_with_len}
 use Rattle.aps_model.specs.Due.{last_end}
-use Rattle.aps_report.proofs.finished.finished_ticks.Given as goal
+use Rattle.aps_model.proofs.finished.finished_ticks.Given as goal
 
 abbrev pub invariant-loop-cpu : goal.invariant-loop-cpu
 invariant-loop-cpu l = record {

@@ -2,9 +2,8 @@ use Rattle.std.proofs.Common.{◌≤◌, arith, take}
 use Rattle.std.proofs.Math.ListN.{length-set}
 use Rattle.std.proofs.lemmas.List.Elements.{All-set}
 use Rattle.aps_model.specs.History.{IsEntry}
-use Rattle.aps_report.proofs.Taken.{taken}
-use Rattle.aps_report.proofs.Ends.{ends_more}
-use Rattle.aps_report.proofs.finished.last_ends.Goals as goal
+use Rattle.aps_model.proofs.Ends.{ends_more, taken}
+use Rattle.aps_model.proofs.finished.last_ends.Goals as goal
 
 pub loop-e-preserved : goal.loop-e-preserved
 loop-e-preserved c =

@@ -1,15 +1,18 @@
 //! How much of a run every processor has billed.
 ghost use Rattle.std.specs.Prelude.{◌≡◌, ℕ, ◌<◌, ◌≤◌, All, min, slice_index};
-ghost use Rattle.aps_model.specs.Due.{last_end};
 ghost use Rattle.aps_model.specs.History.{IsEntry};
-ghost use Rattle.aps_model.specs.Loaded.{finished_ticks};
 ghost use Rattle.aps_model.specs.Shape.{IsShape};
+ghost use Rattle.aps_model.specs.Due.{last_end};
+ghost use Rattle.aps_model.specs.Loaded.{finished_ticks};
 
-use aps_model::{Entry, Nanos, Shape};
+use crate::entry::Entry;
+use crate::ids::Nanos;
+use crate::shape::Shape;
 
 const CPUS: usize = 16;
 
-/// The number of whole ticks that every processor has billed.
+/// The number of whole ticks that every processor has billed, by the shape's tick and number of processors. See
+/// `docs/DEFINITIONS.md`, Finished.
 pub fn finished_ticks(shape: &Shape, entries: &[Entry]) -> u64
     requires shape { IsShape shape.now }
     requires entries { All IsEntry entries.now }
@@ -32,7 +35,9 @@ fn earlier(a: Nanos, b: Nanos) -> Nanos
 
 /// Where the last entry of each processor ended, or 0 where it has none.
 fn last_ends(entries: &[Entry]) -> [Nanos; CPUS]
-    ensures { (c : ℕ) → c < 16 → slice_index result c ≡ last_end entries.now c }
+    requires { All IsEntry entries.now }
+    ensures same { (c : ℕ) → c < 16 → slice_index result c ≡ last_end entries.now c }
+    ensures early { All (λ end. end ≤ 10000000000000) result }
 {
     let mut ends = [0; CPUS];
     for e in entries {

@@ -1,9 +1,0 @@
-use Rattle.std.proofs.Common.{◌≡◌, ℕ, ◌<◌, length, slice_index, take}
-use Rattle.aps_model.specs.Due.{last_end}
-use Rattle.aps_bound.proofs.finished.last_ends.Given as goal
-
-abbrev pub invariant-loop-e : goal.invariant-loop-e
-invariant-loop-e l = record {
-  count : length l.ends ≡ 16;
-  same : (c : ℕ) → c < 16 → slice_index l.ends c ≡ last_end (take l.e-index l.entries) c;
-}
