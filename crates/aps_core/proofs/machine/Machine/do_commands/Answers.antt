@@ -1,4 +1,4 @@
-use Rattle.std.proofs.Common.{◌≡◌, ◌∙◌, ap, arith, length, subst, sym}
+use Rattle.std.proofs.Common.{◌∙◌, ap, arith, length, subst, sym}
 use Rattle.aps_ctl.specs.Pending.{all_at}
 use Rattle.aps_ctl.proofs.InTurn.{others_left}
 use Rattle.aps_core.specs.Calls.{AreInRange, all_done}

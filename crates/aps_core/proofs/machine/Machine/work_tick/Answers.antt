@@ -4,7 +4,7 @@ use Rattle.aps_ctl.specs.Pending.{all_at}
 use Rattle.aps_core.specs.Room.{HasRoomToWake}
 use Rattle.aps_core.proofs.Commands.{commands_room}
 use Rattle.aps_core.proofs.Frame.{ticked_lists}
-use Rattle.aps_core.proofs.Pending.{pending_begun, pending_kept, tick_started}
+use Rattle.aps_core.proofs.Pending.{tick_started}
 use Rattle.aps_core.proofs.machine.Machine.work_tick.Goals as goal
 
 pub do_commands-requires-clause-calls : goal.do_commands-requires-clause-calls

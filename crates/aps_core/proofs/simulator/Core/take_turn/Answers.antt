@@ -64,19 +64,19 @@ step-requires-clause-pending c =
 pub invariant_of-self : goal.invariant_of-self
 invariant_of-self c = record {
   core =
-    core_kept (run_of c.self.inside) c.self.inside.history c.self.inside.machine c.self.inside.parts.items c.args.cpu c.step.result.0 c.record.new.history (record { state = c.step.new.self; reboot = c.step.result.1 }) _
-    c.self.invariant.core
-    (subst (λ run. end_of_run run ≡ None) (sym c.self.view_is) c.requires.goes_on)
-    (subst (λ run. HasTurnIn run c.args.cpu) (sym c.self.view_is) c.requires.turn)
-    (record {
-      steps = step_read _ _ c.self.inside.machine _ _ c.args.cpu _ c.scenario.ensures c.entries.ensures.same c.step.ensures.same;
-      added = c.record.ensures;
-    })
-    (grind (arith, common_steps));
+      core_kept (run_of c.self.inside) c.self.inside.history c.self.inside.machine c.self.inside.parts.items c.args.cpu c.step.result.0 c.record.new.history (record { state = c.step.new.self; reboot = c.step.result.1 }) _
+      c.self.invariant.core
+      (subst (λ run. end_of_run run ≡ None) (sym c.self.view_is) c.requires.goes_on)
+      (subst (λ run. HasTurnIn run c.args.cpu) (sym c.self.view_is) c.requires.turn)
+      (record {
+        steps = step_read _ _ c.self.inside.machine _ _ c.args.cpu _ c.scenario.ensures c.entries.ensures.same c.step.ensures.same;
+        added = c.record.ensures;
+      })
+      (grind (arith, common_steps));
   pending =
-    pending_read c.scenario.result.now c.record.new.history.scenario _ _ c.record.new.history.entries c.step.new.ctl
-    (ap (λ (h : History). h.scenario) c.record.ensures ∙ sym c.scenario.ensures)
-    (tick_of_core (run_of c.self.inside) c.self.inside.history c.self.inside.machine c.self.inside.parts.items c.self.invariant.core ∙ ap (λ (s : Scenario). s.shape.tick) (sym c.scenario.ensures))
-    (ap (λ (h : History). h.entries) c.record.ensures ∙ ap (λ h. h ++ c.step.result.0 ∷ []) (sym c.entries.ensures.same))
-    c.step.ensures.pending;
+      pending_read c.scenario.result.now c.record.new.history.scenario _ _ c.record.new.history.entries c.step.new.ctl
+      (ap (λ (h : History). h.scenario) c.record.ensures ∙ sym c.scenario.ensures)
+      (tick_of_core (run_of c.self.inside) c.self.inside.history c.self.inside.machine c.self.inside.parts.items c.self.invariant.core ∙ ap (λ (s : Scenario). s.shape.tick) (sym c.scenario.ensures))
+      (ap (λ (h : History). h.entries) c.record.ensures ∙ ap (λ h. h ++ c.step.result.0 ∷ []) (sym c.entries.ensures.same))
+      c.step.ensures.pending;
 }
