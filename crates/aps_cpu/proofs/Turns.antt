@@ -1,12 +1,12 @@
 -- Turns of a seat, one after the other.
-use Rattle.std.proofs.Common.{◌≡◌, ℕ, ◌+◌, ◌-◌, ◌^◌, ◌<◌, ◌≤◌, min, Bool, true, false, nat_le, ◌&&◌, if◌then◌else◌, List, [], ◌∷◌, ◌++◌, leb-false, sym, refl, ap, ◌∙◌, subst, arith, append_assoc, append-nil}
+use Rattle.std.proofs.Common.{◌≡◌, ℕ, List, [], ◌∷◌, ◌++◌, sym, refl, ap, ◌∙◌, subst, append_assoc, append-nil}
 use Rattle.aps_model.specs.declared.entry.Entry.{Entry}
 use Rattle.aps_core.specs.declared.turn.Turn.{Turn}
 use Rattle.aps_core.specs.declared.turn.Turn.TheVariants.{Ended, NotYet, Took}
 use Rattle.aps_core.specs.Run.{IsLater, Run}
 use Rattle.aps_core.specs.Turn.{after_turn}
 use Rattle.aps_model.specs.Seat.{own_entries}
-use Rattle.aps_lock.specs.Seats.{DispatchData, HasCpu, IsSeatOf, IsSeatTurn, SeatData, taken, waited_after}
+use Rattle.aps_lock.specs.Seats.{DispatchData, HasCpu, IsSeatOf, IsSeatTurn, SeatData, taken}
 use Rattle.aps_cpu.specs.Driven.{AreTurns, EndsWith, IsOnFrom, OwnGrewBy, taken_by}
 
 abbrev with_entries : Run → List Entry → Run

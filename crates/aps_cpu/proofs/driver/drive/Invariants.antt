@@ -1,4 +1,4 @@
-use Rattle.std.proofs.Common.{ℕ, ◌<◌, ◌≤◌}
+use Rattle.std.proofs.Common.{◌<◌, ◌≤◌}
 use Rattle.aps_cpu.specs.Driven.{IsOnFrom}
 use Rattle.aps_cpu.proofs.Turns.{HasMade}
 use Rattle.aps_cpu.proofs.driver.drive.Given as goal
