@@ -22,18 +22,20 @@ pub enum Report {
 /// What the program is asked for.
 #[derive(Clone, Copy, Debug, PartialEq, Eq)]
 pub enum Command {
-    /// Runs a scenario in fixed order on the calling thread, up to `limit` entries.
+    /// Runs a scenario in fixed order on the calling thread, up to `limit` entries, 1 to 4,000,000.
     Solo {
         report: Report,
         limit: u32,
     },
-    /// Runs a scenario in this order, with a thread for each processor, up to `limit` entries.
+    /// Runs a scenario in this order, with a thread for each processor, up to `limit` entries, 1 to
+    /// 4,000,000.
     Run {
         order: Order,
         report: Report,
         limit: u32,
     },
-    /// Writes the scenario that this seed gives for so many processors, partitions and ticks.
+    /// Writes the scenario that this seed, any number, gives for 1 to 16 processors, 1 to 32
+    /// partitions, `System` counted, and 1 to 1,000,000 ticks.
     Gen {
         seed: u64,
         cpus: u8,
@@ -61,12 +63,15 @@ impl From<AllocError> for WordsRefusal {
     }
 }
 
-/// The command that these words are: a command word, and then its options in any order, each at
-/// most once, as `--name value` or `--name=value`.
+/// The command that these words are (docs/FORMATS.md, "Command line"): a command word, and then its
+/// options in any order, each at most once, as `--name value` or `--name=value`. Numbers have the
+/// ranges that `Command` names. Without its option the report is the summary, the limit 1,000,000
+/// entries, and the order of `run` the free one; `gen` needs each of its options.
 ///
 /// All other words are refused: another command word or none, `--`, an option that the command
 /// doesn't have, an option twice or without a value, a value that is none of the option's, any
-/// further word, and words that ask for help or for the version.
+/// further word, and words that ask for help or for the version. `NoMemory` comes where memory runs
+/// out, and tells nothing of the words.
 pub fn command_of(alloc: Global, words: &[String]) -> Result<Command, WordsRefusal>
     ensures same { spec.Says result (spec.command (map string_bytes words.now)) }
     ensures ranges { IfOk result spec.HasRanges }

@@ -1,4 +1,4 @@
--- The case of each status, from what the call came to.
+-- The case of each status, from the outcome of the call.
 use Rattle.std.proofs.Common.{rules, String, Global, string_bytes, ◌≡◌, ℕ, List, ◌⊎◌, inl, inr, Some, None, refl, ap, ◌∙◌}
 use Rattle.aps_model.specs.declared.entry.End.TheVariants.{Horizon, Limit, Reboot}
 use Rattle.aps_model.specs.History.{History}

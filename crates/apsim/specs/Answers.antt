@@ -24,7 +24,7 @@ use Rattle.apsim.specs.Reading.{most_bytes, IsReadWhole}
 use Rattle.apsim.specs.Cause.{Input, RanAsRead}
 use Rattle.apsim.specs.Printing.{Output, Prints, WritesWhole}
 
--- the answer of a call that came to this outcome: its text was written, and its history is handed back
+-- the answer of a call that had this outcome: its text was written, and its history is handed back
 pub record Tells (outcome : Outcome) (output : Output) (ended : Ended) : Type 0 where
   pub status : Status
   pub told : ended.status ≡ code status

@@ -1,4 +1,4 @@
--- Why the program comes to what it does.
+-- Why a call has its outcome.
 use Rattle.std.specs.Prelude.{◌≡◌, ℕ, List, [], Option, Some, None, IsSome, Ok, ⊤, string_bytes}
 use Rattle.aps_model.specs.declared.entry.End.{End}
 use Rattle.aps_model.specs.declared.entry.Order.{Order}

@@ -1,4 +1,4 @@
--- What the program comes to, and what it says of it.
+-- The outcome of a call: its status, its text and its history.
 use Rattle.std.specs.Prelude.{ℕ, List, [], ◌++◌, codes, string_bytes, Option, Some, None}
 use Rattle.aps_model.specs.Audit.{audit_of}
 use Rattle.aps_model.specs.History.{History}

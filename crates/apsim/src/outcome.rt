@@ -1,4 +1,4 @@
-//! What the program comes to, by its words and its input.
+//! The outcome of a call of the program, by its words and its input.
 ghost use Rattle.std.specs.Prelude.{◌≡◌, ◌≤◌, ℕ, List, map, string_bytes, vec_items, IfOk, Ok};
 ghost use Rattle.std.specs.Io.KnownBytes.{Consumes};
 ghost use Rattle.aps_gen.specs.Generated.{generated};
@@ -24,7 +24,7 @@ use std::alloc::Global;
 use std::sync::Wait;
 use std::thread::Threads;
 
-/// What the program comes to.
+/// The outcome of a call of the program.
 #[derive(Drop)]
 pub enum Outcome {
     /// The words are no command.

@@ -15,8 +15,8 @@ use std::alloc::Global;
 /// The most bytes that are taken as a scenario.
 const MOST_BYTES: usize = 1_048_576;
 
-/// Reads the source, and begins a run of the scenario that it gives. Where there is none, the answer is what the program
-/// comes to.
+/// Reads the source, and begins a run of the scenario that it gives. Where there is none, the answer is the outcome of the
+/// call.
 pub fn begin<S: Source>(
     alloc: Global,
     order: Order,

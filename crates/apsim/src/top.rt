@@ -16,10 +16,13 @@ use std::alloc::Global;
 use std::sync::Wait;
 use std::thread::Threads;
 
-/// How a call ended: the exit status, and the history where there was a run.
+/// How a call ended: the exit status (docs/FORMATS.md, "Exit status"), and the history where there was a run.
 #[derive(Drop)]
 pub struct Ended {
+    /// 0 to 8.
     pub status: u8,
+    /// There is none under 1, 2, 4 and 8, nor for `gen`. Under 0, 3, 5 and 6 every other command has one. Under 7 it is
+    /// there where memory ran out only after the run.
     pub history: Option<History>,
 }
 
@@ -28,15 +31,15 @@ pub struct Ended {
 /// sink. For `gen` it reads nothing, and writes the text of the scenario that is generated from the
 /// named numbers. It waits for nobody. Commands that need other threads are refused as words.
 ///
-/// What comes to nothing is said in the sink too, and each status has its one cause: see `Status`.
-/// A fault of the sink leaves a prefix of the text there, and so does want of memory.
+/// A refusal and a fault of the source are written to the sink too. Each status has its one cause: docs/FORMATS.md,
+/// "Exit status". A fault of the sink leaves a prefix of the text there, and so does want of memory.
 pub fn calm_top<S: Source, K: Sink>(
     alloc: Global,
     words: &[String],
     source: &mut S,
     sink: &mut K,
 ) -> Ended
-    // The call came to an outcome that its words and its input are the cause of, and told that.
+    // The call had an outcome that its words and its input are the cause of, and told that.
     ensures outcome { (bytes : List ℕ) × (outcome : Outcome) × Consumes (S.left source.old) (S.left source.new) bytes
         × HasCause (record {
           asked = calm_command (map string_bytes words.now);
@@ -77,6 +80,9 @@ pub fn calm_top<S: Source, K: Sink>(
 /// Does what the words ask for. `run` reads a scenario from the source, runs it in the named order up to
 /// the named limit with a thread for each processor, each of which enters the gate before its turns, and
 /// writes the named report of its history to the sink. All else is as `calm_top` does it.
+///
+/// `run` may wait, for the other threads and at the gate, and that it returns isn't promised: what is said of the answer
+/// holds where there is one.
 pub fn top<R: Threads + Wait + Sync, S: Source, K: Sink, G: Gate + Sync>(
     rt: &R,
     alloc: Global,
@@ -85,7 +91,7 @@ pub fn top<R: Threads + Wait + Sync, S: Source, K: Sink, G: Gate + Sync>(
     sink: &mut K,
     gate: &G,
 ) -> Ended
-    // The call came to an outcome that its words and its input are the cause of, and told that.
+    // The call had an outcome that its words and its input are the cause of, and told that.
     ensures outcome { (bytes : List ℕ) × (outcome : Outcome) × Consumes (S.left source.old) (S.left source.new) bytes
         × HasCause (record {
           asked = command (map string_bytes words.now);
