@@ -1,3 +1,4 @@
+//! What each command answers, and what it leaves of the tree and the shape.
 ghost use Rattle.std.specs.Prelude.{◌≡◌, Bool, List};
 ghost use Rattle.aps_model.specs.declared.partition.PartitionRow.{PartitionRow};
 ghost use Rattle.aps_model.specs.declared.shape.Shape.{Shape as ShapeOf};
@@ -9,8 +10,13 @@ use aps_model::{
 };
 use aps_tree::Tree;
 
-/// Does the command over the tree and the shape, where it sees this, and answers as it is answered. A refused command
-/// changes nothing. What it does beside is told by `mark_by` and `change_by`.
+/// Does the command over the tree and the shape, and answers it. Budgets and maxima are parts, as many in all as the
+/// shape says; critical budgets and used times are ns. `view` holds what each partition used in the window at this
+/// moment, by its id, and how the thread stands that the command names, exactly where it names one.
+///
+/// It is refused with `NoPartition` where no partition has the name that it gives, for a creation the parent's; where
+/// the tree refuses it, as the tree does; and with `Gone` where it marks a thread that has exited. A refused command
+/// changes nothing. What a command does beside is told by `mark_by` and `change_by`.
 pub fn perform(call: &Call, tree: &mut Tree, shape: &mut Shape, view: &CtlView) -> Answer
     requires { tree.old.parts ≡ shape.old.parts }
     ensures answer { result ≡ (perform call.now tree.old.rows shape.old view.now).answer }

@@ -1,3 +1,4 @@
+//! The commands that are still to come.
 ghost use Rattle.std.specs.Prelude.{◌≡◌, length, IfOk};
 ghost use Rattle.std.specs.List.{enumerate_from, position};
 ghost use Rattle.aps_ctl.specs.Pending.{is_at, next_at, without_next};
@@ -23,7 +24,7 @@ impl Model for Ctl {
 }
 
 impl Ctl {
-    /// All commands of the scenario.
+    /// All commands of the scenario. `NoMemory` comes where there is no room for them.
     pub fn new(alloc: Global, scenario: &Scenario) -> Result<Ctl, NoMemory>
         ensures { IfOk result (λ ctl. ctl ≡ enumerate_from 0 scenario.now.commands) }
     {

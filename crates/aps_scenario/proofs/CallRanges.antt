@@ -19,11 +19,11 @@ use Rattle.aps_scenario.specs.declared.words.CommandKind.{CommandKind}
 use Rattle.aps_scenario.specs.declared.words.CommandKind.TheVariants.{Create, Modify, Lookup, QueryPartition, QueryThread, QueryParameters, SetParameters, Statistics, MarkCritical, ClearCritical}
 use Rattle.aps_scenario.specs.Key.{key_text}
 use Rattle.aps_scenario.specs.Partitions.{row_budget, row_critical, row_max, system_name}
-use Rattle.aps_scenario.specs.Row.{Row, row_integer, row_name, name, value_of, at_key, given, or_default, optional, some_of, unless}
+use Rattle.aps_scenario.specs.Row.{Row, row_integer, row_name, name, value_of, at_key, given, or_default, optional, some_of, refuse_if}
 use Rattle.aps_scenario.specs.Sizes.{row_window, row_free, row_limit, row_bankruptcy}
 use Rattle.aps_scenario.specs.Calls.{has_key, some_key, row_partition_name, thread_named, thread_of, row_thread, create_at, modify_at, set_parameters_at, on_partition_at, on_thread_at, call_at}
 use Rattle.aps_scenario.proofs.Trees.{or_unknown-ok, system_named}
-use Rattle.aps_scenario.proofs.Values.{bind-ok, ok-same, unless-ok, value_of-ok, named-ok, named_or-ok, required-ok, defaulted-ok, optional-ok, integer-ok, InRange}
+use Rattle.aps_scenario.proofs.Values.{bind-ok, ok-same, refuse_if-ok, value_of-ok, named-ok, named_or-ok, required-ok, defaulted-ok, optional-ok, integer-ok, InRange}
 
 -- ---- keys of which one has to be there
 
@@ -108,7 +108,7 @@ module _ (parts : ℕ) (place : Place) (t : Members) (asked : Call) where
       let found : Call = call.Modify partition.0 budget.0 critical.0 max.0 in
       let same : found ≡ asked = ok-same found asked _ refl max.2 in
       let any : (has_key t Budget || (has_key t Critical || (has_key t Max || false))) ≡ true =
-      not_false _ (unless-ok (not (has_key t Budget || (has_key t Critical || (has_key t Max || false)))) Missing place Budget some.0 some.1) in
+      not_false _ (refuse_if-ok (not (has_key t Budget || (has_key t Critical || (has_key t Max || false)))) Missing place Budget some.0 some.1) in
       let one : IsSome budget.0 ⊎ IsSome critical.0 ⊎ IsSome max.0 =
       elim (either_true (has_key t Budget) _ any) [
         | inl first ↦ inl (there (row_budget parts) place t budget.0 first budget.1)
@@ -143,7 +143,7 @@ module _ (parts : ℕ) (place : Place) (t : Members) (asked : Call) where
       let found : Call = call.SetParameters window.0 free.0 limit.0 bankruptcy.0 in
       let same : found ≡ asked = ok-same found asked _ refl bankruptcy.2 in
       let any : (has_key t Window || (has_key t Free || (has_key t Limit || (has_key t Bankruptcy || false)))) ≡ true =
-      not_false _ (unless-ok (not (has_key t Window || (has_key t Free || (has_key t Limit || (has_key t Bankruptcy || false))))) Missing place Window some.0 some.1) in
+      not_false _ (refuse_if-ok (not (has_key t Window || (has_key t Free || (has_key t Limit || (has_key t Bankruptcy || false))))) Missing place Window some.0 some.1) in
       let one : IsSome window.0 ⊎ IsSome free.0 ⊎ IsSome limit.0 ⊎ IsSome bankruptcy.0 =
       elim (either_true (has_key t Window) _ any) [
         | inl first ↦ inl (there row_window place t window.0 first window.1)

@@ -14,13 +14,13 @@ use Rattle.aps_scenario.specs.declared.key.Key.TheVariants.{Thread, Name, Partit
 use Rattle.aps_scenario.specs.declared.kind.Kind.TheVariants.{Duplicate}
 use Rattle.aps_scenario.specs.declared.refusal.Place.{Place}
 use Rattle.aps_scenario.specs.declared.refusal.Place.TheVariants as place
-use Rattle.aps_scenario.specs.Row.{table_of, only, value_of, row_name, unless}
+use Rattle.aps_scenario.specs.Row.{table_of, only, value_of, row_name, refuse_if}
 use Rattle.aps_scenario.specs.Elements.{items_len, row_tables}
 use Rattle.aps_scenario.specs.Partitions.{row_partition}
 use Rattle.aps_scenario.specs.Program.{program_at}
 use Rattle.aps_scenario.specs.Threads.{thread_at, next_thread, threads_at, threads_with_new, thread_keys, row_priority, row_policy, row_critical_mark, is_thread}
 use Rattle.aps_scenario.proofs.Lists.{list_any-map}
-use Rattle.aps_scenario.proofs.Values.{bind-ok, ok-same, unless-ok, named-ok, defaulted-ok}
+use Rattle.aps_scenario.proofs.Values.{bind-ok, ok-same, refuse_if-ok, named-ok, defaulted-ok}
 use Rattle.aps_scenario.proofs.Elements.{read_each-keeps, tables-ok}
 use Rattle.aps_scenario.proofs.Programs.{program_at-ok}
 use Rattle.aps_scenario.proofs.Trees.{partition-ok}
@@ -44,7 +44,7 @@ module _ (partitions : List PartitionRow) (some_partition : 0 < length partition
       let p = bind-ok (table_of here d) _ row e in
       let q = bind-ok (only thread_keys here p.0) _ row p.2 in
       let name = bind-ok (value_of (row_name Name None) here p.0) _ row q.2 in
-      let other = bind-ok (unless (is_thread threads name.0) Duplicate here Name) _ row name.2 in
+      let other = bind-ok (refuse_if (is_thread threads name.0) Duplicate here Name) _ row name.2 in
       let partition = bind-ok (value_of (row_partition Partition partitions) here p.0) _ row other.2 in
       let priority = bind-ok (value_of row_priority here p.0) _ row partition.2 in
       let policy = bind-ok (value_of row_policy here p.0) _ row priority.2 in
@@ -61,7 +61,7 @@ module _ (partitions : List PartitionRow) (some_partition : 0 < length partition
           priority = record { some = range.above; few = range.below };
           program = program_at-ok channels joinable (length threads) p.0 program.0 program.1;
         };
-        other = unless-ok _ _ _ _ other.0 other.1;
+        other = refuse_if-ok _ _ _ _ other.0 other.1;
       })
 
   -- the threads so far, of which there are n

@@ -22,11 +22,11 @@ use Rattle.aps_scenario.specs.declared.key.Key.TheVariants.{Partition, Name, Par
 use Rattle.aps_scenario.specs.declared.kind.Kind.TheVariants.{Duplicate, BudgetOver}
 use Rattle.aps_scenario.specs.declared.refusal.Place.{Place}
 use Rattle.aps_scenario.specs.declared.refusal.Place.TheVariants as place
-use Rattle.aps_scenario.specs.Row.{table_of, only, value_of, row_name, name, unless}
+use Rattle.aps_scenario.specs.Row.{table_of, only, value_of, row_name, name, refuse_if}
 use Rattle.aps_scenario.specs.Elements.{items_len, row_tables}
 use Rattle.aps_scenario.specs.Partitions.{partition_at, next_partition, partition_keys, partition_of, or_unknown, row_partition, row_budget, row_critical, row_max, partitions_at, rows_with_new, system, is_partition}
 use Rattle.aps_scenario.proofs.Lists.{list_any-map}
-use Rattle.aps_scenario.proofs.Values.{bind-ok, ok-same, unless-ok, value_of-ok, named-ok, required-ok, defaulted-ok}
+use Rattle.aps_scenario.proofs.Values.{bind-ok, ok-same, refuse_if-ok, value_of-ok, named-ok, required-ok, defaulted-ok}
 use Rattle.aps_scenario.proofs.Elements.{read_each-keeps, tables-ok}
 use Rattle.aps_scenario.proofs.Subtrees.{AreEarlier, rows_more, kept, new_row, subtree_kept, subtree_new}
 
@@ -73,22 +73,22 @@ next_partition-ok parts rows d new some e =
     let p = bind-ok (table_of here d) _ new e in
     let q = bind-ok (only partition_keys here p.0) _ new p.2 in
     let name = bind-ok (value_of (row_name Name None) here p.0) _ new q.2 in
-    let other = bind-ok (unless (is_partition rows name.0) Duplicate here Name) _ new name.2 in
+    let other = bind-ok (refuse_if (is_partition rows name.0) Duplicate here Name) _ new name.2 in
     let parent = bind-ok (value_of (row_partition Parent rows) here p.0) _ new other.2 in
     let budget = bind-ok (value_of (row_budget parts) here p.0) _ new parent.2 in
     let critical = bind-ok (value_of row_critical here p.0) _ new budget.2 in
     let max = bind-ok (value_of (row_max budget.0 parts) here p.0) _ new critical.2 in
-    let funded = bind-ok (unless (nat_lt (row_or_none rows parent.0).budget budget.0) BudgetOver here Budget) _ new max.2 in
+    let funded = bind-ok (refuse_if (nat_lt (row_or_none rows parent.0).budget budget.0) BudgetOver here Budget) _ new max.2 in
     let none : ℕ = 0 in
     let budget_range = required-ok Budget 0 parts 1 here p.0 budget.0 budget.1 in
     let critical_range = defaulted-ok Critical 0 64000000000 1 none here p.0 critical.0 (record { above = omega arith; below = omega arith; whole = refl }) critical.1 in
     let max_range = defaulted-ok Max budget.0 parts 1 parts here p.0 max.0 (record { above = budget_range.below; below = omega arith; whole = omega arith }) max.1 in
-    let test : nat_lt (row_or_none rows parent.0).budget budget.0 ≡ false = unless-ok _ _ _ _ funded.0 funded.1 in
+    let test : nat_lt (row_or_none rows parent.0).budget budget.0 ≡ false = refuse_if-ok _ _ _ _ funded.0 funded.1 in
     let found : PartitionRow = record { name = name.0; parent = parent.0; budget = budget.0; critical = critical.0; max = max.0 } in
     let same : found ≡ new = ok-same found new _ refl funded.2 in
     subst (IsNew parts rows) same (record {
       name = named-ok Name _ p.0 name.0 name.1;
-      other = unless-ok _ _ _ _ other.0 other.1;
+      other = refuse_if-ok _ _ _ _ other.0 other.1;
       parent = partition-ok Parent rows _ p.0 parent.0 some parent.1;
       within_max = max_range.above;
       max = max_range.below;

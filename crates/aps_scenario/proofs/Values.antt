@@ -8,7 +8,7 @@ use Rattle.aps_scenario.specs.declared.kind.Kind.{Kind}
 use Rattle.aps_scenario.specs.declared.refusal.Finding.{Finding}
 use Rattle.aps_scenario.specs.declared.refusal.Place.{Place}
 use Rattle.aps_scenario.specs.Key.{key_text}
-use Rattle.aps_scenario.specs.Row.{◌>>=◌, Row, row_integer, row_name, optional, some_of, value_of, at_key, given, or_default, in_range, integer_in, integer, or_wrong_kind, is_name, name, unless}
+use Rattle.aps_scenario.specs.Row.{◌>>=◌, Row, row_integer, row_name, optional, some_of, value_of, at_key, given, or_default, in_range, integer_in, integer, or_wrong_kind, is_name, name, refuse_if}
 
 -- a chain of tests that passes
 pub bind-ok : {A B E : Type 0} (r : Result A E) (f : A → Result B E) (y : B) → r >>= f ≡ Ok y → (x : A) × (r ≡ Ok x) × (f x ≡ Ok y)
@@ -23,9 +23,9 @@ pub cond-ok : {A E : Type 0} (test : Bool) (x y : A) (e : E) → cond test (Ok x
 cond-ok true x y e same = (refl, cc)
 cond-ok false x y e same = absurd (cc)
 
-pub unless-ok : (wrong : Bool) (kind : Kind) (place : Place) (key : Key) (u : Unit {0}) → unless wrong kind place key ≡ Ok u → wrong ≡ false
-unless-ok false kind place key u e = refl
-unless-ok true kind place key u e = absurd (cc)
+pub refuse_if-ok : (wrong : Bool) (kind : Kind) (place : Place) (key : Key) (u : Unit {0}) → refuse_if wrong kind place key ≡ Ok u → wrong ≡ false
+refuse_if-ok false kind place key u e = refl
+refuse_if-ok true kind place key u e = absurd (cc)
 
 -- a value at a key is the default or what was read there
 pub value_of-ok : {A : Type 0} (row : Row A) (place : Place) (t : Members) (x : A) → value_of row place t ≡ Ok x

@@ -16,7 +16,7 @@ use Rattle.aps_scenario.specs.declared.words.CommandKind.{CommandKind}
 use Rattle.aps_scenario.specs.declared.words.CommandKind.TheVariants.{Create, Modify, Lookup, QueryPartition, QueryThread, QueryParameters, SetParameters, Statistics, MarkCritical, ClearCritical}
 use Rattle.aps_scenario.specs.Key.{key_text}
 use Rattle.aps_scenario.specs.Partitions.{or_unknown, row_budget, row_critical, row_max, system_name}
-use Rattle.aps_scenario.specs.Row.{◌>>=◌, Row, row_integer, row_name, name as name_in, value_of, optional, unless}
+use Rattle.aps_scenario.specs.Row.{◌>>=◌, Row, row_integer, row_name, name as name_in, value_of, optional, refuse_if}
 use Rattle.aps_scenario.specs.Sizes.{row_window, row_free, row_limit, row_bankruptcy}
 
 -- ---- keys
@@ -44,7 +44,7 @@ has_key t key = is_some (get_member (key_text key) t)
 
 -- a table that has none of these keys lacks the first
 abbrev pub some_key : Key → List Key → Place → Members → Result (Unit {0}) Finding
-some_key first others place t = unless (not (list_any (has_key t) (first ∷ others))) Missing place first
+some_key first others place t = refuse_if (not (list_any (has_key t) (first ∷ others))) Missing place first
 
 -- ---- rows
 

@@ -10,7 +10,7 @@ use Rattle.aps_scenario.specs.declared.refusal.Finding.{Finding}
 use Rattle.aps_scenario.specs.declared.refusal.Place.{Place}
 use Rattle.aps_scenario.specs.declared.refusal.Place.TheVariants as place
 use Rattle.aps_scenario.specs.Elements.{row_tables, read_each}
-use Rattle.aps_scenario.specs.Row.{◌>>=◌, row_name, value_of, only, table_of, unless}
+use Rattle.aps_scenario.specs.Row.{◌>>=◌, row_name, value_of, only, table_of, refuse_if}
 
 abbrev pub channel_keys : List Key
 channel_keys = Name ∷ []
@@ -25,7 +25,7 @@ channel_at channels place d = do
   t ← table_of place d
   known ← only channel_keys place t
   name ← value_of (row_name Name None) place t
-  new ← unless (is_among channels name) Duplicate place Name
+  new ← refuse_if (is_among channels name) Duplicate place Name
   Ok name
 
 abbrev pub next_channel : List (List ℕ) → Data → Result (List ℕ) Finding

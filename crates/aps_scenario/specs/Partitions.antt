@@ -14,7 +14,7 @@ use Rattle.aps_scenario.specs.declared.refusal.Finding.{Finding}
 use Rattle.aps_scenario.specs.declared.refusal.Place.{Place}
 use Rattle.aps_scenario.specs.declared.refusal.Place.TheVariants as place
 use Rattle.aps_scenario.specs.Elements.{row_tables, read_each}
-use Rattle.aps_scenario.specs.Row.{◌>>=◌, Row, row_integer, row_name, name as name_in, value_of, only, table_of, unless}
+use Rattle.aps_scenario.specs.Row.{◌>>=◌, Row, row_integer, row_name, name as name_in, value_of, only, table_of, refuse_if}
 
 abbrev pub partition_keys : List Key
 partition_keys = Name ∷ Parent ∷ Budget ∷ Critical ∷ Max ∷ []
@@ -52,12 +52,12 @@ partition_at parts rows place d = do
   t ← table_of place d
   known ← only partition_keys place t
   name ← value_of (row_name Name None) place t
-  new ← unless (is_partition rows name) Duplicate place Name
+  new ← refuse_if (is_partition rows name) Duplicate place Name
   parent ← value_of (row_partition Parent rows) place t
   budget ← value_of (row_budget parts) place t
   critical ← value_of row_critical place t
   max ← value_of (row_max budget parts) place t
-  funded ← unless (nat_lt (row_or_none rows parent).budget budget) BudgetOver place Budget
+  funded ← refuse_if (nat_lt (row_or_none rows parent).budget budget) BudgetOver place Budget
   Ok (record { name = name; parent = parent; budget = budget; critical = critical; max = max })
 
 -- the element after these rows, of which the root isn't one

@@ -136,5 +136,5 @@ abbrev pub table_of : Place → Data → Result Members Finding
 table_of place d = table_or_wrong_kind place (as_table d)
 
 -- a test that is made once a value is read: the finding, where the test says so
-abbrev pub unless : Bool → Kind → Place → Key → Result (Unit {0}) Finding
-unless wrong kind place key = if wrong then finds kind (At place key) else Ok tt
+abbrev pub refuse_if : Bool → Kind → Place → Key → Result (Unit {0}) Finding
+refuse_if wrong kind place key = if wrong then finds kind (At place key) else Ok tt

@@ -15,7 +15,7 @@ use Rattle.aps_scenario.specs.declared.refusal.Place.TheVariants as place
 use Rattle.aps_scenario.specs.Elements.{row_tables, read_each}
 use Rattle.aps_scenario.specs.Partitions.{row_partition}
 use Rattle.aps_scenario.specs.Program.{program_at}
-use Rattle.aps_scenario.specs.Row.{◌>>=◌, Row, row_integer, row_name, row_truth, row_word, value_of, only, table_of, unless}
+use Rattle.aps_scenario.specs.Row.{◌>>=◌, Row, row_integer, row_name, row_truth, row_word, value_of, only, table_of, refuse_if}
 use Rattle.aps_scenario.specs.Words.{policy_words}
 
 abbrev pub thread_keys : List Key
@@ -40,7 +40,7 @@ thread_at partitions channels joinable threads i d = do
   t ← table_of (place.Thread i) d
   known ← only thread_keys (place.Thread i) t
   name ← value_of (row_name Name None) (place.Thread i) t
-  new ← unless (is_thread threads name) Duplicate (place.Thread i) Name
+  new ← refuse_if (is_thread threads name) Duplicate (place.Thread i) Name
   partition ← value_of (row_partition Partition partitions) (place.Thread i) t
   priority ← value_of row_priority (place.Thread i) t
   policy ← value_of row_policy (place.Thread i) t

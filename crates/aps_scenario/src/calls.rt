@@ -8,9 +8,9 @@ ghost use Rattle.aps_scenario.specs.Calls as spec;
 use crate::key::Key;
 use crate::kind::Kind;
 use crate::partitions::{MOST_CRITICAL, system_name};
-use crate::refusal::{Finding, Part, Place};
+use crate::refusal::{Finding, Place};
 use crate::row::{
-    integer_at, name, name_at, optional_integer_at, optional_truth_at, unless, value_at,
+    at_key, integer_at, name, name_at, optional_integer_at, optional_truth_at, refuse_if, value_at,
 };
 use crate::words::{CommandKind, optional_bankruptcy_at, optional_free_at};
 use aps_model::{Call, Name, ThreadId, ThreadRow};
@@ -51,12 +51,11 @@ fn thread_at(table: &Table, place: Place, threads: &[ThreadRow]) -> Result<Threa
     requires { length threads.now ≤ 1024 }
     ensures { result ≡ value_of (spec.row_thread threads.now) place (table_view table.now) }
 {
-    let part = Part::At(place, Key::Thread);
     let found = match value_at(table, Key::Thread) {
         None => Err(Kind::Missing),
         Some(value) => thread_of(threads, value),
     };
-    found.map_err(|kind| Finding { kind, part })
+    at_key(place, Key::Thread, found)
 }
 
 fn partition_at(table: &Table, place: Place) -> Result<Name, Finding>
@@ -102,7 +101,7 @@ fn modify_at(table: &Table, place: Place, parts: u16) -> Result<Call, Finding>
     let most = u64::from(parts);
     let partition = partition_at(table, place)?;
     let some = has_some_key(table, &[Key::Budget, Key::Critical, Key::Max]);
-    unless(!some, Kind::Missing, place, Key::Budget)?;
+    refuse_if(!some, Kind::Missing, place, Key::Budget)?;
     let budget = as_parts(optional_integer_at(table, place, Key::Budget, 0, most)?);
     let critical = optional_integer_at(table, place, Key::Critical, 0, MOST_CRITICAL)?;
     let max = as_parts(optional_integer_at(table, place, Key::Max, 0, most)?);
@@ -120,7 +119,7 @@ fn set_parameters_at(table: &Table, place: Place) -> Result<Call, Finding>
 {
     let keys = [Key::Window, Key::Free, Key::Limit, Key::Bankruptcy];
     let some = has_some_key(table, &keys);
-    unless(!some, Kind::Missing, place, Key::Window)?;
+    refuse_if(!some, Kind::Missing, place, Key::Window)?;
     let window = as_parts(optional_integer_at(table, place, Key::Window, 8, 400)?);
     let free = optional_free_at(table, place)?;
     let limit = optional_truth_at(table, place, Key::Limit)?;

@@ -7,13 +7,16 @@ ghost use Rattle.aps_scenario.specs.Channels as spec;
 use crate::key::Key;
 use crate::kind::Kind;
 use crate::refusal::{Failure, Finding, Place};
-use crate::row::{name_at, only, table_of, tables_at, unless};
+use crate::row::{name_at, only, refuse_if, table_of, tables_at};
 use aps_model::Name;
 use std::alloc::Global;
 use toml::value::Array;
 use toml::{Table, Value};
 
 const CHANNEL_KEYS: [Key; 1] = [Key::Name];
+
+/// The most channels of a scenario.
+const MOST_CHANNELS: usize = 256;
 
 /// Whether the name is one of these.
 pub fn is_among(names: &[Name], name: &Name) -> bool
@@ -32,7 +35,7 @@ fn next_channel(channels: &[Name], value: &Value) -> Result<Name, Finding>
     let table = table_of(place, value)?;
     only(&CHANNEL_KEYS, place, table)?;
     let name = name_at(table, place, Key::Name, None)?;
-    unless(is_among(channels, &name), Kind::Duplicate, place, Key::Name)?;
+    refuse_if(is_among(channels, &name), Kind::Duplicate, place, Key::Name)?;
     Ok(name)
 }
 
@@ -54,7 +57,7 @@ fn channels_of(alloc: Global, array: &Array) -> Result<Vec<Name>, Failure>
 pub fn channels_at(alloc: Global, table: &Table) -> Result<Vec<Name>, Failure>
     ensures { Gives (λ channels. channels.items) result (spec.channels_at (table_view table.now)) }
 {
-    match tables_at(table, Place::Top, Key::Channel, 256)? {
+    match tables_at(table, Place::Top, Key::Channel, MOST_CHANNELS)? {
         Some(array) => channels_of(alloc, array),
         None => channels_of(alloc, &Vec::new(alloc)),
     }

@@ -54,7 +54,7 @@ const THREAD_KEYS: [Key; 3] = [Key::Tick, Key::Do, Key::Thread];
 
 const OTHER_KEYS: [Key; 2] = [Key::Tick, Key::Do];
 
-// Whether a command of this kind has no keys but its own.
+// Refuses the first key that a command of this kind doesn't have.
 fn only_own_keys(kind: Option<CommandKind>, place: Place, table: &Table) -> Result<(), Finding>
     ensures { result ≡ only_spec (command_keys kind) place (table_view table.now) }
 {

@@ -23,7 +23,8 @@ pub enum Kind {
     UnknownName,
     /// A name that an earlier element has.
     Duplicate,
-    /// A text that is no operation, or an operation that can't stand at its place in the program.
+    /// A text that is no operation, or an operation that can't stand at its place in the program; `at` is its index
+    /// there, from 0.
     BadOperation { at: u16 },
     /// A budget that the parent hasn't left.
     BudgetOver,

@@ -18,9 +18,6 @@ pub enum OperationFault {
 /// The longest time that an operation states, in ns.
 const LONGEST: u64 = 10_000_000_000_000;
 
-/// The most channels of a scenario.
-pub const MOST_CHANNELS: usize = 256;
-
 // The text behind these bytes.
 fn after_word<'a>(text: &'a [u8], word: &[u8]) -> Option<&'a [u8]>
     ensures { option_map (λ rest. rest.now) result ≡ spec.after_word word.now text.now }

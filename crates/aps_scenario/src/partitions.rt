@@ -8,14 +8,19 @@ ghost use Rattle.aps_scenario.specs.Partitions as spec;
 
 use crate::key::Key;
 use crate::kind::Kind;
-use crate::refusal::{Failure, Finding, Part, Place};
-use crate::row::{integer_at, name, name_at, only, table_of, tables_at, unless, value_at};
+use crate::refusal::{Failure, Finding, Place};
+use crate::row::{
+    at_key, integer_at, name, name_at, only, refuse_if, table_of, tables_at, value_at,
+};
 use aps_model::{Name, NoMemory, PartitionId, PartitionRow};
 use std::alloc::{AllocFailed, Global};
 use toml::value::Array;
 use toml::{Table, Value};
 
 const PARTITION_KEYS: [Key; 5] = [Key::Name, Key::Parent, Key::Budget, Key::Critical, Key::Max];
+
+/// The most partitions of a scenario beside the root.
+const MOST_PARTITIONS: usize = 31;
 
 /// The greatest critical budget, in ns.
 pub const MOST_CRITICAL: u64 = 64_000_000_000;
@@ -50,12 +55,11 @@ pub fn partition_id_at(
     ensures is { result ≡ value_of (spec.row_partition key rows.now) place (table_view table.now) }
     ensures within { IfOk result (λ p. p < length rows.now) }
 {
-    let part = Part::At(place, key);
     let found = match value_at(table, key) {
         None => Ok(PartitionId::at(0)),
         Some(value) => partition_of(rows, value),
     };
-    found.map_err(|kind| Finding { kind, part })
+    at_key(place, key, found)
 }
 
 fn is_partition(rows: &[PartitionRow], name: &Name) -> bool
@@ -77,14 +81,14 @@ fn next_partition(parts: u16, rows: &[PartitionRow], value: &Value) -> Result<Pa
     let table = table_of(place, value)?;
     only(&PARTITION_KEYS, place, table)?;
     let name = name_at(table, place, Key::Name, None)?;
-    unless(is_partition(rows, &name), Kind::Duplicate, place, Key::Name)?;
+    refuse_if(is_partition(rows, &name), Kind::Duplicate, place, Key::Name)?;
     let parent = partition_id_at(table, place, Key::Parent, rows)?;
     let most = u64::from(parts);
     let budget = integer_at(table, place, Key::Budget, 0, most, 1, None)?;
     let critical = integer_at(table, place, Key::Critical, 0, MOST_CRITICAL, 1, Some(0))?;
     let max = integer_at(table, place, Key::Max, budget, most, 1, Some(most))?;
     let left = u64::from(rows[parent.index()].budget);
-    unless(left < budget, Kind::BudgetOver, place, Key::Budget)?;
+    refuse_if(left < budget, Kind::BudgetOver, place, Key::Budget)?;
     Ok(PartitionRow {
         name,
         parent,
@@ -149,7 +153,7 @@ fn partitions_of(alloc: Global, parts: u16, array: &Array) -> Result<Vec<Partiti
 pub fn partitions_at(alloc: Global, parts: u16, table: &Table) -> Result<Vec<PartitionRow>, Failure>
     ensures { Gives (λ rows. rows.items) result (spec.partitions_at parts (table_view table.now)) }
 {
-    match tables_at(table, Place::Top, Key::Partition, 31)? {
+    match tables_at(table, Place::Top, Key::Partition, MOST_PARTITIONS)? {
         Some(array) => partitions_of(alloc, parts, array),
         None => partitions_of(alloc, parts, &Vec::new(alloc)),
     }

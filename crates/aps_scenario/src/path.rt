@@ -33,7 +33,7 @@ impl Model for PathText {
 
 impl PathText {
     /// The path of the text as a whole.
-    pub fn whole() -> PathText
+    pub(crate) fn whole() -> PathText
         ensures { result ≡ spec.whole_text }
     {
         let mut bytes = [0; 64];
@@ -135,7 +135,7 @@ impl PathText {
     }
 
     /// The path of a part.
-    pub fn of_part(part: Part) -> PathText
+    pub(crate) fn of_part(part: Part) -> PathText
         ensures { result ≡ spec.path_text part }
     {
         match part {

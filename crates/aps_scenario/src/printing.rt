@@ -62,7 +62,7 @@ fn scenario_table(alloc: Global, scenario: &Scenario) -> Result<Table, NoMemory>
 }
 
 /// A text that reads as the scenario: every key is written, a budget as it is before the partition's children take
-/// theirs.
+/// theirs. `NoMemory` comes where memory runs out.
 pub fn print(alloc: Global, scenario: &Scenario) -> Result<String, NoMemory>
     ensures { IfOk result (λ text. reads (string_bytes text) ≡ Ok scenario.now) }
 {

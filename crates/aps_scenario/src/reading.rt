@@ -52,8 +52,8 @@ fn scenario_at(alloc: Global, table: &Table) -> Result<Scenario, Failure>
 /// The scenario that a text is.
 ///
 /// `Refused` has the first part of the text that breaks a rule of the format, in the one order of
-/// tests, and how it breaks it; `not-toml -` comes exactly where the bytes aren't UTF-8 or no
-/// document. `NoMemory` comes where memory runs out, and tells nothing of the text.
+/// tests that `docs/FORMATS.md` has, and how it breaks it; `not-toml -` comes exactly where the bytes
+/// aren't UTF-8 or no document. `NoMemory` comes where memory runs out, and tells nothing of the text.
 pub fn scenario_of(alloc: Global, bytes: &[u8]) -> Result<Scenario, ScenarioRefusal>
     ensures { Tells result (spec.reads bytes.now) }
 {

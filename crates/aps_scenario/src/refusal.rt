@@ -11,7 +11,8 @@ use thiserror::Error;
 /// Why a text gives no scenario.
 #[derive(Clone, Copy, Debug, PartialEq, Eq, Error)]
 pub enum ScenarioRefusal {
-    /// The text is none that is read: what is wrong, and where.
+    /// The text is no scenario: what is wrong with the first part of it that breaks a rule of the format, and the path
+    /// of that part. `docs/FORMATS.md` has the rules and the order of the tests.
     #[error("scenario refused: {kind}")]
     Refused { kind: Kind, path: PathText },
     /// Memory ran out, which tells nothing of the text.

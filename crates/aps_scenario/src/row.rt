@@ -78,6 +78,19 @@ pub fn value_at<'a>(table: &'a Table, key: Key) -> Option<&'a Value>
     table.get(key.text())
 }
 
+/// The value that was found at a key of a table, or the finding there.
+pub fn at_key<T>(place: Place, key: Key, found: Result<T, Kind>) -> Result<T, Finding>
+    ensures { result ≡ spec.at_key place key found }
+{
+    match found {
+        Ok(value) => Ok(value),
+        Err(kind) => Err(Finding {
+            kind,
+            part: Part::At(place, key),
+        }),
+    }
+}
+
 /// An integer from `low` to `high`, a multiple of `step`.
 pub fn integer_at(
     table: &Table,
@@ -93,12 +106,11 @@ pub fn integer_at(
     ensures is { result ≡ value_of (spec.row_integer key low high step default) place (table_view table.now) }
     ensures within { IfOk result (λ n. (low ≤ n) × (n ≤ high)) }
 {
-    let part = Part::At(place, key);
     let found = match value_at(table, key) {
         None => default.ok_or(Kind::Missing),
         Some(value) => integer(value, low, high, step),
     };
-    found.map_err(|kind| Finding { kind, part })
+    at_key(place, key, found)
 }
 
 /// An integer from `low` to `high`, where the key is there.
@@ -112,7 +124,6 @@ pub fn optional_integer_at(
     ensures is { result ≡ value_of (optional (spec.row_integer key low high 1 None)) place (table_view table.now) }
     ensures within { IfOk result (λ found. IfSome found (λ n. (low ≤ n) × (n ≤ high))) }
 {
-    let part = Part::At(place, key);
     let found = match value_at(table, key) {
         None => Ok(None),
         Some(value) => match integer(value, low, high, 1) {
@@ -120,26 +131,24 @@ pub fn optional_integer_at(
             Err(kind) => Err(kind),
         },
     };
-    found.map_err(|kind| Finding { kind, part })
+    at_key(place, key, found)
 }
 
 /// A truth value, which is `false` where the key is absent.
 pub fn truth_at(table: &Table, place: Place, key: Key) -> Result<bool, Finding>
     ensures { result ≡ value_of (spec.row_truth key (Some false)) place (table_view table.now) }
 {
-    let part = Part::At(place, key);
     let found = match value_at(table, key) {
         None => Ok(false),
         Some(value) => truth(value),
     };
-    found.map_err(|kind| Finding { kind, part })
+    at_key(place, key, found)
 }
 
 /// A truth value, where the key is there.
 pub fn optional_truth_at(table: &Table, place: Place, key: Key) -> Result<Option<bool>, Finding>
     ensures { result ≡ value_of (optional (spec.row_truth key (Some false))) place (table_view table.now) }
 {
-    let part = Part::At(place, key);
     let found = match value_at(table, key) {
         None => Ok(None),
         Some(value) => match truth(value) {
@@ -147,7 +156,7 @@ pub fn optional_truth_at(table: &Table, place: Place, key: Key) -> Result<Option
             Err(kind) => Err(kind),
         },
     };
-    found.map_err(|kind| Finding { kind, part })
+    at_key(place, key, found)
 }
 
 /// A name, where the key is there or there is a default.
@@ -159,12 +168,11 @@ pub fn name_at(
 ) -> Result<Name, Finding>
     ensures { result ≡ value_of (spec.row_name key default) place (table_view table.now) }
 {
-    let part = Part::At(place, key);
     let found = match value_at(table, key) {
         None => default.ok_or(Kind::Missing),
         Some(value) => name(value),
     };
-    found.map_err(|kind| Finding { kind, part })
+    at_key(place, key, found)
 }
 
 /// An array of `least` to `most` elements, which has to be there.
@@ -180,12 +188,11 @@ pub fn array_at(
         (λ e. value_of (row_array key least most None) place (table_view table.now) ≡ Err e) }
     ensures few { IfOk result (λ a. length a.now.items ≤ most) }
 {
-    let part = Part::At(place, key);
     let found = match value_at(table, key) {
         None => Err(Kind::Missing),
         Some(value) => array(value, least, most),
     };
-    found.map_err(|kind| Finding { kind, part })
+    at_key(place, key, found)
 }
 
 /// An array of at most `most` elements, where there is one.
@@ -234,7 +241,7 @@ fn unknown_key<'a>(table: &'a Table, known: &[Key]) -> Option<&'a str>
     }
 }
 
-/// Whether a table has no keys but the known ones.
+/// Refuses the first key of a table that is none of the known ones.
 pub fn only(known: &[Key], place: Place, table: &Table) -> Result<(), Finding>
     ensures { result ≡ spec.only known.now place (table_view table.now) }
 {
@@ -262,9 +269,9 @@ pub fn table_of<'a>(place: Place, value: &'a Value) -> Result<&'a Table, Finding
     }
 }
 
-/// The finding at a key, where a test says that its value is wrong.
-pub fn unless(wrong: bool, kind: Kind, place: Place, key: Key) -> Result<(), Finding>
-    ensures { result ≡ spec.unless wrong kind place key }
+/// Refuses the value at a key, where a test says that it is wrong.
+pub fn refuse_if(wrong: bool, kind: Kind, place: Place, key: Key) -> Result<(), Finding>
+    ensures { result ≡ spec.refuse_if wrong kind place key }
 {
     if wrong {
         Err(Finding {

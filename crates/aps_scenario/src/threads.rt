@@ -9,7 +9,7 @@ use crate::kind::Kind;
 use crate::partitions::partition_id_at;
 use crate::program::program_at;
 use crate::refusal::{Failure, Place};
-use crate::row::{integer_at, name_at, only, table_of, tables_at, truth_at, unless};
+use crate::row::{integer_at, name_at, only, refuse_if, table_of, tables_at, truth_at};
 use crate::words::policy_at;
 use aps_model::{Name, PartitionRow, ThreadRow};
 use std::alloc::Global;
@@ -56,7 +56,7 @@ fn next_thread(
     let table = table_of(place, value)?;
     only(&THREAD_KEYS, place, table)?;
     let name = name_at(table, place, Key::Name, None)?;
-    unless(is_thread(threads, &name), Kind::Duplicate, place, Key::Name)?;
+    refuse_if(is_thread(threads, &name), Kind::Duplicate, place, Key::Name)?;
     let partition = partition_id_at(table, place, Key::Partition, partitions)?;
     let priority = integer_at(table, place, Key::Priority, 1, 255, 1, Some(10))? as u8;
     let policy = policy_at(table, place)?;

@@ -12,8 +12,8 @@ ghost use Rattle.aps_scenario.specs.Words as spec;
 
 use crate::key::Key;
 use crate::kind::Kind;
-use crate::refusal::{Finding, Part, Place};
-use crate::row::value_at;
+use crate::refusal::{Finding, Place};
+use crate::row::{at_key, value_at};
 use aps_model::{Bankruptcy, Free, Policy};
 use toml::{Table, Value};
 
@@ -92,19 +92,17 @@ pub fn command_kind(value: &Value) -> Result<CommandKind, Kind>
 pub fn free_at(table: &Table, place: Place) -> Result<Free, Finding>
     ensures { result ≡ value_of row_free place (table_view table.now) }
 {
-    let part = Part::At(place, Key::Free);
     let found = match value_at(table, Key::Free) {
         None => Ok(Free::Priority),
         Some(value) => free(value),
     };
-    found.map_err(|kind| Finding { kind, part })
+    at_key(place, Key::Free, found)
 }
 
 /// To whom free time goes, where it is given.
 pub fn optional_free_at(table: &Table, place: Place) -> Result<Option<Free>, Finding>
     ensures { result ≡ value_of (optional row_free) place (table_view table.now) }
 {
-    let part = Part::At(place, Key::Free);
     let found = match value_at(table, Key::Free) {
         None => Ok(None),
         Some(value) => match free(value) {
@@ -112,26 +110,24 @@ pub fn optional_free_at(table: &Table, place: Place) -> Result<Option<Free>, Fin
             Err(kind) => Err(kind),
         },
     };
-    found.map_err(|kind| Finding { kind, part })
+    at_key(place, Key::Free, found)
 }
 
 /// What follows where a critical budget is exceeded: the basic policy where it isn't given.
 pub fn bankruptcy_at(table: &Table, place: Place) -> Result<Bankruptcy, Finding>
     ensures { result ≡ value_of row_bankruptcy place (table_view table.now) }
 {
-    let part = Part::At(place, Key::Bankruptcy);
     let found = match value_at(table, Key::Bankruptcy) {
         None => Ok(Bankruptcy::Basic),
         Some(value) => bankruptcy(value),
     };
-    found.map_err(|kind| Finding { kind, part })
+    at_key(place, Key::Bankruptcy, found)
 }
 
 /// What follows where a critical budget is exceeded, where it is given.
 pub fn optional_bankruptcy_at(table: &Table, place: Place) -> Result<Option<Bankruptcy>, Finding>
     ensures { result ≡ value_of (optional row_bankruptcy) place (table_view table.now) }
 {
-    let part = Part::At(place, Key::Bankruptcy);
     let found = match value_at(table, Key::Bankruptcy) {
         None => Ok(None),
         Some(value) => match bankruptcy(value) {
@@ -139,29 +135,27 @@ pub fn optional_bankruptcy_at(table: &Table, place: Place) -> Result<Option<Bank
             Err(kind) => Err(kind),
         },
     };
-    found.map_err(|kind| Finding { kind, part })
+    at_key(place, Key::Bankruptcy, found)
 }
 
 /// The policy of a thread: first in, first out where it isn't given.
 pub fn policy_at(table: &Table, place: Place) -> Result<Policy, Finding>
     ensures { result ≡ value_of row_policy place (table_view table.now) }
 {
-    let part = Part::At(place, Key::Policy);
     let found = match value_at(table, Key::Policy) {
         None => Ok(Policy::Fifo),
         Some(value) => policy(value),
     };
-    found.map_err(|kind| Finding { kind, part })
+    at_key(place, Key::Policy, found)
 }
 
 /// The kind of a command, which has to be there.
 pub fn kind_at(table: &Table, place: Place) -> Result<CommandKind, Finding>
     ensures { result ≡ value_of row_kind place (table_view table.now) }
 {
-    let part = Part::At(place, Key::Do);
     let found = match value_at(table, Key::Do) {
         None => Err(Kind::Missing),
         Some(value) => command_kind(value),
     };
-    found.map_err(|kind| Finding { kind, part })
+    at_key(place, Key::Do, found)
 }

@@ -1,7 +1,8 @@
 //! The timed commands as an array of tables.
-ghost use Rattle.std.specs.Prelude.{◌≡◌, ◌<◌, ◌≤◌, ℕ, length, IfOk, OnOk, All, IfSome};
+ghost use Rattle.std.specs.Prelude.{◌≡◌, ◌<◌, ◌≤◌, ℕ, [], length, IfOk, OnOk, All, IfSome};
 ghost use Rattle.toml.specs.Data.{Data, string, boolean};
 ghost use Rattle.toml.specs.View.{view, table_view};
+ghost use Rattle.aps_model.specs.declared.command.Call.TheVariants as call;
 ghost use Rattle.aps_model.specs.declared.shape.Free.{Free as FreeType};
 ghost use Rattle.aps_model.specs.declared.shape.Bankruptcy.{Bankruptcy as BankruptcyType};
 ghost use Rattle.aps_model.specs.Valid.{IsCall, IsCommand};
@@ -103,6 +104,61 @@ fn put_partition(alloc: Global, table: &mut Table, partition: &Name) -> Result<(
     put_text(alloc, table, Key::Partition, text_of(partition))
 }
 
+/// Puts the keys of a creation.
+fn put_creation(
+    alloc: Global,
+    table: &mut Table,
+    name: &Name,
+    parent: &Name,
+    budget: u16,
+    critical: u64,
+    max: u16,
+) -> Result<(), NoMemory>
+    requires { critical ≤ 64000000000 }
+    ensures { OnOk result (table_view table.new ≡ call_members [] (call.Create name.now parent.now budget critical max) (table_view table.old)) }
+{
+    put_text(alloc, table, Key::Name, text_of(name))?;
+    put_text(alloc, table, Key::Parent, text_of(parent))?;
+    put_number(alloc, table, Key::Budget, u64::from(budget))?;
+    put_number(alloc, table, Key::Critical, critical)?;
+    put_number(alloc, table, Key::Max, u64::from(max))
+}
+
+/// Puts the keys of a modification.
+fn put_modification(
+    alloc: Global,
+    table: &mut Table,
+    partition: &Name,
+    budget: Option<u16>,
+    critical: Option<u64>,
+    max: Option<u16>,
+) -> Result<(), NoMemory>
+    requires { IfSome critical (λ n. n ≤ 64000000000) }
+    ensures { OnOk result (table_view table.new ≡ call_members [] (call.Modify partition.now budget critical max) (table_view table.old)) }
+{
+    put_partition(alloc, table, partition)?;
+    put_some_parts(alloc, table, Key::Budget, budget)?;
+    put_some_number(alloc, table, Key::Critical, critical)?;
+    put_some_parts(alloc, table, Key::Max, max)
+}
+
+/// Puts the keys of a setting of parameters.
+fn put_parameters(
+    alloc: Global,
+    table: &mut Table,
+    window: Option<u16>,
+    free: Option<Free>,
+    limit: Option<bool>,
+    bankruptcy: Option<Bankruptcy>,
+) -> Result<(), NoMemory>
+    ensures { OnOk result (table_view table.new ≡ call_members [] (call.SetParameters window free limit bankruptcy) (table_view table.old)) }
+{
+    put_some_parts(alloc, table, Key::Window, window)?;
+    put_some_free(alloc, table, free)?;
+    put_some_truth(alloc, table, Key::Limit, limit)?;
+    put_some_bankruptcy(alloc, table, bankruptcy)
+}
+
 /// Puts the keys that a command has beside its tick and its kind.
 fn put_call(
     alloc: Global,
@@ -120,24 +176,13 @@ fn put_call(
             budget,
             critical,
             max,
-        } => {
-            put_text(alloc, table, Key::Name, text_of(name))?;
-            put_text(alloc, table, Key::Parent, text_of(parent))?;
-            put_number(alloc, table, Key::Budget, u64::from(*budget))?;
-            put_number(alloc, table, Key::Critical, *critical)?;
-            put_number(alloc, table, Key::Max, u64::from(*max))
-        }
+        } => put_creation(alloc, table, name, parent, *budget, *critical, *max),
         Call::Modify {
             partition,
             budget,
             critical,
             max,
-        } => {
-            put_partition(alloc, table, partition)?;
-            put_some_parts(alloc, table, Key::Budget, *budget)?;
-            put_some_number(alloc, table, Key::Critical, *critical)?;
-            put_some_parts(alloc, table, Key::Max, *max)
-        }
+        } => put_modification(alloc, table, partition, *budget, *critical, *max),
         Call::Lookup { partition }
         | Call::QueryPartition { partition }
         | Call::Statistics { partition } => put_partition(alloc, table, partition),
@@ -150,12 +195,7 @@ fn put_call(
             free,
             limit,
             bankruptcy,
-        } => {
-            put_some_parts(alloc, table, Key::Window, *window)?;
-            put_some_free(alloc, table, *free)?;
-            put_some_truth(alloc, table, Key::Limit, *limit)?;
-            put_some_bankruptcy(alloc, table, *bankruptcy)
-        }
+        } => put_parameters(alloc, table, *window, *free, *limit, *bankruptcy),
     }
 }
 
