@@ -13,6 +13,10 @@ pub record Output : Type 0 where
   pub faults_before : ℕ
   pub faults : ℕ
 
+abbrev pub output_of : (before after : Option (List ℕ)) → (faults_before faults : ℕ) → Output
+output_of before after faults_before faults =
+    record { before = before; after = after; faults_before = faults_before; faults = faults }
+
 abbrev pub WritesWhole : Output → List ℕ → Type 0
 WritesWhole output text = Appends output.before output.after text
 

@@ -15,6 +15,10 @@ pub record Reading : Type 0 where
   pub faults_before : ℕ
   pub faults : ℕ
 
+abbrev pub reading_of : List ℕ → Option (List ℕ) → (faults_before faults : ℕ) → Reading
+reading_of bytes left faults_before faults =
+    record { bytes = bytes; left = left; faults_before = faults_before; faults = faults }
+
 -- the most bytes that are taken as a scenario
 abbrev pub most_bytes : ℕ
 most_bytes = 1048576

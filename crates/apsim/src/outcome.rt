@@ -7,7 +7,8 @@ ghost use Rattle.aps_model.specs.declared.entry.Order.TheVariants.{Fixed};
 ghost use Rattle.apsim.specs.Asked.{calm_command};
 ghost use Rattle.apsim.specs.Cause.{HasCause, FollowsReading, FollowsNumbers};
 ghost use Rattle.apsim.specs.Outcome.{history_of, status_of, text_of, refusal_text};
-ghost use Rattle.apsim.specs.Printing.{Prints};
+ghost use Rattle.apsim.specs.Printing.{Prints, output_of};
+ghost use Rattle.apsim.specs.Reading.{reading_of};
 
 use crate::printing::print;
 use crate::report::print_report;
@@ -59,12 +60,7 @@ impl Outcome {
         ensures { (bytes : List ℕ) × Consumes (S.left source.old) (S.left source.new) bytes
             × HasCause (record {
               asked = calm_command (map string_bytes words.now);
-              reading = record {
-                bytes = bytes;
-                left = S.left source.new;
-                faults_before = S.faults source.old;
-                faults = S.faults source.new;
-              };
+              reading = reading_of bytes (S.left source.new) (S.faults source.old) (S.faults source.new);
             }) result }
     {
         match command_of(alloc, words) {
@@ -87,12 +83,8 @@ impl Outcome {
         requires some { 1 ≤ limit }
         requires few { limit ≤ 4000000 }
         ensures { (bytes : List ℕ) × Consumes (S.left source.old) (S.left source.new) bytes
-            × FollowsReading (record {
-              bytes = bytes;
-              left = S.left source.new;
-              faults_before = S.faults source.old;
-              faults = S.faults source.new;
-            }) (record { order = Fixed; report = report; limit = limit }) result }
+            × FollowsReading (reading_of bytes (S.left source.new) (S.faults source.old) (S.faults source.new))
+            (record { order = Fixed; report = report; limit = limit }) result }
     {
         match begin(alloc, Order::Fixed, limit, source) {
             Ok(core) => {
@@ -120,12 +112,8 @@ impl Outcome {
         requires some { 1 ≤ limit }
         requires few { limit ≤ 4000000 }
         ensures { (bytes : List ℕ) × Consumes (S.left source.old) (S.left source.new) bytes
-            × FollowsReading (record {
-              bytes = bytes;
-              left = S.left source.new;
-              faults_before = S.faults source.old;
-              faults = S.faults source.new;
-            }) (record { order = order; report = report; limit = limit }) result }
+            × FollowsReading (reading_of bytes (S.left source.new) (S.faults source.old) (S.faults source.new))
+            (record { order = order; report = report; limit = limit }) result }
     {
         match begin(alloc, order, limit, source) {
             Ok(core) => {
@@ -158,12 +146,8 @@ impl Outcome {
 
     /// Writes the text of the outcome, and gives the status that comes of it.
     pub fn say<K: Sink>(&self, alloc: Global, sink: &mut K) -> Status
-        ensures { Prints (record {
-          before = K.written sink.old;
-          after = K.written sink.new;
-          faults_before = K.faults sink.old;
-          faults = K.faults sink.new;
-        }) (text_of self.now) (status_of self.now) result }
+        ensures { Prints (output_of (K.written sink.old) (K.written sink.new) (K.faults sink.old) (K.faults sink.new))
+            (text_of self.now) (status_of self.now) result }
     {
         match self {
             Outcome::WordsRefused => print(sink, b"aps: words refused\n", Status::WordsRefused),

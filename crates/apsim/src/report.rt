@@ -3,7 +3,7 @@ ghost use Rattle.aps_model.specs.Audit.{audit_of};
 ghost use Rattle.aps_model.specs.Journal.{journal_text};
 ghost use Rattle.aps_model.specs.Report.{summary_text, windows_text};
 ghost use Rattle.apsim.specs.Outcome.{report_text};
-ghost use Rattle.apsim.specs.Printing.{Prints};
+ghost use Rattle.apsim.specs.Printing.{Prints, output_of};
 
 use crate::printing::print;
 use crate::status::Status;
@@ -22,12 +22,8 @@ pub fn print_report<K: Sink>(
     status: Status,
     sink: &mut K,
 ) -> Status
-    ensures { Prints (record {
-      before = K.written sink.old;
-      after = K.written sink.new;
-      faults_before = K.faults sink.old;
-      faults = K.faults sink.new;
-    }) (report_text report history.now) status result }
+    ensures { Prints (output_of (K.written sink.old) (K.written sink.new) (K.faults sink.old) (K.faults sink.new))
+        (report_text report history.now) status result }
 {
     match report {
         Report::Summary => print_summary(alloc, history, status, sink),
@@ -37,12 +33,8 @@ pub fn print_report<K: Sink>(
 }
 
 fn print_summary<K: Sink>(alloc: Global, history: &History, status: Status, sink: &mut K) -> Status
-    ensures { Prints (record {
-      before = K.written sink.old;
-      after = K.written sink.new;
-      faults_before = K.faults sink.old;
-      faults = K.faults sink.new;
-    }) (summary_text history.now (audit_of history.now)) status result }
+    ensures { Prints (output_of (K.written sink.old) (K.written sink.new) (K.faults sink.old) (K.faults sink.new))
+        (summary_text history.now (audit_of history.now)) status result }
 {
     match summary(alloc, history, &audit(history)) {
         Ok(text) => print(sink, text.as_bytes(), status),
@@ -51,12 +43,8 @@ fn print_summary<K: Sink>(alloc: Global, history: &History, status: Status, sink
 }
 
 fn print_windows<K: Sink>(alloc: Global, history: &History, status: Status, sink: &mut K) -> Status
-    ensures { Prints (record {
-      before = K.written sink.old;
-      after = K.written sink.new;
-      faults_before = K.faults sink.old;
-      faults = K.faults sink.new;
-    }) (windows_text history.now) status result }
+    ensures { Prints (output_of (K.written sink.old) (K.written sink.new) (K.faults sink.old) (K.faults sink.new))
+        (windows_text history.now) status result }
 {
     match windows(alloc, history) {
         Ok(text) => print(sink, text.as_bytes(), status),
@@ -65,12 +53,8 @@ fn print_windows<K: Sink>(alloc: Global, history: &History, status: Status, sink
 }
 
 fn print_journal<K: Sink>(alloc: Global, history: &History, status: Status, sink: &mut K) -> Status
-    ensures { Prints (record {
-      before = K.written sink.old;
-      after = K.written sink.new;
-      faults_before = K.faults sink.old;
-      faults = K.faults sink.new;
-    }) (journal_text history.now.entries) status result }
+    ensures { Prints (output_of (K.written sink.old) (K.written sink.new) (K.faults sink.old) (K.faults sink.new))
+        (journal_text history.now.entries) status result }
 {
     match journal(alloc, history, sink) {
         Ok(()) => status,

@@ -2,7 +2,7 @@
 ghost use Rattle.std.specs.Prelude.{◌≡◌, ◌≤◌, ℕ, List, []};
 ghost use Rattle.std.specs.Io.KnownBytes.{Consumes};
 ghost use Rattle.apsim.specs.Outcome.{of_refusal};
-ghost use Rattle.apsim.specs.Reading.{Begins, StartsText};
+ghost use Rattle.apsim.specs.Reading.{Begins, StartsText, reading_of};
 ghost use Rattle.apsim.specs.Run.{IsRun};
 
 use crate::outcome::Outcome;
@@ -26,12 +26,7 @@ pub fn begin<S: Source>(
     requires some { 1 ≤ limit }
     requires few { limit ≤ 4000000 }
     ensures { (bytes : List ℕ) × Consumes (S.left source.old) (S.left source.new) bytes
-        × Begins (record {
-          bytes = bytes;
-          left = S.left source.new;
-          faults_before = S.faults source.old;
-          faults = S.faults source.new;
-        }) order limit result }
+        × Begins (reading_of bytes (S.left source.new) (S.faults source.old) (S.faults source.new)) order limit result }
 {
     match read_all(alloc, source, MOST_BYTES) {
         Ok(bytes) => begin_text(alloc, &bytes, order, limit),
@@ -52,10 +47,7 @@ fn begin_text(alloc: Global, bytes: &[u8], order: Order, limit: u32) -> Result<C
         Ok(scenario) => scenario,
         Err(refusal) => return Err(of_refusal(&refusal)),
     };
-    match Core::boot(alloc, scenario, order, limit) {
-        Ok(core) => Ok(core),
-        Err(_) => Err(Outcome::NoMemory),
-    }
+    Core::boot(alloc, scenario, order, limit).map_err(|_| Outcome::NoMemory)
 }
 
 /// What comes of a text that is no scenario.

@@ -25,6 +25,18 @@ window 0 5000000 5000000
 window 10 5000000 5000000
 ";
 
+const REBOOTED: &str = r#"version = 1
+cpus = 1
+window = 10
+ticks = 20
+bankruptcy = "reboot"
+partition = [{name = "A", budget = 0, critical = 1500000}]
+thread = [
+  {name = "s", program = ["run forever"]},
+  {name = "k", partition = "A", priority = 20, critical = true, program = ["run forever"]},
+]
+"#;
+
 // The helpers have no clauses, so that the checks of the tests below are about what a run gives.
 
 fn bytes_of(alloc: Global, text: &str) -> Result<Vec<u8>, AllocError> {
@@ -179,11 +191,13 @@ fn the_second_read_fails(rt: HostRuntime) -> Result<(), Fail> {
 #[test]
 fn the_first_write_fails(rt: HostRuntime) -> Result<(), Fail> {
     let alloc = rt.alloc();
-    let mut source = CalmSource::new(bytes_of(alloc, TWO_EQUAL)?);
-    let mut sink = MemSink::new(Vec::new(alloc), vec![in alloc; 0]?);
-    let ended = call(alloc, &["solo"], &mut source, &mut sink)?;
-    assert_eq!(rt; ended.status, 5);
-    assert_eq!(rt; sink.written().len(), 0);
-    assert_eq!(rt; entries_of(&ended.history), Some(21));
+    for (input, status, entries) in [(TWO_EQUAL, 5, 21), (REBOOTED, 3, 3)] {
+        let mut source = CalmSource::new(bytes_of(alloc, input)?);
+        let mut sink = MemSink::new(Vec::new(alloc), vec![in alloc; 0]?);
+        let ended = call(alloc, &["solo"], &mut source, &mut sink)?;
+        assert_eq!(rt; ended.status, status);
+        assert_eq!(rt; sink.written().len(), 0);
+        assert_eq!(rt; entries_of(&ended.history), Some(entries));
+    }
     Ok(())
 }

@@ -5,6 +5,8 @@ ghost use Rattle.aps_words.specs.Command.{command};
 ghost use Rattle.apsim.specs.declared.outcome.Outcome.{Outcome};
 ghost use Rattle.apsim.specs.Asked.{calm_command};
 ghost use Rattle.apsim.specs.Cause.{HasCause};
+ghost use Rattle.apsim.specs.Printing.{output_of};
+ghost use Rattle.apsim.specs.Reading.{reading_of};
 ghost use Rattle.apsim.specs.Answers.{Tells, Answers};
 
 use crate::outcome::Outcome;
@@ -43,35 +45,15 @@ pub fn calm_top<S: Source, K: Sink>(
     ensures outcome { (bytes : List ℕ) × (outcome : Outcome) × Consumes (S.left source.old) (S.left source.new) bytes
         × HasCause (record {
           asked = calm_command (map string_bytes words.now);
-          reading = record {
-            bytes = bytes;
-            left = S.left source.new;
-            faults_before = S.faults source.old;
-            faults = S.faults source.new;
-          };
+          reading = reading_of bytes (S.left source.new) (S.faults source.old) (S.faults source.new);
         }) outcome
-        × Tells outcome (record {
-          before = K.written sink.old;
-          after = K.written sink.new;
-          faults_before = K.faults sink.old;
-          faults = K.faults sink.new;
-        }) result }
+        × Tells outcome (output_of (K.written sink.old) (K.written sink.new) (K.faults sink.old) (K.faults sink.new)) result }
     // So each status comes in its case.
     ensures statuses { (bytes : List ℕ) × Consumes (S.left source.old) (S.left source.new) bytes
         × Answers (record {
           asked = calm_command (map string_bytes words.now);
-          reading = record {
-            bytes = bytes;
-            left = S.left source.new;
-            faults_before = S.faults source.old;
-            faults = S.faults source.new;
-          };
-        }) (record {
-          before = K.written sink.old;
-          after = K.written sink.new;
-          faults_before = K.faults sink.old;
-          faults = K.faults sink.new;
-        }) result }
+          reading = reading_of bytes (S.left source.new) (S.faults source.old) (S.faults source.new);
+        }) (output_of (K.written sink.old) (K.written sink.new) (K.faults sink.old) (K.faults sink.new)) result }
 {
     let outcome = Outcome::of(alloc, words, source);
     tell(alloc, outcome, sink)
@@ -95,35 +77,15 @@ pub fn top<R: Threads + Wait + Sync, S: Source, K: Sink, G: Gate + Sync>(
     ensures outcome { (bytes : List ℕ) × (outcome : Outcome) × Consumes (S.left source.old) (S.left source.new) bytes
         × HasCause (record {
           asked = command (map string_bytes words.now);
-          reading = record {
-            bytes = bytes;
-            left = S.left source.new;
-            faults_before = S.faults source.old;
-            faults = S.faults source.new;
-          };
+          reading = reading_of bytes (S.left source.new) (S.faults source.old) (S.faults source.new);
         }) outcome
-        × Tells outcome (record {
-          before = K.written sink.old;
-          after = K.written sink.new;
-          faults_before = K.faults sink.old;
-          faults = K.faults sink.new;
-        }) result }
+        × Tells outcome (output_of (K.written sink.old) (K.written sink.new) (K.faults sink.old) (K.faults sink.new)) result }
     // So each status comes in its case.
     ensures statuses { (bytes : List ℕ) × Consumes (S.left source.old) (S.left source.new) bytes
         × Answers (record {
           asked = command (map string_bytes words.now);
-          reading = record {
-            bytes = bytes;
-            left = S.left source.new;
-            faults_before = S.faults source.old;
-            faults = S.faults source.new;
-          };
-        }) (record {
-          before = K.written sink.old;
-          after = K.written sink.new;
-          faults_before = K.faults sink.old;
-          faults = K.faults sink.new;
-        }) result }
+          reading = reading_of bytes (S.left source.new) (S.faults source.old) (S.faults source.new);
+        }) (output_of (K.written sink.old) (K.written sink.new) (K.faults sink.old) (K.faults sink.new)) result }
 {
     match command_of(alloc, words) {
         Ok(
@@ -145,12 +107,7 @@ pub fn top<R: Threads + Wait + Sync, S: Source, K: Sink, G: Gate + Sync>(
 
 /// Writes the text of the outcome to the sink, and hands back the status and the history.
 fn tell<K: Sink>(alloc: Global, outcome: Outcome, sink: &mut K) -> Ended
-    ensures { Tells outcome (record {
-      before = K.written sink.old;
-      after = K.written sink.new;
-      faults_before = K.faults sink.old;
-      faults = K.faults sink.new;
-    }) result }
+    ensures { Tells outcome (output_of (K.written sink.old) (K.written sink.new) (K.faults sink.old) (K.faults sink.new)) result }
 {
     let status = outcome.say(alloc, sink);
     Ended {
