@@ -47,7 +47,10 @@ fn begin_text(alloc: Global, bytes: &[u8], order: Order, limit: u32) -> Result<C
         Ok(scenario) => scenario,
         Err(refusal) => return Err(of_refusal(&refusal)),
     };
-    Core::boot(alloc, scenario, order, limit).map_err(|_| Outcome::NoMemory)
+    match Core::boot(alloc, scenario, order, limit) {
+        Ok(core) => Ok(core),
+        Err(_) => Err(Outcome::NoMemory),
+    }
 }
 
 /// What comes of a text that is no scenario.
