@@ -1,5 +1,5 @@
 //! The simulated scheduler: it boots a scenario and makes the steps of its processors, and keeps the history of the run.
-//! Threads of several processors share it under a lock above, and the checker of journals replays by it.
+//! Threads of several processors share it under a lock above.
 #![tactic(auto)]
 
 mod carried;
