@@ -1,7 +1,6 @@
 use Rattle.std.proofs.Common.{◌≡◌, ℕ, zero, suc, ◌+◌, List, [], ◌∷◌, ◌++◌, ◌<◌, map, refl, sym, ap, ◌∙◌, add-one, arith}
-use Rattle.std.specs.List.{fold, flat_map, range_with_len}
+use Rattle.std.specs.List.{flat_map, range_with_len}
 use Rattle.std.proofs.lemmas.List.{flat_map_more}
-use Rattle.std.proofs.lemmas.List.Sums.{fold-append}
 
 range_suc : (a n : ℕ) → range_with_len a (suc n) ≡ range_with_len a n ++ (a + n) ∷ []
 range_suc a zero = let e : a ≡ a + 0 = omega arith in ap (λ x. x ∷ []) e
