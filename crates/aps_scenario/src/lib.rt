@@ -16,8 +16,6 @@ mod reading;
 mod refusal;
 mod row;
 mod sizes;
-#[cfg(test)]
-mod tests;
 mod threads;
 mod upgrading;
 mod words;

@@ -10,8 +10,6 @@ mod commands;
 mod operations;
 mod partitions;
 mod table;
-#[cfg(test)]
-mod tests;
 mod threads;
 mod words;
 

@@ -1,0 +1,7 @@
+//! Scenarios as texts, whose readings and refusals come from outside.
+mod commands;
+mod cut;
+mod printed;
+mod read;
+mod refused;
+mod texts;

@@ -1,0 +1,109 @@
+//! Texts that are printed.
+use aps_model::{Scenario, ThreadRow};
+use aps_scenario::{print, scenario_of};
+use std::test::Fail;
+
+const CHAIN_OF_SERVERS: &str = r#"version = 1
+cpus = 1
+window = 10
+ticks = 1
+partition = [
+  {name = "A", budget = 25}, {name = "B", budget = 25}, {name = "C", budget = 25},
+]
+channel = [{name = "c1"}, {name = "c2"}, {name = "c3"}]
+thread = [
+  {name = "x", priority = 40, program = ["receive c1", "send c2", "reply", "repeat"]},
+  {name = "y", partition = "B", priority = 30, program = ["receive c2", "join System", "send c3", "reply", "repeat"]},
+  {name = "z", partition = "C", priority = 20, program = ["receive c3", "run 10000", "reply", "repeat"]},
+  {name = "k", partition = "A", program = ["send c1", "exit"]},
+]
+"#;
+
+const COMMANDS_ON_THE_TREE: &str = r#"version = 1
+cpus = 1
+window = 10
+ticks = 6
+partition = [{name = "A", budget = 40}]
+thread = [
+  {name = "s", program = ["run forever"]},
+  {name = "a", partition = "A", program = ["run forever"]},
+]
+command = [
+  {tick = 1, do = "create", name = "B", parent = "A", budget = 15},
+  {tick = 2, do = "create", name = "C", parent = "A", budget = 26},
+  {tick = 3, do = "query_partition", partition = "A"},
+  {tick = 3, do = "modify", partition = "B", budget = 41},
+  {tick = 4, do = "lookup", partition = "B"},
+]
+"#;
+
+const PARTS_OF_A_THOUSAND: &str = r#"version = 2
+cpus = 2
+ticks = 9
+free = "ratio"
+limit = true
+bankruptcy = "reboot"
+partition = [
+  {name = "A", budget = 400},
+  {name = "B", parent = "A", budget = 150, critical = 64000000000, max = 900},
+  {name = "C", parent = "B", budget = 25},
+]
+thread = [{name = "s", partition = "C", policy = "rr", critical = true, program = ["sleep 1", "join N", "priority 255", "critical off", "exit"]}]
+command = [
+  {tick = 0, do = "set_parameters", window = 8, limit = false},
+  {tick = 8, do = "create", name = "N", budget = 1000},
+  {tick = 8, do = "mark_critical", thread = "s"},
+]
+"#;
+
+fn is_same_thread(a: &ThreadRow, b: &ThreadRow) -> bool {
+    a.name == b.name
+        && a.partition == b.partition
+        && a.priority == b.priority
+        && a.policy == b.policy
+        && a.critical == b.critical
+        && a.program.ops() == b.program.ops()
+}
+
+fn are_same_threads(a: &[ThreadRow], b: &[ThreadRow]) -> bool {
+    if a.len() != b.len() {
+        return false;
+    }
+    for i in 0..a.len() {
+        if !is_same_thread(&a[i], &b[i]) {
+            return false;
+        }
+    }
+    true
+}
+
+fn is_same(a: &Scenario, b: &Scenario) -> bool {
+    a.shape() == b.shape()
+        && a.partitions() == b.partitions()
+        && a.channels() == b.channels()
+        && are_same_threads(a.threads(), b.threads())
+        && a.commands() == b.commands()
+}
+
+#[test]
+fn what_is_printed_is_read_again(rt: HostRuntime) -> Result<(), Fail> {
+    for text in [CHAIN_OF_SERVERS, COMMANDS_ON_THE_TREE, PARTS_OF_A_THOUSAND] {
+        let scenario = scenario_of(rt.alloc(), text.as_bytes())?;
+        let printed = print(rt.alloc(), &scenario)?;
+        let again = scenario_of(rt.alloc(), printed.as_bytes())?;
+        assert!(rt; is_same(&scenario, &again));
+    }
+    Ok(())
+}
+
+/// A partition's budget in a text is what it has before its children take theirs.
+#[test]
+fn budgets_are_printed_as_a_text_gives_them(rt: HostRuntime) -> Result<(), Fail> {
+    let scenario = scenario_of(rt.alloc(), PARTS_OF_A_THOUSAND.as_bytes())?;
+    let printed = print(rt.alloc(), &scenario)?;
+    assert!(rt; printed.contains("version = 2\n"));
+    assert!(rt; printed.contains("budget = 400\n"));
+    assert!(rt; printed.contains("budget = 150\n"));
+    assert!(rt; printed.contains("budget = 25\n"));
+    Ok(())
+}
