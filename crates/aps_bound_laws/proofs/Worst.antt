@@ -87,8 +87,8 @@ module _ (amount : ℕ → ℕ → ℕ) (past next : ℕ → ℕ → Type 0) (b 
     first = λ a p is earlier. elim (known a p is) [
       | inl old ↦ worst.first a p old earlier
       | inr same ↦ absurd (not_both b q best.window best.partition
-        (subst (λ x. IsEarlier x q best.window best.partition) same.0 (subst (λ y. IsEarlier a y best.window best.partition) same.1 earlier))
-        (last best.window best.partition worst.place))
+          (subst (λ x. IsEarlier x q best.window best.partition) same.0 (subst (λ y. IsEarlier a y best.window best.partition) same.1 earlier))
+          (last best.window best.partition worst.place))
     ];
   }
 
@@ -115,10 +115,14 @@ rows_tell amount s rows a i (suc n) end found from is inside tells =
     (one_more amount (Before s rows a i) (Before s rows a (i + 1)) a i kept (from, omega (arith, is, inside), inr (refl, omega arith)) known (λ b p m. earlier b p m.2) found tells)
   where
     kept : (b p : ℕ) → Before s rows a i b p → Before s rows a (i + 1) b p
-    kept b p m = (m.0, m.1, elim m.2 [
-      | inl less ↦ inl less
-      | inr below ↦ inr (below.0, omega (arith, below.1))
-    ])
+    kept b p m = (
+      m.0,
+      m.1,
+      elim m.2 [
+        | inl less ↦ inl less
+        | inr below ↦ inr (below.0, omega (arith, below.1))
+      ],
+    )
 
     -- the new place is apart from those so far
     known : (b p : ℕ) → Before s rows a (i + 1) b p → Before s rows a i b p ⊎ ((b ≡ a) × (p ≡ i))
@@ -146,19 +150,27 @@ windows_tell amount s rows a (suc n) end found from is tells =
     (same_places amount (Before s rows a rows) (Before s rows (a + 1) 0) row over back (rows_tell amount s rows a 0 rows rows found from (omega arith) (omega arith) tells))
   where
     over : (b p : ℕ) → Before s rows a rows b p → Before s rows (a + 1) 0 b p
-    over b p m = (m.0, m.1, elim m.2 [
-      | inl less ↦ inl (omega (arith, less))
-      | inr here ↦ inl (omega (arith, here.0))
-    ])
+    over b p m = (
+      m.0,
+      m.1,
+      elim m.2 [
+        | inl less ↦ inl (omega (arith, less))
+        | inr here ↦ inl (omega (arith, here.0))
+      ],
+    )
 
     back : (b p : ℕ) → Before s rows (a + 1) 0 b p → Before s rows a rows b p
-    back b p m = (m.0, m.1, elim m.2 [
-      | inl less ↦ elim (cases_lt b a) [
-        | inl under ↦ inl under
-        | inr above ↦ inr (omega (arith, less, above), m.1)
-      ]
-      | inr none ↦ absurd (omega (arith, none.1))
-    ])
+    back b p m = (
+      m.0,
+      m.1,
+      elim m.2 [
+        | inl less ↦ elim (cases_lt b a) [
+          | inl under ↦ inl under
+          | inr above ↦ inr (omega (arith, less, above), m.1)
+        ]
+        | inr none ↦ absurd (omega (arith, none.1))
+      ],
+    )
 
 -- over windows that follow one another
 pub worst_told : (amount : ℕ → ℕ → ℕ) (s n rows : ℕ)
