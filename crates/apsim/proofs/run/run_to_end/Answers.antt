@@ -4,6 +4,7 @@ use Rattle.aps_laws.proofs.FixedRun.{run_is_one}
 use Rattle.aps_model.specs.declared.entry.Order.TheVariants.{Fixed}
 use Rattle.aps_model.specs.Legal.{IsLegal, fixed_run}
 use Rattle.aps_model.specs.Bound.{KeepsWindowBound, KeepsCriticalBound}
+use Rattle.aps_model.specs.Tiled.{IsTiled, IsBilledAsInherited}
 use Rattle.aps_model.specs.History.{History}
 use Rattle.aps_laws.specs.Choices.{EachPickIsGreatest}
 use Rattle.apsim.proofs.run.run_to_end.Goals as goal
@@ -24,8 +25,8 @@ returns-clause-run c =
       ended = search rules;
       no_sooner = search rules;
       legal = search rules;
-      tiled = search rules;
-      billed = search rules;
+      tiled = subst (λ (h : History). IsTiled h.scenario.shape.tick h.entries) (sym known.same) known.tiled;
+      billed = subst (λ (h : History). IsBilledAsInherited h.scenario h.entries) (sym known.same) known.billed;
       picks = subst (λ (h : History). EachPickIsGreatest h.scenario h.entries) (sym known.same) known.picks;
       bound = subst (λ (h : History). KeepsWindowBound h.scenario h.entries) (sym known.same) known.bound;
       critical_bound = subst (λ (h : History). KeepsCriticalBound h.scenario h.entries) (sym known.same) known.critical_bound;
