@@ -1,7 +1,7 @@
 #!/bin/sh
 # Writes the theorem of each worked scenario in tools/rows/, and the list of them.
 cd "$(dirname "$0")/.." || exit 1
-out=crates/aps_model/proofs/Rows
+out=crates/aps_rows/proofs/Rows
 mkdir -p $out
 : > $out.antt
 for file in tools/rows/*.toml; do
@@ -10,4 +10,4 @@ for file in tools/rows/*.toml; do
   python3 tools/row.py "$file" $more > "$out/$name.antt" || exit 1
   echo "pub mod $name" >> $out.antt
 done
-(cd crates/aps_model && rt fmt)
+(cd crates/aps_rows && rt fmt)

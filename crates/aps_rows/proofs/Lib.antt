@@ -1,0 +1,7 @@
+pub mod Line
+pub mod Checks
+mod Rows
+mod MoreRows
+mod TreeRows
+mod MoreChecks
+mod ValidExample
