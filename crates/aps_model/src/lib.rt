@@ -33,4 +33,4 @@ pub use program::{Op, Program};
 pub use scenario::{Policy, Scenario, ThreadRow};
 pub use shape::{Bankruptcy, Free, Shape};
 pub use state::{CpuNow, Facts, Pick, State, ThreadNow};
-pub use usage::overlap;
+pub use usage::{Usage, overlap};

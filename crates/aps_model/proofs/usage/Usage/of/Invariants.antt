@@ -1,0 +1,9 @@
+use Rattle.std.proofs.Common.{◌*◌, take}
+use Rattle.aps_model.specs.Sums.{IsAtMost, IsUsage}
+use Rattle.aps_model.proofs.usage.Usage.of.Given as goal
+
+abbrev pub invariant-loop-e : goal.invariant-loop-e
+invariant-loop-e l = record {
+  same : IsUsage l.tick l.a l.b (take l.e-index l.entries) l.usage;
+  small : IsAtMost (10000000 * l.e-index) l.usage;
+}
