@@ -37,6 +37,57 @@ thread = [
 ]
 "#;
 
+const MISSING_VERSION: &str = "aps: scenario refused: missing version\n";
+
+/// Texts that are no scenario, with what is written of each.
+const REFUSED_INPUTS: [(&str, &str); 6] = [
+    ("", MISSING_VERSION),
+    (r#"version = "1"#, "aps: scenario refused: not-toml -\n"),
+    (
+        "version = 1\ncolour = 2\n",
+        "aps: scenario refused: unknown-key colour\n",
+    ),
+    (
+        r#"version = 1
+cpus = 1
+window = 10
+ticks = 20
+partition = [{name = "A", budget = 50}]
+thread = [
+  {name = "s", program = ["run forever"]},
+  {name = "a", partition = "Zed", program = ["run forever"]},
+]
+"#,
+        "aps: scenario refused: unknown-name thread[1].partition\n",
+    ),
+    (
+        r#"version = 1
+cpus = 1
+window = 10
+ticks = 20
+partition = [{name = "A", budget = 60}, {name = "B", budget = 41}]
+thread = [
+  {name = "s", program = ["run forever"]},
+  {name = "a", partition = "A", program = ["run forever"]},
+]
+"#,
+        "aps: scenario refused: budget-over partition[1].budget\n",
+    ),
+    (
+        r#"version = 1
+cpus = 1
+window = 7
+ticks = 20
+partition = [{name = "A", budget = 50}]
+thread = [
+  {name = "s", program = ["run forever"]},
+  {name = "a", partition = "A", program = ["run forever"]},
+]
+"#,
+        "aps: scenario refused: out-of-range window\n",
+    ),
+];
+
 // The helpers have no clauses, so that the checks of the tests below are about what a run gives.
 
 fn bytes_of(alloc: Global, text: &str) -> Result<Vec<u8>, AllocError> {
@@ -135,7 +186,16 @@ fn a_scenario_is_generated(rt: HostRuntime) -> Result<(), Fail> {
 #[test]
 fn other_words_are_refused(rt: HostRuntime) -> Result<(), Fail> {
     let alloc = rt.alloc();
-    let lists: [&[&str]; 4] = [&["fly"], &[], &["solo", "--limit=0"], &["run"]];
+    let lists: [&[&str]; 8] = [
+        &["fly"],
+        &[],
+        &["run"],
+        &["solo", "--limit", "0"],
+        &["solo", "--limit=0"],
+        &["solo", "--limit=007"],
+        &["solo", "--"],
+        &["solo", "--report", "summary", "--report", "windows"],
+    ];
     for words in lists {
         let (ended, sink) = calm(alloc, words, bytes_of(alloc, TWO_EQUAL)?)?;
         assert_eq!(rt; ended.status, 1);
@@ -148,21 +208,21 @@ fn other_words_are_refused(rt: HostRuntime) -> Result<(), Fail> {
 #[test]
 fn an_input_that_is_no_scenario_is_refused(rt: HostRuntime) -> Result<(), Fail> {
     let alloc = rt.alloc();
-    let (ended, sink) = solo(alloc, "")?;
+    for (input, refusal) in REFUSED_INPUTS {
+        let (ended, sink) = solo(alloc, input)?;
+        assert_eq!(rt; ended.status, 2);
+        assert_eq!(rt; sink.written(), refusal.as_bytes());
+        assert_eq!(rt; entries_of(&ended.history), None);
+    }
+    Ok(())
+}
+
+#[test]
+fn the_longest_input_is_read(rt: HostRuntime) -> Result<(), Fail> {
+    let alloc = rt.alloc();
+    let (ended, sink) = calm(alloc, &["solo"], comment(alloc, 1_048_576)?)?;
     assert_eq!(rt; ended.status, 2);
-    assert_eq!(rt;
-        sink.written(),
-        b"aps: scenario refused: missing version\n".as_slice()
-    );
-    let (ended, sink) = solo(alloc, "version = \"1")?;
-    assert_eq!(rt; ended.status, 2);
-    assert_eq!(rt;
-        sink.written(),
-        b"aps: scenario refused: not-toml -\n".as_slice()
-    );
-    let (ended, _) = calm(alloc, &["solo"], comment(alloc, 1_048_576)?)?;
-    assert_eq!(rt; ended.status, 2);
-    assert_eq!(rt; entries_of(&ended.history), None);
+    assert_eq!(rt; sink.written(), MISSING_VERSION.as_bytes());
     Ok(())
 }
 
