@@ -1,14 +1,13 @@
 -- Entries that ended before a window add nothing to its usage.
-use Rattle.std.proofs.Common.{◌≡◌, ℕ, ◌+◌, ◌-◌, ◌*◌, ◌≤◌, List, [], ◌∷◌, ◌++◌, length, map, take, drop, refl, sym, ◌∙◌, ap, cond, Bool, true, false, ◌&&◌, All, append_assoc, length-drop, arith}
-use Rattle.std.specs.List.{AllByRecursion, range_with_len, sum_by}
-use Rattle.std.proofs.lemmas.List.{append-nil, take-append-drop, take_all}
+use Rattle.std.proofs.Common.{◌≡◌, ℕ, ◌+◌, ◌-◌, ◌*◌, ◌≤◌, List, [], ◌∷◌, ◌++◌, length, take, drop, refl, ◌∙◌, ap, cond, slice_index, Bool, true, false, ◌&&◌, All, length-drop, arith}
+use Rattle.std.specs.List.{AllByRecursion, sum_by}
+use Rattle.std.proofs.lemmas.List.{take-append-drop, take_all}
 use Rattle.std.proofs.lemmas.List.Elements.{recursion_from_All}
 use Rattle.std.proofs.lemmas.List.Sums.{sum_by-append, sum_by-cons}
 use Rattle.aps_model.specs.declared.entry.Entry.{Entry}
-use Rattle.aps_model.specs.declared.partition.PartitionRow.{PartitionRow}
-use Rattle.aps_model.specs.declared.shape.Shape.{Shape}
-use Rattle.aps_model.specs.Budget.{all_parts, part_facts}
-use Rattle.aps_model.specs.Usage.{billed_by, critical_by, critical_used, names, overlap, used}
+use Rattle.aps_model.specs.declared.usage.Usage.{Usage}
+use Rattle.aps_model.specs.Sums.{IsBilled, IsUsage}
+use Rattle.aps_model.specs.Usage.{billed_by, critical_by, names, overlap}
 
 -- ended by this moment
 abbrev IsPast : ℕ → Entry → Type 0
@@ -35,54 +34,35 @@ nothing f moment (e ∷ h) zero past =
     let rest = nothing f moment h zero past.1 in
     sum_by-cons f e h ∙ omega (arith, here, rest)
 
--- a sum to which the first entries add nothing
-sum_recent : (f : Entry → ℕ) (moment k : ℕ) (h last : List Entry) → ((e : Entry) → e.to ≤ moment → f e ≡ 0) → All (IsPast moment) (take k h) → sum_by f (drop k h ++ last) ≡ sum_by f (h ++ last)
-sum_recent f moment k h last zero past =
+-- a sum to which the first entries add nothing, over the others, as a slice reads them
+sum_recent : (f : Entry → ℕ) (moment k : ℕ) (h : List Entry) → ((e : Entry) → e.to ≤ moment → f e ≡ 0) → All (IsPast moment) (take k h) → sum_by f (take (length h - k) (drop k h)) ≡ sum_by f h
+sum_recent f moment k h zero past =
     let none_before : sum_by f (take k h) ≡ 0 = nothing f moment (take k h) zero (recursion_from_All (IsPast moment) (take k h) past) in
-    let split : sum_by f (take k h ++ (drop k h ++ last)) ≡ sum_by f (take k h) + sum_by f (drop k h ++ last) = sum_by-append f (take k h) (drop k h ++ last) in
-    let whole : take k h ++ (drop k h ++ last) ≡ h ++ last =
-    sym (append_assoc (take k h) (drop k h) last) ∙ ap (λ g. g ++ last) (take-append-drop k h) in
-    omega (arith, split, none_before) ∙ ap (sum_by f) whole
+    let split : sum_by f (take k h ++ drop k h) ≡ sum_by f (take k h) + sum_by f (drop k h) = sum_by-append f (take k h) (drop k h) in
+    let rest : take (length h - k) (drop k h) ≡ drop k h = take_all (length h - k) (drop k h) (omega (arith, length-drop k h)) in
+    ap (sum_by f) rest ∙ omega (arith, split, none_before) ∙ ap (sum_by f) (take-append-drop k h)
 
-part_recent : (shape : Shape) (rows : List PartitionRow) (h last : List Entry) (j k p : ℕ) → All (IsPast ((j + 1 - shape.window) * shape.tick)) (take k h) → part_facts shape rows (drop k h ++ last) j p ≡ part_facts shape rows (h ++ last) j p
-part_recent shape rows h last j k p past =
-    let a = j + 1 - shape.window in
-    let spent : used shape.tick (drop k h ++ last) p a (j + 1) ≡ used shape.tick (h ++ last) p a (j + 1) =
-    sum_recent (billed_by shape.tick p a (j + 1)) (a * shape.tick) k h last (billed_before shape.tick p a (j + 1)) past in
-    let critical : critical_used shape.tick (drop k h ++ last) p a (j + 1) ≡ critical_used shape.tick (h ++ last) p a (j + 1) =
-    sum_recent (critical_by shape.tick p a (j + 1)) (a * shape.tick) k h last (critical_before shape.tick p a (j + 1)) past in
-    rw (spent, critical) refl
-
-map_same : {A B : Type 0} (f g : A → B) (xs : List A) → ((x : A) → f x ≡ g x) → map f xs ≡ map g xs
-map_same f g [] same = refl
-map_same f g (x ∷ xs) same = ap (λ y. y ∷ map f xs) (same x) ∙ ap (λ ys. g x ∷ ys) (map_same f g xs same)
-
--- the partitions over the entries that can matter
-pub parts_recent : (shape : Shape) (rows : List PartitionRow) (h last : List Entry) (j k : ℕ) → All (λ (e : Entry). e.to ≤ (j + 1 - shape.window) * shape.tick) (take k h)
-    → all_parts shape rows (drop k h ++ last) j ≡ all_parts shape rows (h ++ last) j
-parts_recent shape rows h last j k past =
-    map_same (part_facts shape rows (drop k h ++ last) j) (part_facts shape rows (h ++ last) j) (range_with_len 0 (length rows)) (λ p. part_recent shape rows h last j k p past)
-
--- the rest of a list, as a slice reads it
-pub rest_whole : (k : ℕ) (h : List Entry) → take (length h - k) (drop k h) ≡ drop k h
-rest_whole k h = take_all (length h - k) (drop k h) (omega (arith, length-drop k h))
-
--- ---- one partition, over the entries that can matter from the first tick of the window on, as a slice reads them
-
+-- the first entries ended before tick a
 abbrev pub ArePast : ℕ → ℕ → ℕ → List Entry → Type 0
 ArePast tick a k h = All (λ (e : Entry). e.to ≤ a * tick) (take k h)
 
-sum_window : (f : Entry → ℕ) (moment k : ℕ) (h : List Entry) → ((e : Entry) → e.to ≤ moment → f e ≡ 0) → All (IsPast moment) (take k h) → sum_by f (take (length h - k) (drop k h)) ≡ sum_by f h
-sum_window f moment k h zero past =
-    ap (sum_by f) (rest_whole k h ∙ sym (append-nil (drop k h))) ∙ sum_recent f moment k h [] zero past ∙ ap (sum_by f) (append-nil h)
+-- the sums over the others are those over all
+pub usage_recent : (tick : ℕ) (h : List Entry) (a b k : ℕ) (u : Usage) → ArePast tick a k h → IsUsage tick a b (take (length h - k) (drop k h)) u → IsUsage tick a b h u
+usage_recent tick h a b k u past recent = record {
+  used = λ p inside. recent.used p inside ∙ sum_recent (billed_by tick p a b) (a * tick) k h (billed_before tick p a b) past;
+  critical = λ p inside. recent.critical p inside ∙ sum_recent (critical_by tick p a b) (a * tick) k h (critical_before tick p a b) past;
+}
 
-pub used_window : (tick : ℕ) (h : List Entry) (p a b k : ℕ) → ArePast tick a k h → used tick (take (length h - k) (drop k h)) p a b ≡ used tick h p a b
-used_window tick h p a b k past = sum_window (billed_by tick p a b) (a * tick) k h (billed_before tick p a b) past
+-- a sum over one more
+sum_more : (f : Entry → ℕ) (h : List Entry) (e : Entry) (sum : ℕ) → sum ≡ sum_by f h → sum + f e ≡ sum_by f (h ++ e ∷ [])
+sum_more f h e sum is =
+    let one = sum_by-cons f e [] in
+    let more = sum_by-append f h (e ∷ []) in
+    omega (arith, is, one, more)
 
-pub critical_window : (tick : ℕ) (h : List Entry) (p a b k : ℕ) → ArePast tick a k h → critical_used tick (take (length h - k) (drop k h)) p a b ≡ critical_used tick h p a b
-critical_window tick h p a b k past = sum_window (critical_by tick p a b) (a * tick) k h (critical_before tick p a b) past
-
--- with the last entry
-pub critical_window_with : (tick : ℕ) (h last : List Entry) (p a b k : ℕ) → ArePast tick a k h → critical_used tick (take (length h - k) (drop k h) ++ last) p a b ≡ critical_used tick (h ++ last) p a b
-critical_window_with tick h last p a b k past =
-    ap (λ l. critical_used tick (l ++ last) p a b) (rest_whole k h) ∙ sum_recent (critical_by tick p a b) (a * tick) k h last (critical_before tick p a b) past
+-- the sums with one entry more
+pub usage_with_last : (tick : ℕ) (h : List Entry) (e : Entry) (a b ns : ℕ) (u new : Usage) → IsUsage tick a b h u → ns ≡ overlap tick a b e.from e.to → IsBilled u e ns new → IsUsage tick a b (h ++ e ∷ []) new
+usage_with_last tick h e a b ns u new before is billed = record {
+  used = λ p inside. billed.used p inside ∙ rw is (sum_more (billed_by tick p a b) h e (slice_index u.used p) (before.used p inside));
+  critical = λ p inside. billed.critical p inside ∙ rw is (sum_more (critical_by tick p a b) h e (slice_index u.critical p) (before.critical p inside));
+}

@@ -4,6 +4,7 @@ pub mod Short
 pub mod Room
 pub mod Ready
 pub mod Small
+pub mod Part
 pub mod Scan
 pub mod Machine
 pub mod MachineView

@@ -38,8 +38,8 @@ impl Machine {
         }
         let p = e.billed?;
         let tick = self.tick_of(e.to);
-        let used = usage::critical_with(&self.shape, entries, e, tick, p);
-        if self.critical_budget(p) < used {
+        let usage = usage::usage_with(&self.shape, entries, e, tick);
+        if self.critical_budget(p) < usage.critical[p.index()] {
             Some(p)
         } else {
             None

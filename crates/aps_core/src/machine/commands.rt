@@ -14,9 +14,7 @@ use super::Machine;
 use crate::room::{push_change, push_reply};
 use crate::usage;
 use aps_ctl::{Ctl, change_by, mark_by, perform};
-use aps_model::{
-    Call, Change, CtlView, Entry, Nanos, PartitionId, Reply, Shape, ThreadId, ThreadView,
-};
+use aps_model::{Call, Change, CtlView, Entry, Nanos, Reply, Shape, ThreadId, ThreadView};
 
 /// The thread that a command names.
 fn thread_named(call: &Call) -> Option<ThreadId>
@@ -30,36 +28,25 @@ fn thread_named(call: &Call) -> Option<ThreadId>
     }
 }
 
-/// What each partition used in the window at a tick, also those that don't exist.
-fn all_used(shape: &Shape, entries: &[Entry], tick: u64) -> [Nanos; 32]
+/// What each partition used in the window at a tick, and what of that was critical, also those that don't exist.
+fn all_used(shape: &Shape, entries: &[Entry], tick: u64) -> ([Nanos; 32], [Nanos; 32])
     requires shape { IsShape shape.now }
     requires entries { All IsEntry entries.now }
     requires rising { IsRising entries.now }
     requires few { length entries.now ≤ 4000000 }
     requires tick { tick ≤ 1000000 }
-    ensures { result ≡ map (window_used shape.now entries.now tick) (range_with_len 0 32) }
+    ensures used { result.0 ≡ map (window_used shape.now entries.now tick) (range_with_len 0 32) }
+    ensures critical { result.1 ≡ map (window_critical shape.now entries.now tick) (range_with_len 0 32) }
 {
+    let usage = usage::window_usage(shape, entries, tick);
     let mut used = [0; 32];
+    let mut critical = [0; 32];
+    // one by one, since no clause tells the length of an array that another call gave
     for p in 0..32 {
-        used[p] = usage::window_used(shape, entries, tick, PartitionId::at(p));
+        used[p] = usage.used[p];
+        critical[p] = usage.critical[p];
     }
-    used
-}
-
-/// The critical time of each.
-fn all_critical(shape: &Shape, entries: &[Entry], tick: u64) -> [Nanos; 32]
-    requires shape { IsShape shape.now }
-    requires entries { All IsEntry entries.now }
-    requires rising { IsRising entries.now }
-    requires few { length entries.now ≤ 4000000 }
-    requires tick { tick ≤ 1000000 }
-    ensures { result ≡ map (window_critical shape.now entries.now tick) (range_with_len 0 32) }
-{
-    let mut used = [0; 32];
-    for p in 0..32 {
-        used[p] = usage::window_critical(shape, entries, tick, PartitionId::at(p));
-    }
-    used
+    (used, critical)
 }
 
 impl Machine {
@@ -84,9 +71,10 @@ impl Machine {
         requires tick { tick ≤ 1000000 }
         ensures { result ≡ view_of self.now entries.now tick call.now }
     {
+        let (used, critical_used) = all_used(&self.shape, entries, tick);
         CtlView {
-            used: all_used(&self.shape, entries, tick),
-            critical_used: all_critical(&self.shape, entries, tick),
+            used,
+            critical_used,
             thread: self.thread_view(call),
         }
     }

@@ -1,7 +1,7 @@
 use Rattle.std.proofs.Common.{◌≡◌, ◌<◌, ◌++◌, [], ◌∷◌, ℕ, get_or}
-use Rattle.aps_model.specs.Budget.{part_facts, no_part}
+use Rattle.aps_model.specs.Budget.{no_part, part_facts}
 use Rattle.aps_core.specs.Small.{IsSmall}
-use Rattle.aps_core.proofs.usage.fill_by.Given as goal
+use Rattle.aps_core.proofs.usage.fill_parts.Given as goal
 
 abbrev pub invariant-loop-p : goal.invariant-loop-p
 invariant-loop-p l = record {

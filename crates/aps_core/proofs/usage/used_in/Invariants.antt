@@ -1,9 +1,0 @@
-use Rattle.std.proofs.Common.{◌≡◌, ◌*◌, ◌≤◌, take}
-use Rattle.aps_model.specs.Usage.{used}
-use Rattle.aps_core.proofs.usage.used_in.Given as goal
-
-abbrev pub invariant-loop-e : goal.invariant-loop-e
-invariant-loop-e l = record {
-  same : l.sum ≡ used l.tick (take l.e-index l.entries) l.p l.a l.b;
-  few : l.sum ≤ 10000000 * l.e-index;
-}
