@@ -1,17 +1,10 @@
 //! What a loop carries from one item to the next, as calls. Written out in a loop, `&&`, `||` and `match` are branches, each
 //! of which the invariant has to be shown for; by a call with a clause the value is one equation, and the loop is the fold
 //! that its contract names.
-ghost use Rattle.std.specs.Prelude.{◌≡◌, ◌&&◌, ◌||◌, if◌then◌else◌, Some, None};
+ghost use Rattle.std.specs.Prelude.{◌≡◌, ◌&&◌, if◌then◌else◌, Some, None};
 ghost use Rattle.std.specs.Option.{option_or};
 
 use aps_model::PartitionId;
-
-/// One of the two holds.
-pub fn either(a: bool, b: bool) -> bool
-    ensures { result ≡ (a || b) }
-{
-    a || b
-}
 
 /// Both hold.
 pub fn both(a: bool, b: bool) -> bool

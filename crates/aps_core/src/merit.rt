@@ -1,4 +1,4 @@
-ghost use Rattle.std.specs.Prelude.{◌≡◌, ℕ, ◌<◌, ◌≤◌, length, All, IfSome, nat_eq, ◌&&◌};
+ghost use Rattle.std.specs.Prelude.{◌≡◌, ℕ, ◌<◌, ◌≤◌, length, All, IfSome};
 ghost use Rattle.aps_model.specs.Budget.{part_at};
 ghost use Rattle.aps_model.specs.Flag.{at_most, lower_ranked};
 ghost use Rattle.aps_model.specs.Merit.{is_candidate, is_critical_pick};
@@ -43,13 +43,6 @@ pub fn is_candidate_among(parts: &[PartFacts], c: &Contender) -> bool
 {
     let facts = c.facts;
     is_candidate(facts, &part_at(parts, facts.partition))
-}
-
-/// Whether a ready thread is a candidate of the partition.
-pub fn is_candidate_of(parts: &[PartFacts], c: &Contender, p: PartitionId) -> bool
-    ensures { result ≡ (is_candidate c.now.facts (part_at parts.now c.now.facts.partition) && nat_eq c.now.facts.partition p) }
-{
-    is_candidate_among(parts, c) && c.facts.partition == p
 }
 
 /// Whether the pick of a ready thread is critical.

@@ -1,9 +1,9 @@
-ghost use Rattle.std.specs.Prelude.{◌≡◌, ◌<◌, ◌≤◌, length, All, IfSome, IfNone, IsTrue, false, nat_eq, nat_lt, ◌&&◌, not};
-ghost use Rattle.std.specs.List.{list_any};
+ghost use Rattle.std.specs.Prelude.{◌≡◌, ℕ, ◌<◌, ◌≤◌, length, slice_index_or, All, IfSome, IfNone, IsTrue, false, nat_eq, nat_lt, ◌&&◌, ◌||◌, not};
 ghost use Rattle.aps_model.specs.Budget.{part_at};
-ghost use Rattle.aps_model.specs.Pick.{contender_of, contenders, candidates, is_ready, greatest, missing};
+ghost use Rattle.aps_model.specs.Pick.{contender_of, contenders, is_ready, greatest, missing};
 ghost use Rattle.aps_model.specs.SchedulerState.{thread_at};
 ghost use Rattle.aps_model.specs.Step.{chosen};
+ghost use Rattle.aps_core.specs.Scan.{has_candidate};
 ghost use Rattle.aps_core.specs.Small.{IsSmall};
 
 use super::Machine;
@@ -41,25 +41,18 @@ impl Machine {
         best
     }
 
-    /// Whether a ready thread is a candidate of the partition.
-    fn has_candidate(&self, parts: &[PartFacts], p: PartitionId) -> bool
-        ensures { result ≡ list_any (λ c. nat_eq c.facts.partition p) (candidates parts.now (contenders self.now)) }
+    /// Which partitions have a candidate.
+    fn with_candidates(&self, parts: &[PartFacts]) -> [bool; 32]
+        ensures { (p : ℕ) → p < 32 → slice_index_or result p false ≡ has_candidate parts.now p (contenders self.now) }
     {
-        let mut found = false;
+        let mut found = [false; 32];
         for x in 0..self.threads.len() {
             if let Some(c) = self.ready_at(ThreadId::at(x)) {
-                found = carried::either(found, merit::is_candidate_of(parts, &c, p));
+                let is_candidate = merit::is_candidate_among(parts, &c);
+                mark(&mut found, c.facts.partition, is_candidate);
             }
         }
         found
-    }
-
-    /// Whether the partition has a budget and no candidate.
-    fn is_missing(&self, parts: &[PartFacts], p: PartitionId) -> bool
-        requires { p < length parts.now }
-        ensures { result ≡ (nat_lt 0 (part_at parts.now p).budget && not (list_any (λ c. nat_eq c.facts.partition p) (candidates parts.now (contenders self.now)))) }
-    {
-        parts[p.index()].budget > 0 && !self.has_candidate(parts, p)
     }
 
     /// The lowest partition with a budget that has no candidate.
@@ -67,10 +60,11 @@ impl Machine {
         requires { length parts.now ≤ 32 }
         ensures { result ≡ missing parts.now (contenders self.now) }
     {
+        let found = self.with_candidates(parts);
         let mut lowest = None;
         for p in 0..parts.len() {
             let id = PartitionId::at(p);
-            lowest = carried::or_first(lowest, id, self.is_missing(parts, id));
+            lowest = carried::or_first(lowest, id, is_missing(parts, id, found[p]));
         }
         lowest
     }
@@ -96,5 +90,22 @@ impl Machine {
             running,
             flag: None,
         };
+    }
+}
+
+/// Whether the partition has a budget and no candidate.
+fn is_missing(parts: &[PartFacts], p: PartitionId, has_candidate: bool) -> bool
+    requires { p < length parts.now }
+    ensures { result ≡ (nat_lt 0 (part_at parts.now p).budget && not has_candidate) }
+{
+    parts[p.index()].budget > 0 && !has_candidate
+}
+
+/// The partition is marked, if this holds. Each other mark stays.
+fn mark(found: &mut [bool; 32], p: PartitionId, holds: bool)
+    ensures { (k : ℕ) → k < 32 → slice_index_or found.new k false ≡ (slice_index_or found.old k false || (holds && nat_eq p k)) }
+{
+    if holds {
+        found[p.index()] = true;
     }
 }
