@@ -1,5 +1,5 @@
 -- The audit as it grows by windows is that over all windows.
-use Rattle.std.proofs.Common.{◌≡◌, ℕ, ◌+◌, ◌-◌, ◌≤◌, List, [], ◌∷◌, length, max, refl, ◌∙◌, ap, Option, None, arith}
+use Rattle.std.proofs.Common.{◌≡◌, ℕ, ◌+◌, ◌-◌, ◌≤◌, List, [], ◌∷◌, length, max, refl, sym, ◌∙◌, ap, Option, None, arith}
 use Rattle.std.specs.List.{fold, range_with_len}
 use Rattle.aps_model.specs.declared.audit.Audit.{Audit}
 use Rattle.aps_model.specs.declared.audit.Worst.{Worst}
@@ -9,7 +9,7 @@ use Rattle.aps_model.specs.declared.shape.Shape.{Shape}
 use Rattle.aps_model.specs.Audit.{audit_of, critical_over_from, over_from, short_from}
 use Rattle.aps_model.specs.History.{History}
 use Rattle.aps_model.specs.Loaded.{finished_ticks, loaded_tick, loaded_windows}
-use Rattle.aps_bound.specs.Worst.{with_partition, with_partitions, with_window, worst_with}
+use Rattle.aps_bound.specs.Worst.{with_partition, with_partitions, with_window, with_windows, worst_with}
 use Rattle.aps_bound.proofs.Folds.{fold-more}
 
 -- one partition more
@@ -31,31 +31,39 @@ windows_apart : (h : History) (audit : Audit) (windows : List ℕ) → fold (wit
 windows_apart h audit [] = refl
 windows_apart h audit (a ∷ windows) = windows_apart h (with_window h audit a) windows
 
-pub windows-more : (h : History) (audit : Audit) (s a : ℕ) → s ≤ a → fold (with_window h) audit (range_with_len s (a + 1 - s)) ≡ with_window h (fold (with_window h) audit (range_with_len s (a - s))) a
-windows-more h audit s a from =
-    ap (λ n. fold (with_window h) audit (range_with_len s n)) (one_more from) ∙ fold-more (with_window h) audit s (a - s) a (omega arith)
+-- with one window more
+pub windows_more : (h : History) (audit found next : Audit) (s a : ℕ) → s ≤ a → found ≡ with_windows h audit s a → next ≡ with_window h found a → next ≡ with_windows h audit s (a + 1)
+windows_more h audit found next s a from so_far more =
+    more ∙ ap (λ (x : Audit). with_window h x a) so_far ∙ sym (fold-more (with_window h) audit s (a - s) a (omega arith))
+    ∙ ap (λ n. fold (with_window h) audit (range_with_len s n)) one_more
   where
-    one_more : s ≤ a → a + 1 - s ≡ a - s + 1
-    one_more from = omega arith
+    one_more : a - s + 1 ≡ a + 1 - s
+    one_more = omega arith
+
+-- with all windows, where the scan has reached the end
+pub windows_done : (h : History) (audit found : Audit) (s end a : ℕ) → s ≤ a → end ≤ a → a ≤ max s end → found ≡ with_windows h audit s a → found ≡ with_windows h audit s end
+windows_done h audit found s end a from to within so_far =
+    let same : a - s ≡ end - s = omega arith in
+    so_far ∙ ap (λ n. fold (with_window h) audit (range_with_len s n)) same
 
 -- over all loaded windows
-pub all_windows : (h : History) (s n : ℕ) → s ≡ loaded_tick h.shape h.entries h.changes → n ≡ finished_ticks h.shape h.entries + 1 - (s + h.shape.window)
-    → fold (with_window h) (record { loaded_from = s; worst_over = None; worst_short = None; critical_worst = None }) (range_with_len s n) ≡ audit_of h
-all_windows h s n loaded count =
+pub all_windows : (h : History) (s end : ℕ) → s ≡ loaded_tick h.shape h.entries h.changes → end ≡ finished_ticks h.shape h.entries + 1 - h.shape.window
+    → with_windows h (record { loaded_from = s; worst_over = None; worst_short = None; critical_worst = None }) s end ≡ audit_of h
+all_windows h s end loaded last =
     let start : ℕ → Audit = λ k. record { loaded_from = k; worst_over = None; worst_short = None; critical_worst = None } in
-    let last : ℕ = finished_ticks h.shape h.entries in
+    let finished : ℕ = finished_ticks h.shape h.entries in
+    let count : end - s ≡ finished + 1 - (s + h.shape.window) = omega arith in
     ap (λ k. fold (with_window h) (start s) (range_with_len s k)) count
-    ∙ ap (λ k. fold (with_window h) (start k) (range_with_len k (last + 1 - (k + h.shape.window)))) loaded
+    ∙ ap (λ k. fold (with_window h) (start k) (range_with_len k (finished + 1 - (k + h.shape.window)))) loaded
     ∙ windows_apart h (start (loaded_tick h.shape h.entries h.changes)) (loaded_windows h.shape h.entries h.changes)
 
--- over the numbers of the scan
-pub audit_is : (h : History) (shape : Shape) (entries : List Entry) (changes : List Change) (count s end a : ℕ) (audit : Audit) → shape ≡ h.shape → entries ≡ h.entries → changes ≡ h.changes
+-- over the numbers that the code finds
+pub audit_is : (h : History) (shape : Shape) (entries : List Entry) (changes : List Change) (count s end : ℕ) (audit : Audit) → shape ≡ h.shape → entries ≡ h.entries → changes ≡ h.changes
     → count ≡ finished_ticks shape entries → s ≡ loaded_tick shape entries changes → end ≡ count + 1 - shape.window
-    → s ≤ a → end ≤ a → a ≤ max s end
-    → audit ≡ fold (with_window h) (record { loaded_from = s; worst_over = None; worst_short = None; critical_worst = None }) (range_with_len s (a - s))
+    → audit ≡ with_windows h (record { loaded_from = s; worst_over = None; worst_short = None; critical_worst = None }) s end
     → audit ≡ audit_of h
-audit_is h shape entries changes count s end a audit e1 e2 e3 finished loaded last from to within is =
-    is ∙ all_windows h s (a - s) loaded' (omega (arith, finished', width', last, from, to, within))
+audit_is h shape entries changes count s end audit e1 e2 e3 finished loaded last is =
+    is ∙ all_windows h s end loaded' (omega (arith, finished', width', last))
   where
     loaded' : s ≡ loaded_tick h.shape h.entries h.changes
     loaded' = loaded ∙ ap (λ (x : Shape). loaded_tick x entries changes) e1 ∙ ap (λ (x : List Entry). loaded_tick h.shape x changes) e2 ∙ ap (loaded_tick h.shape h.entries) e3

@@ -3,3 +3,6 @@ pub mod Steadiness
 pub mod Sums
 pub mod Growth
 pub mod LoneSystem
+pub mod Rising
+pub mod Overlaps
+pub mod Sliding

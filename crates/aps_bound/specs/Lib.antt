@@ -1,2 +1,5 @@
 pub mod Usage
 pub mod Worst
+pub mod Order
+pub mod Cursor
+pub mod Window

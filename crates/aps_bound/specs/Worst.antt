@@ -1,5 +1,5 @@
 -- The audit so far, as it grows by windows and by partitions.
-use Rattle.std.specs.Prelude.{ℕ, length, Option}
+use Rattle.std.specs.Prelude.{ℕ, ◌-◌, length, Option}
 use Rattle.std.specs.List.{fold, range_with_len}
 use Rattle.aps_model.specs.declared.audit.Audit.{Audit}
 use Rattle.aps_model.specs.declared.audit.Worst.{Worst}
@@ -28,3 +28,7 @@ with_partitions h audit a partitions = record audit {
 -- with all partitions in that window
 abbrev pub with_window : History → Audit → ℕ → Audit
 with_window h audit a = with_partitions h audit a (length h.rows)
+
+-- with all windows from ticks from to end-1 on
+abbrev pub with_windows : History → Audit → ℕ → ℕ → Audit
+with_windows h audit from end = fold (with_window h) audit (range_with_len from (end - from))

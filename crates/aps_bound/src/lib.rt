@@ -3,11 +3,16 @@
 //! starved partition.
 #![tactic(auto)]
 
+mod audited;
+mod cursor;
 mod loaded;
+mod order;
 mod recount;
+mod slide;
 #[cfg(test)]
 mod tests;
 mod usage;
+mod window;
 mod worst;
 
-pub use recount::audit;
+pub use audited::audit;

@@ -1,5 +1,5 @@
 //! Audits of small histories, with amounts that were worked out by hand.
-ghost use Rattle.std.specs.Prelude.{◌≡◌, ◌≤◌, [], length, IfOk};
+ghost use Rattle.std.specs.Prelude.{◌≡◌, ◌+◌, ◌*◌, ◌<◌, ◌≤◌, [], length, IfOk};
 
 use crate::audit;
 use aps_model::{
@@ -9,12 +9,14 @@ use aps_model::{
 use std::alloc::Global;
 use std::test::Fail;
 
+const TICK: Nanos = 100_000;
+
 /// A history of one processor, with a tick of 100,000 ns, a window of 8 ticks, and all parts in `System`.
 fn begun(alloc: Global) -> Result<History, NoMemory>
     ensures entries { IfOk result (λ h. h.entries ≡ []) }
     ensures changes { IfOk result (λ h. h.changes ≡ []) }
     ensures rows { IfOk result (λ h. length h.rows ≡ 1) }
-    ensures room { IfOk result (λ h. h.room.entries ≡ 8) }
+    ensures room { IfOk result (λ h. h.room.entries ≡ 32) }
     ensures more_room { IfOk result (λ h. h.room.changes ≡ 8) }
 {
     let shape = Shape {
@@ -37,7 +39,7 @@ fn begun(alloc: Global) -> Result<History, NoMemory>
         Vec::new(alloc),
         Vec::new(alloc),
     );
-    History::begin(alloc, scenario, 8, 8, 8)
+    History::begin(alloc, scenario, 32, 8, 8)
 }
 
 fn row(name: Name, budget: u16, critical: Nanos) -> PartitionRow
@@ -70,6 +72,39 @@ fn entry(from: Nanos, to: Nanos, billed: usize, critical: bool) -> Entry
         cpu: CpuId::at(0),
         critical,
     }
+}
+
+/// An entry of processor 0 that bills this partition for a whole tick.
+fn whole_tick(tick: u64, billed: usize, critical: bool) -> Entry
+    requires tick { tick ≤ 100 }
+    requires billed { billed ≤ 31 }
+    ensures from { result.from ≡ tick * 100000 }
+    ensures to { result.to ≡ tick * 100000 + 100000 }
+{
+    entry(tick * TICK, tick * TICK + TICK, billed, critical)
+}
+
+/// Adds a whole tick of processor 0 that bills this partition, and one of processor 1 that bills `System`.
+fn add_tick(history: &mut History, tick: u64, billed: usize, critical: bool)
+    requires tick { tick ≤ 100 }
+    requires billed { billed ≤ 31 }
+    requires room { length history.old.entries + 1 < history.old.room.entries }
+    ensures entries { length history.new.entries ≡ length history.old.entries + 2 }
+    ensures room { history.new.room ≡ history.old.room }
+{
+    history.add_entry(whole_tick(tick, billed, critical));
+    let mut system = whole_tick(tick, 0, false);
+    system.cpu = CpuId::at(1);
+    history.add_entry(system);
+}
+
+fn take_two_processors(history: &mut History)
+    ensures entries { history.new.entries ≡ history.old.entries }
+    ensures room { history.new.room ≡ history.old.room }
+{
+    let mut shape = *history.shape();
+    shape.cpus = 2;
+    history.set_shape(shape);
 }
 
 /// 70 parts for `System`, 30 for `A`, which has 100,000 ns of critical time.
@@ -167,5 +202,59 @@ fn windows_are_loaded_after_starved_picks_and_changes(rt: HostRuntime) -> Result
         critical_worst: None,
     };
     assert_eq!(rt; audit(&history), after_the_change);
+    Ok(())
+}
+
+#[test]
+fn each_tick_enters_once_and_leaves_once(rt: HostRuntime) -> Result<(), Fail> {
+    let mut history = begun(rt.alloc())?;
+    share(&mut history);
+    take_two_processors(&mut history);
+    add_tick(&mut history, 0, 0, false);
+    add_tick(&mut history, 1, 0, false);
+    add_tick(&mut history, 2, 1, false);
+    add_tick(&mut history, 3, 1, false);
+    add_tick(&mut history, 4, 1, false);
+    add_tick(&mut history, 5, 1, false);
+    add_tick(&mut history, 6, 1, false);
+    add_tick(&mut history, 7, 1, true);
+    add_tick(&mut history, 8, 1, true);
+    add_tick(&mut history, 9, 1, false);
+    add_tick(&mut history, 10, 0, false);
+    add_tick(&mut history, 11, 0, false);
+    let system_allowed = 70 * 16 * TICK / 100;
+    let a_allowed = 30 * 16 * TICK / 100;
+    let slid = Audit {
+        loaded_from: 0,
+        worst_over: worst(8 * TICK - a_allowed, 1, 2),
+        worst_short: worst(system_allowed - 8 * TICK, 0, 2),
+        critical_worst: worst(2 * TICK - 100_000, 1, 1),
+    };
+    assert_eq!(rt; audit(&history), slid);
+    Ok(())
+}
+
+#[test]
+fn entries_count_in_their_ticks_in_whatever_order_they_stand(rt: HostRuntime) -> Result<(), Fail> {
+    let mut history = begun(rt.alloc())?;
+    share(&mut history);
+    history.add_entry(whole_tick(1, 0, false));
+    history.add_entry(whole_tick(2, 0, false));
+    history.add_entry(whole_tick(3, 0, false));
+    history.add_entry(whole_tick(0, 1, false));
+    history.add_entry(whole_tick(4, 0, false));
+    history.add_entry(whole_tick(5, 0, false));
+    history.add_entry(whole_tick(6, 1, false));
+    history.add_entry(whole_tick(7, 1, false));
+    history.add_entry(whole_tick(8, 1, false));
+    let system_allowed = 70 * 8 * TICK / 100;
+    let a_allowed = 30 * 8 * TICK / 100;
+    let recounted = Audit {
+        loaded_from: 0,
+        worst_over: worst(3 * TICK - a_allowed, 1, 0),
+        worst_short: worst(system_allowed - 5 * TICK, 0, 0),
+        critical_worst: worst(0, 0, 0),
+    };
+    assert_eq!(rt; audit(&history), recounted);
     Ok(())
 }

@@ -1,12 +1,52 @@
 //! The greatest amounts over windows and partitions.
-ghost use Rattle.std.specs.Prelude.{◌≡◌, ◌≤◌, ◌*◌, ◌/◌, Some};
+ghost use Rattle.std.specs.Prelude.{◌≡◌, ◌+◌, ◌≤◌, ◌<◌, ◌*◌, ◌/◌, length, Some};
 ghost use Rattle.aps_model.specs.Audit.{allowance, worse};
 ghost use Rattle.aps_model.specs.Shape.{IsShape};
+ghost use Rattle.aps_bound.specs.Usage.{IsUsage};
+ghost use Rattle.aps_bound.specs.Worst.{with_partition, with_window};
 
-use aps_model::{Nanos, PartitionId, Shape, Worst};
+use crate::usage::Usage;
+use aps_model::{Audit, History, Nanos, PartitionId, Shape, Worst};
+
+/// The audit so far, with all partitions' usage of the window from tick `a` on.
+pub fn with_partitions(history: &History, usage: &Usage, audit: &Audit, a: u64) -> Audit
+    requires usage { IsUsage history.now.shape.tick a (a + history.now.shape.window) history.now.entries usage.now }
+    requires a { a ≤ 100000000 }
+    ensures { result ≡ with_window history.now audit.now a }
+{
+    let mut audit = *audit;
+    for p in 0..history.rows().len() {
+        audit = with_partition(history, usage, &audit, a, p);
+    }
+    audit
+}
+
+/// The audit so far, with one partition's usage of the window from tick `a` on.
+fn with_partition(history: &History, usage: &Usage, audit: &Audit, a: u64, p: usize) -> Audit
+    requires p { p < length history.now.rows }
+    requires usage { IsUsage history.now.shape.tick a (a + history.now.shape.window) history.now.entries usage.now }
+    requires a { a ≤ 100000000 }
+    ensures { result ≡ with_partition history.now audit.now a p }
+{
+    let shape = history.shape();
+    let row = &history.rows()[p];
+    let allowed = allowance(shape, row.budget);
+    let spent = usage.used[p];
+    let over = spent.saturating_sub(allowed);
+    let short = allowed.saturating_sub(spent);
+    let critical = usage.critical[p].saturating_sub(row.critical);
+    let partition = PartitionId::at(p);
+    let window = a as u32;
+    Audit {
+        loaded_from: audit.loaded_from,
+        worst_over: worse(&audit.worst_over, over, partition, window),
+        worst_short: worse(&audit.worst_short, short, partition, window),
+        critical_worst: worse(&audit.critical_worst, critical, partition, window),
+    }
+}
 
 /// The time that a budget allows in a window.
-pub fn allowance(shape: &Shape, budget: u16) -> Nanos
+fn allowance(shape: &Shape, budget: u16) -> Nanos
     requires shape { IsShape shape.now }
     requires budget { budget ≤ 1000 }
     ensures { result ≡ allowance shape.now budget }
@@ -15,12 +55,7 @@ pub fn allowance(shape: &Shape, budget: u16) -> Nanos
 }
 
 /// The worst so far, unless this amount is greater.
-pub fn worse(
-    best: &Option<Worst>,
-    amount: Nanos,
-    partition: PartitionId,
-    window: u32,
-) -> Option<Worst>
+fn worse(best: &Option<Worst>, amount: Nanos, partition: PartitionId, window: u32) -> Option<Worst>
     ensures { result ≡ worse best.now (record { amount = amount; partition = partition; window = window }) }
 {
     match best {

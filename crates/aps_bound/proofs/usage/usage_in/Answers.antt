@@ -1,10 +1,9 @@
-use Rattle.std.proofs.Common.{arith}
-use Rattle.aps_bound.proofs.Sums.{nothing_used, zeros_at}
+use Rattle.std.proofs.Common.{rules}
+use Rattle.aps_bound.proofs.Sums.{more_than_nothing, nothing_few}
 use Rattle.aps_bound.proofs.usage.usage_in.Goals as goal
 
-pub loop-e-init : goal.loop-e-init
-loop-e-init c = record {
-  same = nothing_used c.args.tick c.args.a c.args.b;
-  used = λ p inside. let zero' = zeros_at 32 p in omega (arith, zero');
-  critical = λ p inside. let zero' = zeros_at 32 p in omega (arith, zero');
-}
+pub add-requires-clause-room : goal.add-requires-clause-room
+add-requires-clause-room c = nothing_few
+
+pub returns : goal.returns
+returns c = search (rules, more_than_nothing)

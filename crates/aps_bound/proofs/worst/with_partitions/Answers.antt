@@ -2,7 +2,7 @@ use Rattle.std.proofs.Common.{◌∙◌, sym, ap}
 use Rattle.aps_model.specs.declared.audit.Audit.{Audit}
 use Rattle.aps_bound.specs.Worst.{with_partition}
 use Rattle.aps_bound.proofs.Growth.{partitions-more}
-use Rattle.aps_bound.proofs.recount.with_window.Goals as goal
+use Rattle.aps_bound.proofs.worst.with_partitions.Goals as goal
 
 pub loop-p-preserved : goal.loop-p-preserved
 loop-p-preserved c =

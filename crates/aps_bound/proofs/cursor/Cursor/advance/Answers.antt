@@ -1,0 +1,6 @@
+use Rattle.std.proofs.Common.{rules}
+use Rattle.aps_bound.proofs.Overlaps.{tick_whole}
+use Rattle.aps_bound.proofs.cursor.Cursor.advance.Goals as goal
+
+pub returns-clause-whole : goal.returns-clause-whole
+returns-clause-whole c = search (rules, tick_whole)

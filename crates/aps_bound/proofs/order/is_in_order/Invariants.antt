@@ -1,0 +1,5 @@
+use Rattle.aps_bound.proofs.Rising.{IsOrderedTo}
+use Rattle.aps_bound.proofs.order.is_in_order.Given as goal
+
+abbrev pub invariant-loop-e : goal.invariant-loop-e
+invariant-loop-e l = IsOrderedTo l.tick l.entries l.e-index l.last

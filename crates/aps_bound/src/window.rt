@@ -1,0 +1,57 @@
+//! A window that slides over entries in order of ticks.
+ghost use Rattle.std.specs.Prelude.{◌≡◌, ◌+◌, ◌*◌, ◌<◌, ◌≤◌, ◌^◌, All, length};
+ghost use Rattle.aps_model.specs.History.{IsEntry};
+ghost use Rattle.aps_bound.specs.Order.{IsInOrder};
+ghost use Rattle.aps_bound.specs.Window.{IsWindow};
+
+use crate::cursor::Cursor;
+use crate::usage::{Usage, usage_in};
+use aps_model::Entry;
+
+/// A window, from its first tick to the one before its end, and the usage in it.
+#[derive(Clone, Copy)]
+pub struct Window {
+    pub first: Cursor,
+    pub end: Cursor,
+    pub usage: Usage,
+}
+
+impl Window {
+    /// The window of ticks `a` to `b - 1`. The cost is that of one pass over the entries.
+    pub fn over(entries: &[Entry], tick: u64, a: u64, b: u64) -> Window
+        requires entries { All IsEntry entries.now }
+        requires few { length entries.now ≤ 4294967295 }
+        requires forward { a ≤ b }
+        requires first { a * tick < 2 ^ 63 }
+        requires end { b * tick < 2 ^ 63 }
+        ensures window { IsWindow tick entries.now result }
+        ensures first { result.first.tick ≡ a }
+        ensures end { result.end.tick ≡ b }
+    {
+        Window {
+            first: Cursor::at(a),
+            end: Cursor::at(b),
+            usage: usage_in(entries, tick, a, b),
+        }
+    }
+
+    /// Moves on by one tick: the tick after the window enters, and its first tick leaves. Over all moves each entry is
+    /// added once and taken away once.
+    pub fn slide(&mut self, entries: &[Entry], tick: u64)
+        requires entries { All IsEntry entries.now }
+        requires few { length entries.now ≤ 4294967295 }
+        requires order { IsInOrder tick entries.now }
+        requires some { 0 < tick }
+        requires window { IsWindow tick entries.now self.old }
+        requires end { (self.old.end.tick + 1) * tick < 2 ^ 63 }
+        ensures window { IsWindow tick entries.now self.new }
+        ensures first { self.new.first.tick ≡ self.old.first.tick + 1 }
+        ensures end { self.new.end.tick ≡ self.old.end.tick + 1 }
+    {
+        let (first, end) = (self.first.tick, self.end.tick);
+        let entering = self.end.advance(entries, tick);
+        self.usage.add(entering, tick, end, end + 1);
+        let leaving = self.first.advance(entries, tick);
+        self.usage.take_away(leaving, tick, first, first + 1);
+    }
+}
