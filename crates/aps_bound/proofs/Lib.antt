@@ -1,6 +1,5 @@
 pub mod Folds
 pub mod Steadiness
-pub mod Sums
 pub mod Growth
 pub mod LoneSystem
 pub mod Rising

@@ -7,9 +7,10 @@ use Rattle.aps_model.specs.History.{IsEntry}
 use Rattle.aps_model.specs.Usage.{billed_by, critical_by, overlap}
 use Rattle.aps_bound.specs.declared.cursor.Cursor.{Cursor}
 use Rattle.aps_bound.specs.declared.window.Window.{Window}
-use Rattle.aps_bound.specs.declared.usage.Usage.{Usage}
+use Rattle.aps_model.specs.declared.usage.Usage.{Usage}
 use Rattle.aps_bound.specs.Cursor.{HasAllOf, IsCursor}
-use Rattle.aps_bound.specs.Usage.{HasBilled, HasUsed, IsAtMost, IsMore, IsUsage}
+use Rattle.aps_model.specs.Sums.{IsAtMost, IsUsage}
+use Rattle.aps_bound.specs.Usage.{HasBilled, HasUsed, IsMore}
 use Rattle.aps_bound.specs.Window.{IsWindow}
 use Rattle.aps_bound.proofs.Overlaps.{critical_few, critical_split, used_few, used_split}
 

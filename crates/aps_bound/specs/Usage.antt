@@ -1,13 +1,8 @@
--- The sums of a window, of all partitions at once.
+-- What enters the usage of a window and what leaves it.
 use Rattle.std.specs.Prelude.{◌≡◌, ℕ, ◌+◌, ◌<◌, ◌≤◌, List, if◌then◌else◌, ◌&&◌, slice_index}
 use Rattle.aps_model.specs.declared.entry.Entry.{Entry}
 use Rattle.aps_model.specs.Usage.{critical_used, names, used}
-use Rattle.aps_bound.specs.declared.usage.Usage.{Usage}
-
--- these are the sums over the entries, of ticks a to b-1
-pub record IsUsage (tick a b : ℕ) (entries : List Entry) (usage : Usage) : Type 0 where
-  pub used : (p : ℕ) → p < 32 → slice_index usage.used p ≡ used tick entries p a b
-  pub critical : (p : ℕ) → p < 32 → slice_index usage.critical p ≡ critical_used tick entries p a b
+use Rattle.aps_model.specs.declared.usage.Usage.{Usage}
 
 -- the second is the first and what the entries bill in ticks a to b-1
 pub record IsMore (tick a b : ℕ) (entries : List Entry) (usage more : Usage) : Type 0 where
@@ -18,16 +13,6 @@ pub record IsMore (tick a b : ℕ) (entries : List Entry) (usage more : Usage) :
 pub record HasUsed (tick a b : ℕ) (entries : List Entry) (usage : Usage) : Type 0 where
   pub used : (p : ℕ) → p < 32 → used tick entries p a b ≤ slice_index usage.used p
   pub critical : (p : ℕ) → p < 32 → critical_used tick entries p a b ≤ slice_index usage.critical p
-
--- no sum is greater
-pub record IsAtMost (most : ℕ) (usage : Usage) : Type 0 where
-  pub used : (p : ℕ) → p < 32 → slice_index usage.used p ≤ most
-  pub critical : (p : ℕ) → p < 32 → slice_index usage.critical p ≤ most
-
--- the second is the first and so much for what the entry bills
-pub record IsBilled (usage : Usage) (e : Entry) (ns : ℕ) (more : Usage) : Type 0 where
-  pub used : (p : ℕ) → p < 32 → slice_index more.used p ≡ slice_index usage.used p + (if names e.billed p then ns else 0)
-  pub critical : (p : ℕ) → p < 32 → slice_index more.critical p ≡ slice_index usage.critical p + (if names e.billed p && e.critical then ns else 0)
 
 -- so much for what the entry bills is a part of it
 pub record HasBilled (e : Entry) (ns : ℕ) (usage : Usage) : Type 0 where

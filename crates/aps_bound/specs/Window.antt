@@ -3,7 +3,7 @@ use Rattle.std.specs.Prelude.{ℕ, ◌≤◌, List}
 use Rattle.aps_model.specs.declared.entry.Entry.{Entry}
 use Rattle.aps_bound.specs.declared.window.Window.{Window}
 use Rattle.aps_bound.specs.Cursor.{IsCursor}
-use Rattle.aps_bound.specs.Usage.{IsUsage}
+use Rattle.aps_model.specs.Sums.{IsUsage}
 
 -- its usage is that of its ticks, and each end stands before what its next tick can hold
 pub record IsWindow (tick : ℕ) (entries : List Entry) (window : Window) : Type 0 where

@@ -2,9 +2,8 @@
 ghost use Rattle.std.specs.Prelude.{◌≡◌, ◌+◌, ◌-◌, ◌*◌, ◌<◌, ◌≤◌};
 ghost use Rattle.aps_bound.specs.Worst.{with_window, with_windows};
 
-use crate::usage::usage_in;
 use crate::worst::with_partitions;
-use aps_model::{Audit, History};
+use aps_model::{Audit, History, Usage};
 
 /// The audit so far, with all windows from ticks `from` to `end - 1` on, in whatever order the entries stand. The cost
 /// is that of one pass over the entries for each window.
@@ -26,6 +25,6 @@ fn with_window(history: &History, audit: &Audit, a: u64) -> Audit
 {
     let shape = history.shape();
     let b = a + u64::from(shape.window);
-    let usage = usage_in(history.entries(), shape.tick, a, b);
+    let usage = Usage::of(history.entries(), shape.tick, a, b);
     with_partitions(history, &usage, audit, a)
 }

@@ -5,8 +5,8 @@ ghost use Rattle.aps_bound.specs.Order.{IsInOrder};
 ghost use Rattle.aps_bound.specs.Window.{IsWindow};
 
 use crate::cursor::Cursor;
-use crate::usage::{Usage, usage_in};
-use aps_model::Entry;
+use crate::usage::{add, take_away};
+use aps_model::{Entry, Usage};
 
 /// A window, from its first tick to the one before its end, and the usage in it.
 #[derive(Clone, Copy)]
@@ -31,7 +31,7 @@ impl Window {
         Window {
             first: Cursor::at(a),
             end: Cursor::at(b),
-            usage: usage_in(entries, tick, a, b),
+            usage: Usage::of(entries, tick, a, b),
         }
     }
 
@@ -50,8 +50,8 @@ impl Window {
     {
         let (first, end) = (self.first.tick, self.end.tick);
         let entering = self.end.advance(entries, tick);
-        self.usage.add(entering, tick, end, end + 1);
+        add(&mut self.usage, entering, tick, end, end + 1);
         let leaving = self.first.advance(entries, tick);
-        self.usage.take_away(leaving, tick, first, first + 1);
+        take_away(&mut self.usage, leaving, tick, first, first + 1);
     }
 }

@@ -2,11 +2,10 @@
 ghost use Rattle.std.specs.Prelude.{◌≡◌, ◌+◌, ◌≤◌, ◌<◌, ◌*◌, ◌/◌, length, Some};
 ghost use Rattle.aps_model.specs.Audit.{allowance, worse};
 ghost use Rattle.aps_model.specs.Shape.{IsShape};
-ghost use Rattle.aps_bound.specs.Usage.{IsUsage};
+ghost use Rattle.aps_model.specs.Sums.{IsUsage};
 ghost use Rattle.aps_bound.specs.Worst.{with_partition, with_window};
 
-use crate::usage::Usage;
-use aps_model::{Audit, History, Nanos, PartitionId, Shape, Worst};
+use aps_model::{Audit, History, Nanos, PartitionId, Shape, Usage, Worst};
 
 /// The audit so far, with all partitions' usage of the window from tick `a` on.
 pub fn with_partitions(history: &History, usage: &Usage, audit: &Audit, a: u64) -> Audit
