@@ -29,9 +29,10 @@ use Rattle.aps_bound_laws.proofs.Debts.{walk, walk_none}
 use Rattle.aps_bound_laws.proofs.Funded.{AreFunded, critical_pick, same_kept, steady_pick}
 use Rattle.aps_bound_laws.proofs.Inside.{critical_tested, used_tested}
 use Rattle.aps_bound_laws.proofs.Late.{sum_at_start}
-use Rattle.aps_bound_laws.proofs.Prefixes.{latest, legal_through}
+use Rattle.aps_bound_laws.proofs.Prefixes.{latest}
 use Rattle.aps_bound_laws.proofs.Upper.{upper, upper_none}
 use Rattle.aps_bound_laws.proofs.Wides.{critical_is, critical_used_is, never_of, ordinary_below, ordinary_by, ordinary_is, resets_of, used_is}
+use Rattle.aps_laws.proofs.Words.{up_to}
 
 -- after each entry of the window rows and shape are those of this state
 abbrev pub RowsHold : Scenario → List Entry → ℕ → SchedulerState → Type 0
@@ -94,7 +95,7 @@ module _ (scenario : Scenario) (order : Order) (h : List Entry) (r : IsScenario 
       → s.shape.parts * used s.shape.tick (before ++ e ∷ []) p a (a + s.shape.window) < (row_or_none s.rows p).budget * whole s.shape
   ordinary_within calm p before later e same counted inside =
       let t = state_after scenario (before ++ e ∷ []) in
-      let front = legal_through scenario order h before later e same legal in
+      let front = up_to scenario order h before later e same legal in
       let held = w.holds before later e same inside in
       let keeps = kept_ordinary p (wide_at scenario before e).keeps counted in
       let funded : AreFunded t = rw (held.0, held.1) w.funded in
@@ -125,7 +126,7 @@ module _ (scenario : Scenario) (order : Order) (h : List Entry) (r : IsScenario 
       → critical_used s.shape.tick (before ++ e ∷ []) p a (a + s.shape.window) < (row_or_none s.rows p).critical
   critical_within p before later e same counted inside =
       let t = state_after scenario (before ++ e ∷ []) in
-      let front = legal_through scenario order h before later e same legal in
+      let front = up_to scenario order h before later e same legal in
       let held = w.holds before later e same inside in
       let less = tested_of t.shape s.shape t.rows s.rows (before ++ e ∷ []) e.to held.1 held.0
       (critical_pick scenario order before e p r front (kept_critical p (wide_at scenario before e).keeps counted)) in

@@ -12,7 +12,6 @@ use Rattle.aps_model.specs.declared.shape.Shape.{Shape}
 use Rattle.aps_model.specs.declared.state.CpuNow.{CpuNow}
 use Rattle.aps_model.specs.declared.state.Pick.{Pick}
 use Rattle.aps_model.specs.After.{After, after, state_after}
-use Rattle.aps_model.specs.Bill.{bill_of}
 use Rattle.aps_model.specs.Budget.{all_parts, has_standing, in_budget, is_shut, part_at, part_facts}
 use Rattle.aps_model.specs.Due.{due, last_end}
 use Rattle.aps_model.specs.Flag.{flag_for, with_flag}
@@ -26,16 +25,18 @@ use Rattle.aps_model.specs.Step.{Step, chosen, settled, step}
 use Rattle.aps_model.specs.Usage.{billed_by, critical_by, window_critical, window_used}
 use Rattle.aps_model.specs.Valid.{IsScenario}
 use Rattle.aps_laws.specs.Bears.{NamesChannels}
-use Rattle.aps_laws.specs.Sizes.{IsSameSizes}
 use Rattle.aps_laws.specs.Untouched.{IsComplete, IsKept}
 use Rattle.aps_laws.specs.Waits.{IsPlain}
 use Rattle.aps_laws.specs.Window.{Kept, kept_if, pair_kept}
 use Rattle.aps_laws.proofs.Channels.{names_channels}
 use Rattle.aps_laws.proofs.Mid.{test_mid, back_mid}
 use Rattle.aps_laws.proofs.Picked.{flag_running, flag_shape, flag_rows, cpu_same}
-use Rattle.aps_laws.proofs.Sound.{after-append, legal_last, sound}
+use Rattle.aps_laws.proofs.Sound.{legal_last, sound}
 use Rattle.aps_laws.specs.Choices.{MadeNoPick}
-use Rattle.aps_laws.proofs.StepOf.{bill_at, bill_says, horizon_same, mid_count, step_by, tested_at}
+use Rattle.aps_laws.proofs.StepOf.{bill_at, bill_says, mid_count, step_by, tested_at}
+use Rattle.aps_model.proofs.AfterLaws.{after-append}
+use Rattle.aps_laws.proofs.PickSays.{chosen_rows, chosen_shape, complete_in}
+use Rattle.aps_laws.proofs.ChoiceLaws.{bill_picks_none}
 
 -- the partitions as they stand at the pick of the entry that ends this history
 abbrev pub parts_of : SchedulerState → List Entry → Entry → List PartFacts
@@ -87,14 +88,6 @@ chosen_cpu : (r : SchedulerState) (ps : List PartFacts) (c : ℕ) (best : Option
 chosen_cpu r ps c None below = refl
 chosen_cpu r ps c (Some b) below = ap (λ (z : CpuNow). pair_kept z.running) (cpu_same r.cpus c _ below)
 
-chosen_shape : (r : SchedulerState) (ps : List PartFacts) (c : ℕ) (best : Option Contender) → (chosen r ps c best).shape ≡ r.shape
-chosen_shape r ps c None = refl
-chosen_shape r ps c (Some b) = refl
-
-chosen_rows : (r : SchedulerState) (ps : List PartFacts) (c : ℕ) (best : Option Contender) → (chosen r ps c best).rows ≡ r.rows
-chosen_rows r ps c None = refl
-chosen_rows r ps c (Some b) = refl
-
 -- over variables
 chosen_at : (r t : SchedulerState) (h : List Entry) (now : ℕ) (ps : List PartFacts) (e : Entry) (best : Option Contender) (starved flagged : Option ℕ)
     → e.cpu < length r.cpus → e.to ≡ now → t.shape ≡ r.shape → t.rows ≡ r.rows
@@ -125,14 +118,6 @@ kept_running : (r : SchedulerState) (ps : List PartFacts) (c now : ℕ) (best : 
     → (cpu_at (with_flag (chosen r ps c best) now other) d).running ≡ (cpu_at (chosen r ps d best) d).running
 kept_running r ps c now best other d same = flag_running (chosen r ps c best) now other d ∙ ap (λ n. (cpu_at (chosen r ps n best) d).running) (sym same)
 
-none_picked : (c from now : ℕ) (running : Option Pick) → (bill_of c from now running).picked ≡ None
-none_picked c from now None = refl
-none_picked c from now (Some p) = refl
-
-complete_in : (s r : SchedulerState) (now : ℕ) (o : Option ℕ) → IsSameSizes s.shape r.shape → IsComplete r now o → IsComplete s now o
-complete_in s r now o sizes (inl z) = inl (z ∙ horizon_same s.shape r.shape sizes)
-complete_in s r now o sizes (inr z) = inr z
-
 -- a step makes no pick, or it picks the greatest of the ready threads
 step_chooses : (scenario : Scenario) (s : SchedulerState) (h : List Entry) (c : ℕ) → NamesChannels scenario → IsPlain scenario s → IsKept s → c < length s.cpus
     → MadeNoPick s (step scenario s h c).entry (step scenario s h c).reboot ⊎ IsChosen h (step scenario s h c).entry (step scenario s h c).state
@@ -145,7 +130,7 @@ step_chooses scenario s h c names plain k below =
     let back = back_mid scenario s (tested_at scenario s h c).state c now running names k refl b in
     step_by scenario s h c (λ (out : Step). MadeNoPick s out.entry out.reboot ⊎ IsChosen h out.entry out.state)
     (λ o why. inl (record {
-      none = none_picked c (last_end h c) now running;
+      none = bill_picks_none c (last_end h c) now running;
       complete = subst (λ n. IsComplete s n o) (sym says.to) (complete_in s (tested_at scenario s h c).state now o b.mid.sizes why);
     }))
     (λ early.

@@ -26,7 +26,8 @@ use Rattle.aps_bound_laws.specs.Picks.{wide_at}
 use Rattle.aps_bound_laws.proofs.Above.{IsCalm, IsWindowOf, walks_here}
 use Rattle.aps_bound_laws.proofs.Debts.{began}
 use Rattle.aps_bound_laws.proofs.Funded.{AreFunded, steady_pick}
-use Rattle.aps_bound_laws.proofs.Prefixes.{legal_through, state-append}
+use Rattle.aps_bound_laws.proofs.Prefixes.{state-append}
+use Rattle.aps_laws.proofs.Words.{up_to}
 
 -- a lane that runs one of the first n partitions
 record IsBusy (n : ℕ) (runs : Kept) : Type 0 where
@@ -117,7 +118,7 @@ module _ (scenario : Scenario) (order : Order) (h : List Entry) (r : IsScenario 
   filled_from g [] lanes same busy walk = tt
   filled_from g (e ∷ es) lanes same busy walk =
       let t = state_after scenario (g ++ e ∷ []) in
-      let front = legal_through scenario order h g es e same legal in
+      let front = up_to scenario order h g es e same legal in
       let walk' : Walks s.shape.tick lanes (wide_of e t ∷ wides_from scenario t (g ++ e ∷ []) es) = subst (λ (u : SchedulerState). Walks s.shape.tick lanes (wide_of e u ∷ wides_from scenario u (g ++ e ∷ []) es)) (sym (state-append scenario g e)) walk in
       let lane = walk'.0 in
       let at : slice_index_or lanes e.cpu still ≡ lane = get_or_from_slice_get lanes e.cpu lane still walk'.1 in

@@ -12,12 +12,7 @@ use Rattle.aps_model.specs.Valid.{IsScenario}
 use Rattle.aps_laws.specs.Moments.{moment}
 use Rattle.aps_laws.proofs.BoundaryLaws as boundary
 use Rattle.aps_laws.proofs.MomentLaws.{moment-append}
-use Rattle.aps_laws.proofs.Prefixes.{legal_up_to}
-use Rattle.aps_laws.proofs.Sound.{after-append}
-
--- a history up to and with an entry is legal
-pub legal_through : (scenario : Scenario) (order : Order) (h before later : List Entry) (e : Entry) → h ≡ before ++ e ∷ later → IsLegal scenario order h → IsLegal scenario order (before ++ e ∷ [])
-legal_through scenario order h before later e same legal = legal_up_to scenario order before later e (subst (IsLegal scenario order) same legal)
+use Rattle.aps_model.proofs.AfterLaws.{after-append}
 
 -- the state after one entry more
 pub state-append : (scenario : Scenario) (h : List Entry) (e : Entry) → state_after scenario (h ++ e ∷ []) ≡ (step scenario (state_after scenario h) h e.cpu).state

@@ -39,6 +39,7 @@ use Rattle.aps_core.specs.Turn.{HasTurnIn, IsFed, with_entry}
 use Rattle.aps_core.specs.Ready.{IsReady}
 use Rattle.aps_core.proofs.Ready.{ready}
 use Rattle.aps_core.proofs.Turns.{IsDueNow, due_now}
+use Rattle.aps_laws.proofs.FixedRun.{nothing_before}
 
 -- ---- the end
 
@@ -68,10 +69,6 @@ starts : (setup : Setup) → IsSetup setup → or_limit (over (at_start setup.sc
 starts setup s =
     ap (λ b. or_limit (over_by None b) setup.limit 0) (not_there (horizon setup.scenario.shape) setup.scenario.shape.cpus s.valid.shape.some_cpu)
     ∙ ap (λ b. cond b (Some Limit) None) (test_ne 0 setup.limit (λ e. omega (arith, e, s.some)))
-
-nothing_before : (before later : List Entry) (e : Entry) → [] ≡ before ++ e ∷ later → ⊥
-nothing_before [] later e same = cc
-nothing_before (x ∷ before) later e same = cc
 
 pub begun_core : (setup : Setup) (kept : History) (state : SchedulerState) (parts : List PartFacts) → IsSetup setup
     → kept ≡ record { scenario = setup.scenario; entries = []; replies = []; changes = []; rows = setup.scenario.partitions; shape = setup.scenario.shape; end = None; room = rooms_of setup }

@@ -14,8 +14,9 @@ use Rattle.aps_model.specs.Operation.{enter, go_on, with_ready, with_stamped}
 use Rattle.aps_model.specs.Partition.{partition_named}
 use Rattle.aps_model.specs.Scenario.{Scenario, op_at}
 use Rattle.aps_model.specs.SchedulerState.{Message, SchedulerState, channel_at, no_thread, thread_at, with_state, with_thread}
-use Rattle.aps_model.specs.Step.{enter_next, finish_op}
+use Rattle.aps_model.specs.Step.{finish_op}
 use Rattle.aps_core.specs.Room.{HasRoomToWake}
+use Rattle.aps_laws.proofs.StampCounts.{entered_stamps}
 
 -- the places of these threads are at most so far
 abbrev Places : ℕ → List ThreadNow → Type 0
@@ -113,15 +114,6 @@ effect_room scenario p n s x now CriticalOn r = own_room p n s x _ r (r.places x
 effect_room scenario p n s x now CriticalOff r = own_room p n s x _ r (r.places x)
 effect_room scenario p n s x now Repeat r = more_room p n s r
 effect_room scenario p n s x now Exit r = state_room (p + 1) (n + 1) _ x Gone (replied_room scenario p n s x now (client_of s.triples x) r)
-
-entered_stamps : (scenario : Scenario) (s : SchedulerState) (x now : ℕ) (op : Op) (st : State) → (enter_next scenario s x now op st).stamps ≡ s.stamps
-entered_stamps scenario s x now op (Running c) = refl
-entered_stamps scenario s x now op Ready = refl
-entered_stamps scenario s x now op (Sleeping until) = refl
-entered_stamps scenario s x now op (Sending d) = refl
-entered_stamps scenario s x now op (Receiving d) = refl
-entered_stamps scenario s x now op (Replying y) = refl
-entered_stamps scenario s x now op Gone = refl
 
 pub finished_stamps : (scenario : Scenario) (p n : ℕ) (s : SchedulerState) (x now : ℕ) (left : Option ℕ) → HasRoomToWake p n s → (finish_op scenario s x now left).state.stamps ≤ n + 1
 finished_stamps scenario p n s x now None r = let a = r.stamps in omega (arith, a)

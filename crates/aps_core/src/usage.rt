@@ -1,4 +1,4 @@
-//! What each partition used in a window, and what it may still use.
+//! What each partition used in a window, and how it stands by that.
 ghost use Rattle.std.specs.Prelude.{◌≡◌, ◌+◌, ◌-◌, ◌*◌, ◌<◌, ◌≤◌, ◌^◌, ◌++◌, [], ◌∷◌, length, take, All, slice_index};
 ghost use Rattle.aps_model.specs.Budget.{all_parts};
 ghost use Rattle.aps_model.specs.History.{IsEntry};

@@ -22,7 +22,7 @@ use Rattle.aps_laws.proofs.WaitBears.{plain_bears}
 use Rattle.aps_laws.proofs.Mid.{IsBilled, test_mid, tested_by, unflagged}
 use Rattle.aps_laws.proofs.StepOf.{bill_at, step_by, tested_at}
 use Rattle.aps_laws.proofs.Channels.{names_channels}
-use Rattle.aps_laws.proofs.Sound.{after-append, legal_last, sound}
+use Rattle.aps_laws.proofs.Sound.{legal_last, sound}
 use Rattle.aps_model.specs.After.{After, state_after}
 use Rattle.aps_model.specs.Bill.{bankrupt, cancel, spend}
 use Rattle.aps_model.specs.Budget.{all_parts}
@@ -36,6 +36,7 @@ use Rattle.aps_model.specs.SchedulerState.{SchedulerState, cpu_at}
 use Rattle.aps_model.specs.Step.{Step, begun, billed, chosen, settled, step}
 use Rattle.aps_model.specs.TickWork.{commands_of, do_command, do_commands, has_tick_work, tick_work, wake_all, waking}
 use Rattle.aps_model.specs.Valid.{IsScenario}
+use Rattle.aps_model.proofs.AfterLaws.{after-append}
 
 -- the property of the state's rows, shape, replies and changes
 abbrev pub OfBooks : (List PartitionRow → Shape → List Reply → List Change → Type 0) → SchedulerState → Type 0

@@ -14,7 +14,7 @@ use Rattle.aps_model.specs.Scenario.{Scenario}
 use Rattle.aps_model.specs.SchedulerState.{SchedulerState, channel_at, no_facts, no_thread}
 use Rattle.aps_model.specs.Valid.{IsScenario}
 
-own_at : (threads : List ThreadNow) (x : ℕ) → slice_index_or (map (λ (t : ThreadNow). t.own) threads) x no_facts ≡ (slice_index_or threads x no_thread).own
+pub own_at : (threads : List ThreadNow) (x : ℕ) → slice_index_or (map (λ (t : ThreadNow). t.own) threads) x no_facts ≡ (slice_index_or threads x no_thread).own
 own_at [] x = refl
 own_at (t ∷ ts) zero = refl
 own_at (t ∷ ts) (suc x) = own_at ts x

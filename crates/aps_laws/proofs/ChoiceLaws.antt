@@ -13,7 +13,7 @@ use Rattle.aps_laws.specs.Waits.{IsPlain}
 use Rattle.aps_laws.proofs.Channels.{names_channels}
 use Rattle.aps_laws.proofs.Mid.{test_mid}
 use Rattle.aps_laws.proofs.PickSays.{complete_in, parts_same}
-use Rattle.aps_laws.proofs.Sound.{after-append, legal_last, sound}
+use Rattle.aps_laws.proofs.Sound.{legal_last, sound}
 use Rattle.aps_laws.proofs.StepOf.{bill_at, bill_says, step_by, tested_at}
 use Rattle.aps_laws.proofs.Words.{up_to}
 use Rattle.aps_model.specs.After.{After, after, state_after}
@@ -26,8 +26,9 @@ use Rattle.aps_model.specs.Scenario.{Scenario}
 use Rattle.aps_model.specs.SchedulerState.{SchedulerState, cpu_at}
 use Rattle.aps_model.specs.Step.{Step, pick, settled, step}
 use Rattle.aps_model.specs.Valid.{IsScenario}
+use Rattle.aps_model.proofs.AfterLaws.{after-append}
 
-bill_picks_none : (c from now : ℕ) (running : Option Pick) → (bill_of c from now running).picked ≡ None
+pub bill_picks_none : (c from now : ℕ) (running : Option Pick) → (bill_of c from now running).picked ≡ None
 bill_picks_none c from now None = refl
 bill_picks_none c from now (Some p) = refl
 

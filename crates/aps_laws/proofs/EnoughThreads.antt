@@ -24,7 +24,7 @@ use Rattle.aps_laws.proofs.Mid.{IsBack, back_mid, test_mid}
 use Rattle.aps_laws.proofs.Picked.{IsReadyBest, greatest_ready}
 use Rattle.aps_laws.proofs.PickSays.{facts_picked}
 use Rattle.aps_laws.proofs.SmallNumbers.{one_of, sum_added, sum_bounded, sum_changed, sum_less, sum_same}
-use Rattle.aps_laws.proofs.Sound.{after-append, legal_last, sound}
+use Rattle.aps_laws.proofs.Sound.{legal_last, sound}
 use Rattle.aps_laws.proofs.StepOf.{bill_at, mid_cpu, step_by, tested_at}
 use Rattle.aps_laws.proofs.ThreadFacts.{set_other, set_same, within}
 use Rattle.aps_laws.proofs.WaitFacts.{test_eq, test_ne}
@@ -44,6 +44,7 @@ use Rattle.aps_model.specs.Shape.{whole}
 use Rattle.aps_model.specs.Usage.{window_used}
 use Rattle.aps_model.specs.Step.{Step, chosen, settled, step}
 use Rattle.aps_model.specs.Valid.{IsScenario}
+use Rattle.aps_model.proofs.AfterLaws.{after-append}
 
 -- ---- counting
 

@@ -11,7 +11,7 @@ use Rattle.aps_laws.specs.Runs.{with_fixed_step, GoesOn, IsRun, EndsNoSooner, Ex
 use Rattle.aps_laws.proofs.WaitFacts.{test_ne, test_eq}
 use Rattle.aps_laws.proofs.Turns.{one_turn, any_turn}
 use Rattle.aps_laws.proofs.Prefixes.{legal_more, goes_on}
-use Rattle.aps_laws.proofs.Sound.{after-append, sound, sound_step_of}
+use Rattle.aps_laws.proofs.Sound.{sound, sound_step_of}
 use Rattle.aps_laws.proofs.Words.{prefix_legal}
 use Rattle.aps_model.specs.After.{After, after, at_start, end_of, left_by, or_limit, over, state_after}
 use Rattle.aps_model.specs.Due.{HasTurn, first_due}
@@ -19,6 +19,7 @@ use Rattle.aps_model.specs.Legal.{IsLegal, fixed_run, fixed_steps}
 use Rattle.aps_model.specs.Scenario.{Scenario}
 use Rattle.aps_model.specs.Step.{Step, step}
 use Rattle.aps_model.specs.Valid.{IsScenario}
+use Rattle.aps_model.proofs.AfterLaws.{after-append, after_none, legal_none}
 
 -- ---- ends
 
@@ -182,21 +183,13 @@ pub finish_ends : (scenario : Scenario) (order : Order) (limit : ℕ) (h : List 
 finish_ends scenario order limit h r legal late =
     steps_end scenario order limit (limit - length h) (after scenario h) h r refl (omega (arith, late_short scenario limit h late)) legal late
 
-empty_legal : (scenario : Scenario) (order : Order) → IsLegal scenario order []
-unfolding IsLegal
-empty_legal scenario order = tt
-
-empty_after : (scenario : Scenario) → after scenario [] ≡ at_start scenario
-unfolding after
-empty_after scenario = refl
-
-nothing_before : (before later : List Entry) (e : Entry) → [] ≡ before ++ e ∷ later → ⊥
+pub nothing_before : (before later : List Entry) (e : Entry) → [] ≡ before ++ e ∷ later → ⊥
 nothing_before [] later e same = cc
 nothing_before (b ∷ before) later e same = cc
 
 pub run_ends : (scenario : Scenario) (limit : ℕ) → IsScenario scenario → IsRun scenario Fixed limit (fixed_run scenario limit)
 run_ends scenario limit r =
-    steps_end scenario Fixed limit limit (at_start scenario) [] r (sym (empty_after scenario)) (omega arith) (empty_legal scenario Fixed) (λ before later e same. absurd (nothing_before before later e same))
+    steps_end scenario Fixed limit limit (at_start scenario) [] r (sym (after_none scenario)) (omega arith) (legal_none scenario Fixed) (λ before later e same. absurd (nothing_before before later e same))
 
 -- ---- the only one
 
@@ -238,7 +231,7 @@ steps_same scenario limit (suc n) a g (e ∷ es) h r m p =
 
 pub run_is_one : (scenario : Scenario) (limit : ℕ) (h : List Entry) → IsScenario scenario → IsRun scenario Fixed limit h → h ≡ fixed_run scenario limit
 run_is_one scenario limit h r m =
-    sym (steps_same scenario limit limit (at_start scenario) [] h h r m (record { is = sym (empty_after scenario); count = omega arith; split = refl }))
+    sym (steps_same scenario limit limit (at_start scenario) [] h h r m (record { is = sym (after_none scenario); count = omega arith; split = refl }))
 
 pub finish_is_run : (scenario : Scenario) (limit : ℕ) (h : List Entry) → IsScenario scenario → IsLegal scenario Fixed h → EndsNoSooner scenario limit h → finished scenario limit h ≡ fixed_run scenario limit
 finish_is_run scenario limit h r legal late = run_is_one scenario limit (finished scenario limit h) r (finish_ends scenario Fixed limit h r legal late)

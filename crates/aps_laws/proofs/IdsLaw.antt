@@ -1,14 +1,11 @@
 -- Each number in the state of a legal history names something that exists.
-use Rattle.std.proofs.Common.{◌≡◌, ◌≢◌, ℕ, zero, suc, ◌/◌, ◌<◌, ◌≤◌, List, [], ◌∷◌, ◌++◌, map, length, refl, sym, ◌∙◌, ap, subst, Option, Some, None, slice_index_or, arith, inl, inr, ◌⊎◌}
+use Rattle.std.proofs.Common.{◌≡◌, ◌≢◌, ℕ, ◌/◌, ◌<◌, ◌≤◌, List, [], ◌∷◌, ◌++◌, length, refl, sym, ◌∙◌, ap, subst, Option, Some, None, arith, inl, inr, ◌⊎◌}
 use Rattle.std.specs.Prelude.{All}
-use Rattle.std.specs.Option.{option_map}
 use Rattle.std.proofs.lemmas.Bool.{cases_eq, cases_lt}
 use Rattle.std.proofs.lemmas.List.{get_or_past}
 use Rattle.std.proofs.lemmas.List.Elements.{All-nil}
 use Rattle.aps_model.specs.declared.entry.Entry.{Entry}
 use Rattle.aps_model.specs.declared.entry.Order.{Order}
-use Rattle.aps_model.specs.declared.merit.Contender.{Contender}
-use Rattle.aps_model.specs.declared.merit.PartFacts.{PartFacts}
 use Rattle.aps_model.specs.declared.state.CpuNow.{CpuNow}
 use Rattle.aps_model.specs.declared.state.Pick.{Pick}
 use Rattle.aps_model.specs.declared.state.State.{State}
@@ -24,15 +21,15 @@ use Rattle.aps_laws.proofs.EachStep.{IsStanding}
 use Rattle.aps_laws.proofs.Inherits.{all_both, all_more, facts_fit}
 use Rattle.aps_laws.proofs.ListsFit.{AreListsFit, step_lists}
 use Rattle.aps_laws.proofs.Mid.{back_mid, test_mid}
-use Rattle.aps_laws.proofs.Opening.{idle_opening}
-use Rattle.aps_laws.proofs.Picked.{cpu_same, flag_running}
+use Rattle.aps_laws.proofs.Opening.{idle_opening, empty_channel}
+use Rattle.aps_laws.proofs.Picked.{flag_running}
 use Rattle.aps_laws.proofs.Ranges.{pairs_within, receivers_within, senders_within, server_within}
 use Rattle.aps_laws.proofs.RowsGrow.{rows_begun, step_rows}
 use Rattle.aps_laws.proofs.Sound.{running_on, sound_opening, sound_step, sound_step_of}
 use Rattle.aps_laws.proofs.StepOf.{bill_at, mid_count, mid_own, step_by, tested_at}
 use Rattle.aps_laws.proofs.ThreadFacts.{running_within, within}
 use Rattle.aps_laws.proofs.ThreadFit.{AreFit, fit_opening, fit_step, start_count}
-use Rattle.aps_laws.proofs.PickSays.{pick_says}
+use Rattle.aps_laws.proofs.PickSays.{pick_says, no_best}
 use Rattle.aps_model.specs.After.{After, after, at_start, left_by, over, state_after}
 use Rattle.aps_model.specs.Budget.{all_parts}
 use Rattle.aps_model.specs.Due.{HasTurn, due}
@@ -42,7 +39,7 @@ use Rattle.aps_model.specs.Legal.{IsLegal}
 use Rattle.aps_model.specs.Pick.{contenders, greatest}
 use Rattle.aps_model.specs.Program.{IsPriority}
 use Rattle.aps_model.specs.Scenario.{Scenario, op_at}
-use Rattle.aps_model.specs.SchedulerState.{ChannelNow, Message, SchedulerState, Triple, channel_at, cpu_at, idle, no_channel, thread_at}
+use Rattle.aps_model.specs.SchedulerState.{ChannelNow, Message, SchedulerState, Triple, channel_at, cpu_at, idle, thread_at}
 use Rattle.aps_model.specs.Step.{Step, chosen, settled, step}
 use Rattle.aps_model.specs.Valid.{IsScenario}
 
@@ -53,10 +50,6 @@ KeepsRows s = (c : ℕ) (p : Pick) → (cpu_at s c).running ≡ Some p → p.par
 -- where the entry picks nobody, its processor keeps what it kept, or nothing
 abbrev KeepsOrNot : SchedulerState → ℕ → Step → Type 0
 KeepsOrNot s c out = out.entry.picked ≡ None → ((cpu_at out.state c).running ≡ None) ⊎ ((cpu_at out.state c).running ≡ (cpu_at s c).running)
-
-chosen_none : (r : SchedulerState) (ps : List PartFacts) (c : ℕ) (best : Option Contender) → c < length r.cpus → option_map (λ (b : Contender). b.thread) best ≡ None → (cpu_at (chosen r ps c best) c).running ≡ None
-chosen_none r ps c None below e = ap (λ (z : CpuNow). z.running) (cpu_same r.cpus c _ below)
-chosen_none r ps c (Some b) below e = absurd cc
 
 keeps_or_not : (scenario : Scenario) (s : SchedulerState) (h : List Entry) (c : ℕ) → IsStanding scenario s c → c < length s.cpus → KeepsOrNot s c (step scenario s h c)
 keeps_or_not scenario s h c st below =
@@ -73,7 +66,7 @@ keeps_or_not scenario s h c st below =
     let ps = all_parts r.shape r.rows (h ++ (record (bill_at s h c) { done = did.done }) ∷ []) (now / r.shape.tick) in
     let best = greatest r.shape.free ps (contenders r) in
     let q = chosen r ps c best in
-    inl (flag_running q now (flag_for q h ps c now (greatest r.shape.free ps (contenders q))) c ∙ chosen_none r ps c best (subst (λ n. c < n) (sym (mid_count scenario s c r back.mid)) below) none))
+    inl (flag_running q now (flag_for q h ps c now (greatest r.shape.free ps (contenders q))) c ∙ no_best r ps c best (subst (λ n. c < n) (sym (mid_count scenario s c r back.mid)) below) none))
 
 -- ---- through a step
 
@@ -146,18 +139,13 @@ all_step scenario order a h c r over turn m =
         let l = f.partition in
         omega (arith, l, partition)
 
-no_channels : (names : List (List ℕ)) (d : ℕ) → slice_index_or (map (λ (name : List ℕ). no_channel) names) d no_channel ≡ no_channel
-no_channels [] d = refl
-no_channels (name ∷ names) zero = refl
-no_channels (name ∷ names) (suc d) = no_channels names d
-
 all_opening : (scenario : Scenario) → IsScenario scenario → AllFit scenario (at_start scenario) []
 all_opening scenario r = record {
   sound = sound_opening scenario;
   count = start_count scenario.shape scenario.threads 0 0;
   fit = fit_opening scenario r;
   lists = record {
-    messages = λ d. subst (λ (k : ChannelNow). All (λ (m : Message). IsPriority m.priority) k.messages) (sym (no_channels scenario.channels d)) (All-nil (λ (m : Message). IsPriority m.priority));
+    messages = λ d. subst (λ (k : ChannelNow). All (λ (m : Message). IsPriority m.priority) k.messages) (sym (empty_channel scenario.channels d)) (All-nil (λ (m : Message). IsPriority m.priority));
     triples = All-nil (λ (t : Triple). t.channel < length scenario.channels);
   };
   kept = λ c p is. absurd (nobody p (sym (ap (λ (z : CpuNow). z.running) (idle_opening scenario c)) ∙ is));

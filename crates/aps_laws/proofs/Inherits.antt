@@ -2,10 +2,10 @@
 use Rattle.std.proofs.Common.{◌≡◌, ℕ, zero, suc, ◌<◌, ◌≤◌, max, List, [], ◌∷◌, map, length, refl, sym, subst, Bool, true, false, cond, nat_eq, Option, Some, None, slice_index_or, arith}
 use Rattle.std.specs.Prelude.{unwrap_or, All}
 use Rattle.std.specs.List.{fold}
-use Rattle.aps_model.specs.declared.state.ThreadNow.{ThreadNow}
 use Rattle.aps_laws.specs.Ids.{AreFactsFit}
 use Rattle.aps_model.specs.Inherit.{Inheritance, facts_of, follow, inheritance_of, top_at, top_of}
-use Rattle.aps_model.specs.SchedulerState.{ChannelNow, Message, SchedulerState, Triple, channel_at, no_channel, no_facts, no_thread, thread_at}
+use Rattle.aps_model.specs.SchedulerState.{ChannelNow, Message, SchedulerState, Triple, channel_at, no_channel, no_facts, thread_at}
+use Rattle.aps_laws.proofs.Chains.{own_at}
 
 -- ---- lists whose elements all have a property
 
@@ -20,11 +20,6 @@ all_more P Q xs f each k d below = f (slice_index_or xs k d) (each k d below)
 
 pub all_both : {X : Type 0} (P Q R : X → Type 0) (xs : List X) → ((x : X) → P x → Q x → R x) → All P xs → All Q xs → All R xs
 all_both P Q R xs f a b k d below = f (slice_index_or xs k d) (a k d below) (b k d below)
-
-own_at : (threads : List ThreadNow) (x : ℕ) → slice_index_or (map (λ (t : ThreadNow). t.own) threads) x no_facts ≡ (slice_index_or threads x no_thread).own
-own_at [] x = refl
-own_at (t ∷ ts) zero = refl
-own_at (t ∷ ts) (suc x) = own_at ts x
 
 -- ---- ranges
 

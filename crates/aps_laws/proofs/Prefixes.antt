@@ -4,13 +4,14 @@ use Rattle.std.proofs.lemmas.List.{append-nil}
 use Rattle.aps_model.specs.declared.entry.Entry.{Entry}
 use Rattle.aps_model.specs.declared.entry.Order.{Order}
 use Rattle.aps_laws.specs.Runs.{GoesOn, IsOneMore}
-use Rattle.aps_laws.proofs.Sound.{legal_last, after-append}
+use Rattle.aps_laws.proofs.Sound.{legal_last}
 use Rattle.aps_laws.proofs.Words.{prefix_legal}
 use Rattle.aps_model.specs.After.{After, after, after_from, at_start, left_by, over}
 use Rattle.aps_model.specs.Due.{HasTurn}
 use Rattle.aps_model.specs.Legal.{IsLegal, LegalFrom}
 use Rattle.aps_model.specs.Scenario.{Scenario}
 use Rattle.aps_model.specs.Step.{step}
+use Rattle.aps_model.proofs.AfterLaws.{after-append}
 
 record IsNextFrom (scenario : Scenario) (order : Order) (a : After) (h : List Entry) (e : Entry) : Type 0 where
   running : over a h ≡ None

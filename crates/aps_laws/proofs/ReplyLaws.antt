@@ -20,7 +20,7 @@ use Rattle.aps_laws.proofs.Mid.{unflagged}
 use Rattle.aps_laws.proofs.MomentLaws.{moment-append}
 use Rattle.aps_laws.proofs.Places.{place_once, places_few, places_more, places_none, sum_map}
 use Rattle.aps_laws.proofs.Prefixes.{by_entries}
-use Rattle.aps_laws.proofs.Sound.{after-append, legal_last, next_law, sound, step_law}
+use Rattle.aps_laws.proofs.Sound.{legal_last, next_law, sound, step_law}
 use Rattle.aps_laws.proofs.StepOf.{horizon_same}
 use Rattle.aps_model.specs.After.{After, after, state_after}
 use Rattle.aps_model.specs.Due.{due}
@@ -31,6 +31,7 @@ use Rattle.aps_model.specs.Shape.{horizon}
 use Rattle.aps_model.specs.Step.{begun, step}
 use Rattle.aps_model.specs.TickWork.{commands_of, do_command, do_commands, has_tick_work, tick_work, wake_all}
 use Rattle.aps_model.specs.Valid.{IsCommand, IsScenario}
+use Rattle.aps_model.proofs.AfterLaws.{after-append}
 
 -- ---- the replies of a step
 

@@ -145,7 +145,7 @@ effect_stamps scenario s x now CriticalOff = omega arith
 effect_stamps scenario s x now Repeat = omega arith
 effect_stamps scenario s x now Exit = replied_stamps scenario s x now (client_of s.triples x)
 
-entered_stamps : (scenario : Scenario) (s : SchedulerState) (x now : ℕ) (op : Op) (st : State) → (enter_next scenario s x now op st).stamps ≡ s.stamps
+pub entered_stamps : (scenario : Scenario) (s : SchedulerState) (x now : ℕ) (op : Op) (st : State) → (enter_next scenario s x now op st).stamps ≡ s.stamps
 entered_stamps scenario s x now op (Running c) = refl
 entered_stamps scenario s x now op Ready = refl
 entered_stamps scenario s x now op (Sleeping until) = refl

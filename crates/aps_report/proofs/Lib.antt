@@ -1,4 +1,3 @@
-pub mod Taken
 pub mod Ranges
 pub mod Spans
 pub mod Sums

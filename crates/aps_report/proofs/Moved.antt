@@ -7,7 +7,7 @@ use Rattle.std.proofs.Math.Seq.{take-append-add}
 use Rattle.aps_model.specs.declared.entry.Entry.{Entry}
 use Rattle.aps_model.specs.Journal.{entry_line, journal_text}
 use Rattle.aps_report.specs.Pieces.{IsMoved, IsPrefixWritten}
-use Rattle.aps_report.proofs.Taken.{taken}
+use Rattle.aps_model.proofs.Ends.{taken}
 
 -- a front was written, then a further front of what waited
 pub moved-trans : (a b c : Option (List ℕ)) (text waiting later : List ℕ) → IsMoved a b text waiting → IsMoved b c waiting later → IsMoved a c text later

@@ -1,6 +1,5 @@
 -- The calls that are read have their ranges.
-use Rattle.std.proofs.Common.{◌≡◌, ℕ, ◌<◌, ◌≤◌, ◌⊎◌, Bool, true, false, not, ◌||◌, List, [], ◌∷◌, length, Option, Some, None, Result, Ok, Err, inl, inr, refl, sym, subst, arith, IfSome}
-use Rattle.std.proofs.lemmas.Bool.{cases_Bool}
+use Rattle.std.proofs.Common.{◌≡◌, ℕ, ◌<◌, ◌≤◌, ◌⊎◌, Bool, true, false, not, ◌||◌, List, [], ◌∷◌, length, Option, Some, None, Result, Ok, Err, inl, inr, refl, subst, arith, IfSome}
 use Rattle.std.proofs.lemmas.List.Quantifiers.{position-Some}
 use Rattle.std.specs.Prelude.{IsSome, is_some}
 use Rattle.toml.specs.Data.{Data, Members, get_member}
@@ -9,19 +8,18 @@ use Rattle.aps_model.specs.declared.command.Call.TheVariants as call
 use Rattle.aps_model.specs.declared.scenario.ThreadRow.{ThreadRow}
 use Rattle.aps_model.specs.Name.{IsName}
 use Rattle.aps_model.specs.Scenario.{no_thread_row}
-use Rattle.aps_model.specs.Valid.{IsCall, IsCreate, IsModify, IsWindow, created_name}
+use Rattle.aps_model.specs.Valid.{IsCall, IsWindow, created_name}
 use Rattle.aps_scenario.specs.declared.key.Key.{Key}
-use Rattle.aps_scenario.specs.declared.key.Key.TheVariants.{Name, Parent, Partition, Budget, Critical, Max, Thread, Window, Free, Limit, Bankruptcy}
+use Rattle.aps_scenario.specs.declared.key.Key.TheVariants.{Name, Parent, Partition, Budget, Critical, Max, Window, Free, Limit, Bankruptcy}
 use Rattle.aps_scenario.specs.declared.kind.Kind.TheVariants.{Missing}
-use Rattle.aps_scenario.specs.declared.refusal.Finding.{Finding}
 use Rattle.aps_scenario.specs.declared.refusal.Place.{Place}
 use Rattle.aps_scenario.specs.declared.words.CommandKind.{CommandKind}
 use Rattle.aps_scenario.specs.declared.words.CommandKind.TheVariants.{Create, Modify, Lookup, QueryPartition, QueryThread, QueryParameters, SetParameters, Statistics, MarkCritical, ClearCritical}
 use Rattle.aps_scenario.specs.Key.{key_text}
 use Rattle.aps_scenario.specs.Partitions.{row_budget, row_critical, row_max, system_name}
-use Rattle.aps_scenario.specs.Row.{Row, row_integer, row_name, name, value_of, at_key, given, or_default, optional, some_of, refuse_if}
+use Rattle.aps_scenario.specs.Row.{Row, row_integer, row_name, name, value_of, at_key, given, optional, some_of}
 use Rattle.aps_scenario.specs.Sizes.{row_window, row_free, row_limit, row_bankruptcy}
-use Rattle.aps_scenario.specs.Calls.{has_key, some_key, row_partition_name, thread_named, thread_of, row_thread, create_at, modify_at, set_parameters_at, on_partition_at, on_thread_at, call_at}
+use Rattle.aps_scenario.specs.Calls.{has_key, some_key, row_partition_name, thread_named, row_thread, create_at, modify_at, set_parameters_at, on_partition_at, on_thread_at, call_at}
 use Rattle.aps_scenario.proofs.Trees.{or_unknown-ok, system_named}
 use Rattle.aps_scenario.proofs.Values.{bind-ok, ok-same, refuse_if-ok, value_of-ok, named-ok, named_or-ok, required-ok, defaulted-ok, optional-ok, integer-ok, InRange}
 

@@ -8,10 +8,9 @@ use Rattle.aps_model.specs.declared.command.CommandRow.{CommandRow}
 use Rattle.aps_model.specs.declared.scenario.ThreadRow.{ThreadRow}
 use Rattle.aps_model.specs.declared.shape.Shape.{Shape}
 use Rattle.aps_model.specs.Valid.{IsCommand, created_name as created_by}
-use Rattle.aps_scenario.specs.declared.key.Key.TheVariants.{Command, Name, Tick, Do}
+use Rattle.aps_scenario.specs.declared.key.Key.TheVariants.{Command, Name, Tick}
 use Rattle.aps_scenario.specs.declared.kind.Kind.{Kind}
 use Rattle.aps_scenario.specs.declared.kind.Kind.TheVariants.{OutOfRange}
-use Rattle.aps_scenario.specs.declared.refusal.Finding.{Finding}
 use Rattle.aps_scenario.specs.declared.refusal.Place.{Place}
 use Rattle.aps_scenario.specs.declared.refusal.Place.TheVariants as place
 use Rattle.aps_scenario.specs.declared.words.CommandKind.{CommandKind}
@@ -22,7 +21,7 @@ use Rattle.aps_scenario.specs.Elements.{read_each, items_len, items_or_none, arr
 use Rattle.aps_scenario.specs.Joinable.{ok_of, then_of, command_kind, own_name, where_create, created_name, created_names, commands_in, created_at, listed}
 use Rattle.aps_scenario.specs.Key.{key_text}
 use Rattle.aps_scenario.specs.Row.{Row, table_of, table_or_wrong_kind, only, value_of, at_key, given, row_name, or_wrong_kind}
-use Rattle.aps_scenario.proofs.CallRanges.{IsCreated, IsOther, IsReadCall, call_at-ok}
+use Rattle.aps_scenario.proofs.CallRanges.{IsOther, IsReadCall, call_at-ok}
 use Rattle.aps_scenario.proofs.Elements.{read_each-keeps, tables-ok}
 use Rattle.aps_scenario.proofs.Values.{bind-ok, ok-same, cond-ok, required-ok}
 

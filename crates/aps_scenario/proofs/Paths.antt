@@ -1,6 +1,6 @@
 -- Paths, as they lie in their 64 bytes.
-use Rattle.std.proofs.Common.{arith, ◌≡◌, ℕ, suc, ◌-◌, ◌+◌, ◌/◌, ◌%◌, ◌≤◌, ◌<◌, ◌++◌, List, [], ◌∷◌, slice_set, take, drop, replicate, length, slice_index_or, refl, sym, ◌∙◌, ap, append_assoc}
-use Rattle.std.proofs.lemmas.List.{take-append-drop, length-take-le, take-replicate, take_more, take_more_set, drop-set-lt, drop-replicate, drop-drop, length-set, length-append}
+use Rattle.std.proofs.Common.{arith, ◌≡◌, ℕ, suc, ◌-◌, ◌+◌, ◌/◌, ◌%◌, ◌≤◌, ◌<◌, ◌++◌, List, [], ◌∷◌, slice_set, take, drop, replicate, length, slice_index_or, sym, ◌∙◌, ap, append_assoc}
+use Rattle.std.proofs.lemmas.List.{take-append-drop, length-take-le, take-replicate, take_more, take_more_set, drop-set-lt, drop-replicate, drop-drop, length-append}
 use Rattle.std.proofs.Math.Seq.{take-append-add, drop-append_seam, set-append_seam}
 use Rattle.std.proofs.lemmas.Fmt.{length-decimal-le, decimal_step, decimal_digit}
 use Rattle.std.specs.Fmt.{decimal}

@@ -1,5 +1,5 @@
 -- Names that are distinct are found and are new.
-use Rattle.std.proofs.Common.{◌≡◌, ℕ, suc, ◌<◌, Bool, false, ◌||◌, List, [], ◌∷◌, ◌++◌, length, map, get_or, take, Some, refl, ap, sym, ◌∙◌, arith, length-append}
+use Rattle.std.proofs.Common.{◌≡◌, ℕ, suc, ◌<◌, Bool, false, List, [], ◌∷◌, ◌++◌, length, map, get_or, take, Some, refl, ap, sym, ◌∙◌, arith, length-append}
 use Rattle.std.proofs.lemmas.Bool.{lt-ltb}
 use Rattle.std.proofs.lemmas.Cmp.{nat_list_eq_equiv}
 use Rattle.std.proofs.lemmas.List.{get_or-take, get_or_default, get_or-map, length-map, length-take, take-map}
@@ -8,6 +8,7 @@ use Rattle.std.proofs.lemmas.List.Sums.{position_or_len_is}
 use Rattle.std.proofs.lemmas.Map.Keys.{IsDistinct-from_apart, apart_from_distinct}
 use Rattle.std.specs.List.{IsDistinct, list_any, position, position_or_len}
 use Rattle.std.specs.Str.{bytes_eq}
+use Rattle.aps_scenario.proofs.Lists.{list_any-map}
 
 pub IsDistinct-take : {K : Type 0} (e : K → K → Bool) (n : ℕ) (ks : List K) → IsDistinct e ks → IsDistinct e (take n ks)
 IsDistinct-take e n ks distinct =
@@ -27,10 +28,6 @@ new-among-before n names d within distinct =
     none_passes : {X : Type 0} (test : X → Bool) (xs : List X) → ((k : ℕ) (e : X) → k < length xs → test (get_or xs k e) ≡ false) → list_any test xs ≡ false
     none_passes test [] fails = refl
     none_passes test (x ∷ xs) fails = rw (fails 0 x (omega arith)) (none_passes test xs (λ k e below. fails (suc k) e (omega arith)))
-
-pub list_any-map : {X Y : Type 0} (p : Y → Bool) (f : X → Y) (xs : List X) → list_any p (map f xs) ≡ list_any (λ x. p (f x)) xs
-list_any-map p f [] = refl
-list_any-map p f (x ∷ xs) = ap (λ b. p (f x) || b) (list_any-map p f xs)
 
 -- the one with this name is found at its place
 pub position-named : {X : Type 0} (name : X → List ℕ) (xs : List X) (i : ℕ) (d : X) → i < length xs → IsDistinct bytes_eq (map name xs)

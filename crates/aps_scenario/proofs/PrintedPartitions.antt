@@ -17,9 +17,10 @@ use Rattle.aps_scenario.specs.Partitions.{partition_at, is_partition, next_parti
 use Rattle.aps_scenario.specs.PrintedTree.{given_back, rows_before, listed, listed_rows}
 use Rattle.aps_scenario.specs.PrintedPartitions.{partition_table}
 use Rattle.aps_scenario.proofs.PrintedElements.{read_each-push}
-use Rattle.aps_scenario.proofs.PrintedNames.{new-among-before, list_any-map, position-named}
+use Rattle.aps_scenario.proofs.PrintedNames.{new-among-before, position-named}
 use Rattle.aps_scenario.proofs.PrintedTree.{length-before, before-parent, before-kept, names-before, before-tree, before-gives}
 use Rattle.aps_scenario.proofs.PrintedValues.{no_rest, not_less, is_name-true}
+use Rattle.aps_scenario.proofs.Lists.{list_any-map}
 
 -- what a partition has that is new, over the rows before it
 pub record IsNewRow (parts : ℕ) (before : List PartitionRow) (parent : List ℕ) (row : PartitionRow) : Type 0 where

@@ -1,15 +1,15 @@
 -- Small tables, read.
 use lib.Chars.{codes}
-use Rattle.std.proofs.Common.{◌≡◌, ℕ, List, [], ◌∷◌, pos, Some, None, Ok, Err, refl, map, length, Result, Option}
-use Rattle.toml.specs.Data.{Data, Items, no_items, item, Members, no_members, member, integer, string, array, table, boolean}
+use Rattle.std.proofs.Common.{◌≡◌, ℕ, List, [], ◌∷◌, pos, Some, None, Ok, Err, refl, map, Result, Option}
+use Rattle.toml.specs.Data.{Data, Items, no_items, item, Members, no_members, member, integer, string, array, table}
 use Rattle.std.specs.Fmt.{digits}
 use Rattle.aps_model.specs.Scenario.{Scenario}
 use Rattle.aps_model.specs.declared.scenario.ThreadRow.{ThreadRow}
 use Rattle.aps_model.specs.declared.program.Op.{Op}
-use Rattle.aps_model.specs.declared.program.Op.TheVariants.{Run, Forever, Send, Repeat, Join, Receive}
-use Rattle.aps_scenario.specs.declared.kind.Kind.TheVariants.{UnknownName, BadOperation, OutOfRange, Missing, UnknownKey}
+use Rattle.aps_model.specs.declared.program.Op.TheVariants.{Run, Send, Repeat, Join}
+use Rattle.aps_scenario.specs.declared.kind.Kind.TheVariants.{UnknownName}
 use Rattle.aps_scenario.specs.declared.refusal.Finding.{Finding}
-use Rattle.aps_scenario.specs.Reading.{scenario_at, or_told}
+use Rattle.aps_scenario.specs.Reading.{scenario_at}
 use Rattle.aps_scenario.specs.Elements.{read_each}
 use Rattle.aps_scenario.specs.Sizes.{shape_at}
 use Rattle.aps_scenario.specs.Partitions.{partitions_at, partition_at}

@@ -1,6 +1,6 @@
 -- The budgets of a subtree, where one more partition takes its budget from a row.
-use Rattle.std.proofs.Common.{◌≡◌, ◌≢◌, ℕ, zero, suc, ◌+◌, ◌-◌, ◌<◌, ◌≤◌, ◌++◌, List, [], ◌∷◌, length, get_or, slice_set, Bool, true, false, cond, ◌||◌, nat_eq, refl, ap, sym, ◌∙◌, arith, add-one, inl, inr, length-append}
-use Rattle.std.proofs.lemmas.Bool.{cases_order, cases_Bool}
+use Rattle.std.proofs.Common.{◌≡◌, ◌≢◌, ℕ, zero, suc, ◌+◌, ◌-◌, ◌<◌, ◌≤◌, List, [], ◌∷◌, length, slice_set, Bool, true, false, cond, ◌||◌, nat_eq, refl, ap, sym, ◌∙◌, arith, add-one, inl, inr, length-append}
+use Rattle.std.proofs.lemmas.Bool.{cases_order}
 use Rattle.std.proofs.lemmas.Bool.Decides.{nat_tests}
 use Rattle.std.proofs.lemmas.List.{get_or-set_same, get_or-set_other, length-set}
 use Rattle.std.proofs.Math.ListN.{get_or-append}

@@ -10,7 +10,7 @@ use Rattle.std.proofs.lemmas.List.Sums.{sum-map, sum_by_push, sum_by-set}
 use Rattle.std.proofs.lemmas.Map.Keys.{IsDistinct-push}
 use Rattle.std.proofs.lemmas.Cmp.{nat_list_eq_equiv}
 use Rattle.std.proofs.Math.Seq.{map-set_same}
-use Rattle.std.specs.List.{sum, sum_by, IsDistinct}
+use Rattle.std.specs.List.{sum_by, IsDistinct}
 use Rattle.std.specs.Str.{bytes_eq}
 use Rattle.toml.specs.Data.{Data, Members}
 use Rattle.aps_model.specs.Name.{IsName}

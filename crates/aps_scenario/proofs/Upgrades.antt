@@ -1,24 +1,22 @@
 -- A scenario with each budget and maximum times ten is a scenario.
-use Rattle.std.proofs.Common.{◌≡◌, ◌≢◌, ℕ, zero, suc, ◌+◌, ◌*◌, ◌<◌, ◌≤◌, ◌++◌, ◌⊎◌, ◌||◌, Bool, true, false, cond, List, [], ◌∷◌, length, get_or, take, drop, map, slice_set, Option, Some, None, inl, inr, refl, ap, sym, subst, ◌∙◌, arith, add-one, nat_eq, append_assoc, drop-cons, IfSome, All}
+use Rattle.std.proofs.Common.{◌≡◌, ◌≢◌, ℕ, zero, suc, ◌+◌, ◌*◌, ◌<◌, ◌≤◌, ◌++◌, ◌||◌, Bool, true, false, cond, List, [], ◌∷◌, length, get_or, take, drop, map, slice_set, Option, Some, None, inl, inr, refl, ap, sym, subst, ◌∙◌, arith, add-one, nat_eq, append_assoc, drop-cons, IfSome, All}
 use Rattle.std.proofs.lemmas.List.{map-append, take_more, length-take-le, length-map}
 use Rattle.std.proofs.lemmas.List.Elements.{All-map}
 use Rattle.std.proofs.lemmas.List.Sums.{sum-map, sum_by-cons}
 use Rattle.std.proofs.Math.ListN.{get_or-map}
 use Rattle.std.proofs.Math.Seq.{get_or-append_seam, set-append_seam}
-use Rattle.std.specs.List.{sum, sum_by, range_with_len, filter_map, IsDistinct}
+use Rattle.std.specs.List.{sum_by, range_with_len, filter_map}
 use Rattle.std.specs.Option.{option_map}
 use Rattle.std.specs.Prelude.{IsSome}
-use Rattle.std.specs.Str.{bytes_eq}
 use Rattle.aps_model.specs.declared.shape.Shape.{Shape}
 use Rattle.aps_model.specs.declared.partition.PartitionRow.{PartitionRow}
 use Rattle.aps_model.specs.declared.command.CommandRow.{CommandRow}
 use Rattle.aps_model.specs.declared.command.Call.{Call}
 use Rattle.aps_model.specs.declared.command.Call.TheVariants.{Create, Modify, Lookup, QueryPartition, QueryThread, QueryParameters, SetParameters, Statistics, MarkCritical, ClearCritical}
-use Rattle.aps_model.specs.declared.scenario.ThreadRow.{ThreadRow}
 use Rattle.aps_model.specs.Partition.{row_or_none, no_row, IsFundedRow}
 use Rattle.aps_model.specs.Scenario.{Scenario}
 use Rattle.aps_model.specs.Shape.{IsShape}
-use Rattle.aps_model.specs.Upgrade.{times_ten, row_times_ten, call_times_ten, upgraded}
+use Rattle.aps_model.specs.Upgrade.{times_ten, row_times_ten, call_times_ten}
 use Rattle.aps_model.specs.Valid.{is_within, subtree_budget, IsTree, IsThreadRow, IsCall, IsCommand, IsScenario, created_name, joinable}
 use Rattle.aps_scenario.specs.Upgrading.{IsInHundredths}
 use Rattle.aps_scenario.proofs.Lists.{places_more}

@@ -5,7 +5,6 @@ use Rattle.std.specs.Str.{bytes_eq}
 use Rattle.toml.specs.Data.{Data, Members, no_members, member, get_member, as_integer, as_str, as_bool, as_table}
 use Rattle.aps_model.specs.Name.{is_name_byte}
 use Rattle.aps_scenario.specs.declared.key.Key.{Key}
-use Rattle.aps_scenario.specs.declared.key.Key.TheVariants.{Name}
 use Rattle.aps_scenario.specs.declared.kind.Kind.{Kind}
 use Rattle.aps_scenario.specs.declared.kind.Kind.TheVariants.{Missing, WrongKind, OutOfRange, BadName, UnknownKey}
 use Rattle.aps_scenario.specs.declared.refusal.Place.{Place}

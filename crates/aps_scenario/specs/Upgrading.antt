@@ -1,4 +1,4 @@
-use Rattle.std.specs.Prelude.{ℕ, ◌≤◌, IfSome, ⊤}
+use Rattle.std.specs.Prelude.{◌≤◌, IfSome, ⊤}
 use Rattle.aps_model.specs.declared.command.Call.{Call}
 use Rattle.aps_model.specs.declared.command.Call.TheVariants.{Create, Modify}
 

@@ -5,14 +5,14 @@ use Rattle.std.proofs.lemmas.List.{append-nil}
 use Rattle.std.proofs.lemmas.List.Elements.{All-head, All-tail, All-push}
 use Rattle.aps_model.specs.declared.entry.Entry.{Entry}
 use Rattle.aps_model.specs.Journal.{entry_line, journal_text, IsLine, IsJournal}
-use Rattle.aps_text.specs.Reader.{Reading}
 use Rattle.aps_text.specs.Line.{line_at}
 use Rattle.aps_text.specs.Place.{Place, place_after}
 use Rattle.aps_text.specs.Refusal.{BeginsJournal, IsBadNext, IsFirstBad}
-use Rattle.aps_text.proofs.Readers.{IsBegun, ok_parts}
+use Rattle.aps_text.proofs.Readers.{IsBegun, ok_parts, cons_is}
 use Rattle.aps_text.proofs.Lines.{journal_text-push}
 use Rattle.aps_text.proofs.Entries.{SpellsLine, IsReader-line}
 use Rattle.aps_text.proofs.Places.{is_one_line, one_line_front, line_body, one_line_body, line_is, place_behind}
+use Rattle.aps_text.proofs.Numbers.{err_apart}
 
 -- ---- the first line of a text
 
@@ -24,9 +24,6 @@ pub line_apart : (e : Entry) (rest : List ℕ) → entry_line e ++ rest ≡ [] �
 line_apart e rest same =
     let none : length ((line_body e ++ 10 ∷ []) ++ rest) ≡ 0 = ap length same in
     omega (arith, length-append (line_body e ++ 10 ∷ []) rest, length-append (line_body e) (10 ∷ []))
-
-err_apart : {A : Type 0} (left : List ℕ) (x : A × List ℕ) → (λ (r : Reading A). r) (Err left) ≡ Ok x → ⊥
-err_apart left x e = cc
 
 -- where a line can't be read, no journal begins
 no_line : (es : List Entry) (bytes rest : List ℕ) → All IsLine es → (bytes ≡ [] → ⊥) → line_at bytes ≡ Err rest → bytes ≡ journal_text es → ⊥
@@ -67,9 +64,6 @@ pub begins_down : (front more : List ℕ) → BeginsJournal (front ++ more) → 
 begins_down front more (es, rest, j) = (es, more ++ rest, record { lines = j.lines; text = sym (append_assoc front more rest) ∙ j.text })
 
 -- ---- where a line can't be read
-
-cons_is : (c d : ℕ) (cs ds : List ℕ) → c ≡ d → cs ≡ ds → c ∷ cs ≡ d ∷ ds
-cons_is c d cs ds e f = cc
 
 cons_apart : (front : List ℕ) (x : ℕ) (xs : List ℕ) → front ++ x ∷ xs ≡ [] → ⊥
 cons_apart [] x xs e = cc

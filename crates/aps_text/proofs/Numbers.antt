@@ -15,7 +15,7 @@ decimal_push v d some small fits =
     let last : (v * 10 + d) % 10 ≡ d = omega arith in
     decimal_step (v * 10 + d) (omega arith) fits ∙ rw (front, last) refl
 
-err_apart : {A : Type 0} (left : List ℕ) (x : A × List ℕ) → (λ (r : Reading A). r) (Err left) ≡ Ok x → ⊥
+pub err_apart : {A : Type 0} (left : List ℕ) (x : A × List ℕ) → (λ (r : Reading A). r) (Err left) ≡ Ok x → ⊥
 err_apart left x e = cc
 
 err_is : (x y : List ℕ) → (λ (r : Reading ℕ). r) (Err x) ≡ Err y → x ≡ y

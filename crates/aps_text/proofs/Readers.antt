@@ -88,7 +88,7 @@ pub bind_ok : {A B : Type 0} (r : Result A (List ℕ)) (f : A → Result B (List
 bind_ok (Ok x) f y e = (x, refl, e)
 bind_ok (Err d) f y e = absurd cc
 
-cons_is : (c d : ℕ) (cs ds : List ℕ) → c ≡ d → cs ≡ ds → c ∷ cs ≡ d ∷ ds
+pub cons_is : (c d : ℕ) (cs ds : List ℕ) → c ≡ d → cs ≡ ds → c ∷ cs ≡ d ∷ ds
 cons_is c d cs ds e f = cc
 
 nil_apart : (front : List ℕ) (x : ℕ) (xs : List ℕ) → [] ≡ front ++ x ∷ xs → ⊥

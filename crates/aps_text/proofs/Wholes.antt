@@ -12,15 +12,12 @@ use Rattle.aps_text.specs.Line.{line_at}
 use Rattle.aps_text.specs.Place.{Place, place_after}
 use Rattle.aps_text.specs.Refusal.{BeginsJournal, IsBadNext, IsFirstBad}
 use Rattle.aps_text.specs.Whole.{lines_at, journal_at, reads_on, begins_journal, place_of, first_bad_place}
-use Rattle.aps_text.proofs.Readers.{bind_ok, bind_err}
+use Rattle.aps_text.proofs.Readers.{bind_ok, bind_err, cons_is}
 use Rattle.aps_text.proofs.Entries.{IsReader-line}
 use Rattle.aps_text.proofs.Places.{line_body}
 use Rattle.aps_text.proofs.Journals.{begins_down, IsBadFrom, bad_from, first_bad}
 
 -- ---- one place at most
-
-cons_is : (c d : ℕ) (cs ds : List ℕ) → c ≡ d → cs ≡ ds → c ∷ cs ≡ d ∷ ds
-cons_is c d cs ds e f = cc
 
 cons_apart : (c : ℕ) (cs : List ℕ) → c ∷ cs ≡ [] → ⊥
 cons_apart c cs e = cc

@@ -1,5 +1,4 @@
 use Rattle.std.proofs.Common.{ap}
-use Rattle.toml.specs.View.{table_view}
 use Rattle.aps_scenario.specs.Reading.{or_told}
 use Rattle.aps_scenario.proofs.Documents.{reads-document, reads-no_document, not_so}
 use Rattle.aps_scenario.proofs.reading.scenario_of.Goals as goal

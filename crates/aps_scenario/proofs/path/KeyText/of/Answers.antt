@@ -1,4 +1,4 @@
-use Rattle.std.proofs.Common.{◌≡◌, ◌++◌, ◌-◌, take, replicate, length, arith, take_all, refl}
+use Rattle.std.proofs.Common.{◌≡◌, take, length, arith, take_all, refl}
 use Rattle.aps_scenario.proofs.Paths.{copied}
 use Rattle.aps_scenario.proofs.path.KeyText.of.Goals as goal
 
