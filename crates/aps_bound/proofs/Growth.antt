@@ -10,14 +10,14 @@ use Rattle.aps_model.specs.Audit.{audit_of, critical_over_from, over_from, short
 use Rattle.aps_model.specs.History.{History}
 use Rattle.aps_model.specs.Loaded.{finished_ticks, loaded_tick, loaded_windows}
 use Rattle.aps_bound.specs.Worst.{with_partition, with_partitions, with_window, with_windows, worst_with}
-use Rattle.aps_bound.proofs.Folds.{fold-more}
+use Rattle.aps_model.proofs.Ranges.{fold_more}
 
 -- one partition more
 pub partitions-more : (h : History) (audit : Audit) (a n : ℕ) → with_partitions h audit a (n + 1) ≡ with_partition h (with_partitions h audit a n) a n
 partitions-more h audit a n =
-    let over = fold-more (worst_with (over_from h) a) audit.worst_over 0 n n (omega arith) in
-    let short = fold-more (worst_with (short_from h) a) audit.worst_short 0 n n (omega arith) in
-    let critical = fold-more (worst_with (critical_over_from h) a) audit.critical_worst 0 n n (omega arith) in
+    let over = fold_more (worst_with (over_from h) a) audit.worst_over 0 n n (omega arith) in
+    let short = fold_more (worst_with (short_from h) a) audit.worst_short 0 n n (omega arith) in
+    let critical = fold_more (worst_with (critical_over_from h) a) audit.critical_worst 0 n n (omega arith) in
     ap (λ (o : Option Worst). record audit { worst_over = o; worst_short = fold (worst_with (short_from h) a) audit.worst_short (range_with_len 0 (n + 1)); critical_worst = fold (worst_with (critical_over_from h) a) audit.critical_worst (range_with_len 0 (n + 1)) }) over
     ∙ ap (λ (o : Option Worst). record audit { worst_over = worst_with (over_from h) a (fold (worst_with (over_from h) a) audit.worst_over (range_with_len 0 n)) n; worst_short = o; critical_worst = fold (worst_with (critical_over_from h) a) audit.critical_worst (range_with_len 0 (n + 1)) }) short
     ∙ ap (λ (o : Option Worst). record audit { worst_over = worst_with (over_from h) a (fold (worst_with (over_from h) a) audit.worst_over (range_with_len 0 n)) n; worst_short = worst_with (short_from h) a (fold (worst_with (short_from h) a) audit.worst_short (range_with_len 0 n)) n; critical_worst = o }) critical
@@ -34,7 +34,7 @@ windows_apart h audit (a ∷ windows) = windows_apart h (with_window h audit a) 
 -- with one window more
 pub windows_more : (h : History) (audit found next : Audit) (s a : ℕ) → s ≤ a → found ≡ with_windows h audit s a → next ≡ with_window h found a → next ≡ with_windows h audit s (a + 1)
 windows_more h audit found next s a from so_far more =
-    more ∙ ap (λ (x : Audit). with_window h x a) so_far ∙ sym (fold-more (with_window h) audit s (a - s) a (omega arith))
+    more ∙ ap (λ (x : Audit). with_window h x a) so_far ∙ sym (fold_more (with_window h) audit s (a - s) a (omega arith))
     ∙ ap (λ n. fold (with_window h) audit (range_with_len s n)) one_more
   where
     one_more : a - s + 1 ≡ a + 1 - s

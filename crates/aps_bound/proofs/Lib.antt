@@ -1,4 +1,3 @@
-pub mod Folds
 pub mod Steadiness
 pub mod Growth
 pub mod LoneSystem

@@ -1,5 +1,5 @@
 -- The sleepers that wake at a moment, found in one pass over the threads and woken one after the other.
-use Rattle.std.proofs.Common.{◌≡◌, ℕ, ◌+◌, ◌<◌, List, [], ◌∷◌, length, take, refl, ◌∙◌, ap, Option, Some, None, Bool, true, false, cond, zero-add, get_or, arith}
+use Rattle.std.proofs.Common.{◌≡◌, ℕ, ◌+◌, ◌<◌, List, [], ◌∷◌, length, take, refl, ◌∙◌, ap, Option, Some, None, Bool, true, false, cond, get_or, arith}
 use Rattle.std.specs.List.{filter_map, fold, range_with_len}
 use Rattle.std.proofs.lemmas.List.{take_more}
 use Rattle.std.proofs.lemmas.List.Elements.{filter_map-append}
@@ -8,7 +8,7 @@ use Rattle.aps_model.specs.Operation.{go_on}
 use Rattle.aps_model.specs.Scenario.{Scenario}
 use Rattle.aps_model.specs.SchedulerState.{SchedulerState, thread_at}
 use Rattle.aps_model.specs.TickWork.{insert_sleeper, is_earlier, wakes_at}
-use Rattle.aps_core.proofs.Ranges.{range_more}
+use Rattle.aps_model.proofs.Ranges.{range_more}
 
 abbrev Sleepers : Type 0
 Sleepers = List (ℕ × ℕ)
@@ -28,10 +28,9 @@ waking_one : (s : SchedulerState) (now n : ℕ) (o : Option (ℕ × ℕ)) → wa
 waking_one s now n o is =
     let f : ℕ → Option (ℕ × ℕ) = λ x. wakes_at now x (thread_at s x).state in
     let add : Sleepers → ℕ × ℕ → Sleepers = λ sleepers sleeper. insert_sleeper sleeper sleepers in
-    ap (λ xs. fold add [] (filter_map f xs)) (range_more 0 n)
-    ∙ ap (fold add []) (filter_map-append f (range_with_len 0 n) ((0 + n) ∷ []))
-    ∙ fold-append add [] (filter_map f (range_with_len 0 n)) (filter_map f ((0 + n) ∷ []))
-    ∙ ap (λ k. fold add (waking_below s now n) (filter_map f (k ∷ []))) (zero-add n)
+    ap (λ xs. fold add [] (filter_map f xs)) (range_more 0 n n (omega arith))
+    ∙ ap (fold add []) (filter_map-append f (range_with_len 0 n) (n ∷ []))
+    ∙ fold-append add [] (filter_map f (range_with_len 0 n)) (filter_map f (n ∷ []))
     ∙ by_wake f add o is
   where
     by_wake : (f : ℕ → Option (ℕ × ℕ)) (add : Sleepers → ℕ × ℕ → Sleepers) (o : Option (ℕ × ℕ)) → wakes_at now n (thread_at s n).state ≡ o

@@ -2,10 +2,9 @@
 use Rattle.std.proofs.Common.{◌≡◌, ◌≢◌, ℕ, zero, suc, ◌+◌, ◌<◌, ◌≤◌, List, [], ◌∷◌, ◌++◌, length, map, All, refl, sym, ◌∙◌, ap, subst, Bool, true, false, cond, nat_eq, nat_lt, slice_get, arith}
 use Rattle.std.specs.List.{AllByRecursion, count_by, enumerate_from, filter, flat_map, range_with_len, sum_by}
 use Rattle.std.proofs.lemmas.Bool.{le-ltb}
-use Rattle.std.proofs.lemmas.List.{append-nil, map-id}
+use Rattle.std.proofs.lemmas.List.{append-nil}
 use Rattle.std.proofs.lemmas.List.Concat.{flat_map-append}
 use Rattle.std.proofs.lemmas.List.Elements.{recursion_from_All, All-weaker}
-use Rattle.std.proofs.lemmas.List.FromFn.{map-range_with_len_more}
 use Rattle.std.proofs.lemmas.List.Sums.{sum_by-append, sum_by-cons}
 use Rattle.aps_model.specs.declared.command.CommandRow.{CommandRow}
 use Rattle.aps_laws.specs.Answered.{once_below, places_below, places_of}
@@ -13,15 +12,13 @@ use Rattle.aps_laws.specs.Waits.{one_if}
 use Rattle.aps_laws.proofs.WaitFacts.{test_ne, test_eq}
 use Rattle.aps_model.specs.Scenario.{Scenario}
 use Rattle.aps_model.specs.TickWork.{commands_of}
+use Rattle.aps_model.proofs.Ranges.{range_more}
 
 -- ---- one tick more
 
-range_more : (n : ℕ) → range_with_len 0 (n + 1) ≡ range_with_len 0 n ++ n ∷ []
-range_more n = sym (map-id (range_with_len 0 (n + 1))) ∙ map-range_with_len_more (λ k. k) 0 n n (omega arith) ∙ ap (λ l. l ++ n ∷ []) (map-id (range_with_len 0 n))
-
 pub places_more : (scenario : Scenario) (n : ℕ) → places_below scenario (n + 1) ≡ places_below scenario n ++ places_of scenario n
 places_more scenario n =
-    ap (flat_map (places_of scenario)) (range_more n)
+    ap (flat_map (places_of scenario)) (range_more 0 n n (omega arith))
     ∙ flat_map-append (places_of scenario) (range_with_len 0 n) (n ∷ [])
     ∙ ap (λ l. places_below scenario n ++ l) (append-nil (places_of scenario n))
 

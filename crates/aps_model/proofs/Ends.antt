@@ -1,6 +1,5 @@
 -- Where the processors' last entries ended.
-use Rattle.std.proofs.Common.{◌≡◌, ℕ, zero, suc, ◌+◌, ◌<◌, ◌≤◌, List, [], ◌∷◌, ◌++◌, length, take, slice_index, slice_set, get_or, Bool, true, false, nat_eq, if◌then◌else◌, Option, Some, unwrap_or, refl, sym, ap, ◌∙◌, add-one, arith}
-use Rattle.std.specs.List.{fold, range_with_len}
+use Rattle.std.proofs.Common.{◌≡◌, ℕ, ◌+◌, ◌<◌, ◌≤◌, List, [], ◌∷◌, ◌++◌, length, take, slice_index, slice_set, get_or, Bool, true, false, nat_eq, if◌then◌else◌, Option, Some, unwrap_or, refl, sym, ap, ◌∙◌, arith}
 use Rattle.std.proofs.lemmas.List.{take_more}
 use Rattle.std.proofs.lemmas.Bool.Decides.{nat_tests}
 use Rattle.std.proofs.lemmas.Grind.{common_steps}
@@ -27,15 +26,3 @@ ends_more ends h e places so_far c small = rw (put-at ends e.cpu e.to c (omega a
 -- the elements before one, with that one
 pub taken : {X : Type 0} (xs : List X) (i : ℕ) (x : X) → i < length xs → x ≡ get_or xs i x → take (i + 1) xs ≡ take i xs ++ x ∷ []
 taken xs i x inside is = take_more xs i x inside ∙ ap (λ y. take i xs ++ y ∷ []) (sym is)
-
--- ---- a fold over the numbers below one
-
-fold_suc : {A : Type 0} (f : A → ℕ → A) (z : A) (a n : ℕ) → fold f z (range_with_len a (suc n)) ≡ f (fold f z (range_with_len a n)) (a + n)
-fold_suc f z a zero = ap (f z) (omega arith)
-fold_suc f z a (suc n) = fold_suc f (f z a) (a + 1) n ∙ ap (f (fold f (f z a) (range_with_len (a + 1) n))) (omega arith)
-
--- one number more
-pub fold_range_more : {A : Type 0} (f : A → ℕ → A) (z : A) (n : ℕ) → fold f z (range_with_len 0 (n + 1)) ≡ f (fold f z (range_with_len 0 n)) n
-fold_range_more f z n =
-    let there : 0 + n ≡ n = omega arith in
-    rw add-one (fold_suc f z 0 n ∙ ap (f (fold f z (range_with_len 0 n))) there)

@@ -5,7 +5,6 @@ pub mod Cells
 pub mod Windowed
 pub mod Moved
 pub mod TwoEqual
-pub mod Ascii
 pub mod Rows
 pub mod Tables
 pub mod Answers

@@ -1,23 +1,12 @@
-use Rattle.std.proofs.Common.{◌≡◌, ℕ, zero, suc, ◌+◌, List, [], ◌∷◌, ◌++◌, ◌<◌, map, refl, sym, ap, ◌∙◌, add-one, arith}
+use Rattle.std.proofs.Common.{◌≡◌, ℕ, zero, suc, ◌+◌, List, ◌++◌, ◌<◌, map, refl, sym, ap, ◌∙◌, arith}
 use Rattle.std.specs.List.{flat_map, range_with_len}
 use Rattle.std.proofs.lemmas.List.{flat_map_more}
-
-range_suc : (a n : ℕ) → range_with_len a (suc n) ≡ range_with_len a n ++ (a + n) ∷ []
-range_suc a zero = let e : a ≡ a + 0 = omega arith in ap (λ x. x ∷ []) e
-range_suc a (suc n) =
-    let e : a + 1 + n ≡ a + suc n = omega arith in
-    ap (λ xs. a ∷ xs) (range_suc (a + 1) n ∙ ap (λ x. range_with_len (a + 1) n ++ x ∷ []) e)
-
--- one number more, from 0 on
-pub range_more : (n : ℕ) → range_with_len 0 (n + 1) ≡ range_with_len 0 n ++ n ∷ []
-range_more n =
-    let e : 0 + n ≡ n = omega arith in
-    rw add-one (range_suc 0 n) ∙ ap (λ x. range_with_len 0 n ++ x ∷ []) e
+use Rattle.aps_model.proofs.Ranges.{range_more}
 
 pub flat_map_range_more : {A : Type 0} (f : ℕ → List A) (start out longer : List A) (n : ℕ) → out ≡ start ++ flat_map f (range_with_len 0 n) → longer ≡ out ++ f n
     → longer ≡ start ++ flat_map f (range_with_len 0 (n + 1))
 flat_map_range_more f start out longer n so_far added =
-    added ∙ ap (λ t. t ++ f n) so_far ∙ flat_map_more f start (range_with_len 0 n) n ∙ ap (λ r. start ++ flat_map f r) (sym (range_more n))
+    added ∙ ap (λ t. t ++ f n) so_far ∙ flat_map_more f start (range_with_len 0 n) n ∙ ap (λ r. start ++ flat_map f r) (sym (range_more 0 n n (omega arith)))
 
 -- two functions that agree below a number
 flat_map_range_from : {A : Type 0} (f g : ℕ → List A) (a n : ℕ) → ((k : ℕ) → k < a + n → f k ≡ g k) → flat_map f (range_with_len a n) ≡ flat_map g (range_with_len a n)

@@ -11,7 +11,6 @@ pub mod PrintedJoinable
 pub mod PrintedScenario
 pub mod PrintedTable
 pub mod PrintedListing
-pub mod PrintedAscii
 pub mod Paths
 pub mod Tables
 pub mod Elements

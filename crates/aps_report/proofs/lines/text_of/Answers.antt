@@ -1,4 +1,4 @@
-use Rattle.aps_report.proofs.Ascii.{name-IsUtf8}
+use Rattle.aps_model.proofs.Ascii.{name-IsUtf8}
 use Rattle.aps_report.proofs.lines.text_of.Goals as goal
 
 pub unreachable-requires : goal.unreachable-requires
