@@ -1,4 +1,4 @@
--- Searches and folds over the numbers below one more.
+-- Searches over the numbers below one more.
 use Rattle.std.proofs.Common.{◌≡◌, ℕ, ◌+◌, [], ◌∷◌, ◌∙◌, ap, cond, Bool, true, false, ◌&&◌, refl, Some, None, arith}
 use Rattle.std.specs.List.{range_with_len, find, list_all}
 use Rattle.std.specs.Option.{option_or}
