@@ -33,13 +33,13 @@ fn main(rt: HostRuntime) -> ExitCode {
     let Ok(words) = words_of(&rt) else {
         return ExitCode::from(Status::NoMemory.code());
     };
-    if words.is_empty() {
-        // a hint for whoever starts the program by hand; nothing depends on it
-        let _ = eprintln!(rt; "usage: apsim solo < SCENARIO.toml (README.md has all commands)");
-    }
     let mut source = StdSource::new(rt.stdin());
     // standard output takes each piece at once, so that no fault comes after the last answer
     let mut sink = StdSink::new(rt.stdout());
     let ended = top::top(&rt, alloc, &words, &mut source, &mut sink, &OpenGate);
+    if ended.status == Status::WordsRefused.code() {
+        // a hint for whoever starts the program by hand; nothing depends on it
+        let _ = eprintln!(rt; "usage: apsim solo < SCENARIO.toml (README.md has all commands)");
+    }
     ExitCode::from(ended.status)
 }
