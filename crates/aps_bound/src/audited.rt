@@ -13,9 +13,9 @@ use aps_model::{Audit, History, Shape, finished_ticks};
 /// amounts in nanoseconds by which usage exceeds the budget, falls short of it, and by which critical usage exceeds
 /// the critical budget; an amount that would be negative counts as 0. Budgets and the window are those that stand
 /// last. Each amount comes with the first window that attains it, and of that window the lowest partition. There is
-/// none exactly where no window is loaded. It takes no memory. Where the entries are in order of ticks, as in every
-/// history that came from a run, the cost is that of a few passes over the entries, and for each loaded window that of
-/// a look at each partition; else it is that of one pass over the entries for each loaded window.
+/// none exactly where no window is loaded. It takes no memory. Where no entry ends before an earlier one and each ends by
+/// the first boundary after its beginning, the cost is that of a few passes over the entries, and for each loaded window
+/// that of a look at each partition; else it is that of one pass over the entries for each loaded window.
 pub fn audit(history: &History) -> Audit
     ensures { result ≡ audit_of history.now }
 {

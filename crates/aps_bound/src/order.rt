@@ -6,8 +6,7 @@ ghost use Rattle.aps_bound.specs.Order.{IsInOrder};
 
 use aps_model::{Entry, Nanos};
 
-/// Whether no entry ends before an earlier one, and each ends by the first boundary after its beginning. So it is in
-/// every history that came from a run.
+/// Whether no entry ends before an earlier one, and each ends by the first boundary after its beginning.
 pub fn is_in_order(entries: &[Entry], tick: u64) -> bool
     requires entries { All IsEntry entries.now }
     requires some { 0 < tick }
