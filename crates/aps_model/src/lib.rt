@@ -4,6 +4,7 @@
 
 pub mod audit;
 pub mod command;
+pub mod demand;
 pub mod entry;
 pub mod finished;
 pub mod history;
@@ -22,6 +23,7 @@ pub use audit::{Audit, Worst};
 pub use command::{
     Answer, Call, Change, ChangeKind, CommandRow, CtlRefusal, CtlView, Reply, ThreadView,
 };
+pub use demand::Demand;
 pub use entry::{Done, End, Entry, Order};
 pub use finished::finished_ticks;
 pub use history::History;
