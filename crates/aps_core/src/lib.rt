@@ -2,15 +2,17 @@
 //! Threads of several processors share it under a lock above.
 #![tactic(auto)]
 
+mod append;
 mod carried;
 mod due;
 mod machine;
 mod merit;
 mod recording;
-mod room;
+mod rooms;
 mod simulator;
 mod turn;
 mod usage;
 
+pub use rooms::Room;
 pub use simulator::Core;
 pub use turn::Turn;

@@ -12,12 +12,13 @@ ghost use Rattle.aps_laws.specs.Choices.{EachPickIsGreatest};
 ghost use Rattle.aps_laws.specs.Runs.{EndsNoSooner};
 ghost use Rattle.aps_core.specs.declared.turn.Turn.TheVariants.{Took};
 ghost use Rattle.aps_core.specs.Core.{IsUnderWay};
-ghost use Rattle.aps_core.specs.Run.{IsLater, end_of_run, finished_run, history_of, most_changes, state_of, with_last};
+ghost use Rattle.aps_core.specs.Run.{IsLater, end_of_run, finished_run, history_of, most_changes, rooms_of, state_of, with_last};
 ghost use Rattle.aps_core.specs.Turn.{HasTurnIn, IsFed, IsOwn, IsTaken, IsTurn, after_turn, with_entry};
 
 use crate::machine::Machine;
 use crate::machine::wake::Sleepers;
 use crate::recording;
+use crate::rooms::Room;
 use crate::turn::Turn;
 use aps_ctl::Ctl;
 use aps_model::{CpuId, End, Entry, History, Nanos, NoMemory, Order, PartFacts, Scenario};
@@ -128,6 +129,22 @@ impl Core {
         ensures cpus { All (λ e. e.cpu < self.setup.scenario.shape.cpus) self.entries }
     {
         self.history
+    }
+
+    /// For how many entries, replies and changes `boot` took room. It is the room of the history, takes no memory, and
+    /// stays the same in all steps.
+    pub fn room(&self) -> Room
+        ensures entries { result.entries ≡ (rooms_of self.now.setup).entries }
+        ensures replies { result.replies ≡ (rooms_of self.now.setup).replies }
+        ensures changes { result.changes ≡ (rooms_of self.now.setup).changes }
+        ensures taken { (history_of self.now).room ≡ record { entries = result.entries; replies = result.replies; changes = result.changes } }
+    {
+        let scenario = self.history.scenario();
+        Room {
+            entries: self.limit,
+            replies: scenario.commands().len() as u16,
+            changes: most_changes(scenario) as u16,
+        }
     }
 
     /// One step of the processor. The answer is the end of the run where it has ended, the lowest processor that has

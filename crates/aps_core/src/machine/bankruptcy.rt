@@ -8,7 +8,7 @@ ghost use Rattle.aps_core.specs.Rising.{IsRising};
 ghost use Rattle.aps_core.specs.Room.{changes_of_a_run};
 
 use super::Machine;
-use crate::room::push_change;
+use crate::append::push_change;
 use crate::usage;
 use aps_model::{Bankruptcy, Change, ChangeKind, Entry, Nanos, PartitionId};
 

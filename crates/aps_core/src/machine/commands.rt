@@ -11,7 +11,7 @@ ghost use Rattle.aps_core.specs.Rising.{IsRising};
 ghost use Rattle.aps_core.specs.Room.{changes_of_a_run};
 
 use super::Machine;
-use crate::room::{push_change, push_reply};
+use crate::append::{push_change, push_reply};
 use crate::usage;
 use aps_ctl::{Ctl, change_by, mark_by, perform};
 use aps_model::{Call, Change, CtlView, Entry, Nanos, Reply, Shape, ThreadId, ThreadView};

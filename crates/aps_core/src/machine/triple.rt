@@ -2,7 +2,7 @@ ghost use Rattle.std.specs.Prelude.{◌≡◌, ◌<◌, ◌≤◌, [], ◌∷◌
 ghost use Rattle.aps_model.specs.Inherit.{client_of, without_server};
 
 use super::channel::MOST_THREADS;
-use crate::room::insert_at;
+use crate::append::insert_at;
 use aps_model::{ChannelId, NoMemory, ThreadId};
 use std::alloc::Global;
 use std::marker::Model;

@@ -1,0 +1,220 @@
+# Sourced by the scripts at the top. Builds a program and the crates that it stands on: crates that don't stand on each
+# other side by side, with a report of progress on standard error.
+#
+#   first_start PROGRAM COMMAND..   COMMAND builds crates/PROGRAM once every crate below it is built
+#
+# What is finished is kept, so that an interrupted start goes on where it was; a second start meanwhile waits for the
+# first one. It ends the script with status 125 where something is missing or a build fails. `root` names the checkout.
+
+first_start_folder=$root/.start
+
+# How many seconds a first build takes on four free cores, by which the rest is guessed.
+declare -A usual_seconds=(
+    [aps_model]=125 [aps_io]=30 [aps_laws]=40 [aps_bound_laws]=20 [aps_bound]=45 [aps_merit]=15 [aps_tree]=60
+    [aps_ctl]=60 [aps_core]=325 [aps_lock]=120 [aps_cpu]=115 [aps_words]=130 [aps_scenario]=270 [aps_text]=190
+    [aps_report]=150 [aps_gen]=35 [apsim]=315
+)
+declare -A crates_below=() chain_seconds=() build_of=() begun_at=()
+
+say() { printf '%s: %s\n' "$first_start_program" "$*" >&2; }
+
+read_crates() {
+    local line name
+    while IFS= read -r line; do
+        line=${line%%#*}
+        [[ $line == *:* ]] || continue
+        name=${line%%:*}
+        name=${name%% *}
+        crates_below[$name]=${line#*:}
+    done <"$root/crates.txt"
+}
+
+# The crates of this repository that a crate stands on, itself last, each once.
+collect() {
+    local name=$1 below
+    [ -n "${crates_below[$name]+listed}" ] || return 0
+    [[ " ${collected[*]} " == *" $name "* ]] && return 0
+    for below in ${crates_below[$name]}; do collect "$below"; done
+    collected+=("$name")
+}
+
+# For each crate the usual time of the longest chain from it up to the program: the longest goes first.
+weigh_chains() {
+    local i name below
+    for ((i = ${#collected[@]} - 1; i >= 0; i--)); do
+        name=${collected[i]}
+        chain_seconds[$name]=$((${chain_seconds[$name]:-0} + ${usual_seconds[$name]:-60}))
+        for below in ${crates_below[$name]}; do
+            [ -n "${crates_below[$below]+listed}" ] || continue
+            ((${chain_seconds[$below]:-0} >= ${chain_seconds[$name]})) || chain_seconds[$below]=${chain_seconds[$name]}
+        done
+    done
+}
+
+# A crate is done where it was built since its sources, and the crates below it, last changed.
+is_done() {
+    local name=$1 mark=$first_start_folder/$1.done below
+    [ -e "$mark" ] || return 1
+    for below in ${crates_below[$name]}; do
+        [ -n "${crates_below[$below]+listed}" ] || continue
+        [ ! "$first_start_folder/$below.done" -nt "$mark" ] || return 1
+    done
+    [ -z "$(find "$root/crates/$name" \( -name out -o -name must-fail \) -prune -o \
+        \( -name '*.rt' -o -name '*.antt' \) -newer "$mark" -print -quit)" ]
+}
+
+cores() { nproc 2>/dev/null || echo 1; }
+
+# As many builds side by side as there are processors, and memory at 3 GB a build.
+most_builds() {
+    local free_gigabytes most
+    most=$(cores)
+    free_gigabytes=$(awk '/^MemAvailable/ { print int($2 / 3000000) }' /proc/meminfo 2>/dev/null)
+    [ -n "$free_gigabytes" ] && [ "$free_gigabytes" -lt "$most" ] && most=$free_gigabytes
+    [ "$most" -ge 1 ] || most=1
+    echo "$most"
+}
+
+# Begins the build of a crate in the background, in a process group of its own.
+begin_build() {
+    local name=$1 log=$first_start_folder/$1.log share
+    share=$(($(cores) / (${#build_of[@]} + 1)))
+    [ "$share" -ge 1 ] || share=1
+    rm -f "$first_start_folder/$name.status"
+    set -m
+    (
+        cd "$root/crates/$name" || exit 1
+        if [ "$name" = "$first_start_program" ]; then
+            "${first_start_command[@]}"
+        else
+            rt lib --jobs "$share"
+        fi >"$log" 2>&1 </dev/null
+        echo $? >"$first_start_folder/$name.status"
+    ) &
+    build_of[$name]=$!
+    begun_at[$name]=$SECONDS
+    set +m
+}
+
+stop_builds() {
+    local name
+    for name in "${!build_of[@]}"; do kill -- "-${build_of[$name]}" 2>/dev/null; done
+    say "stopped; the next start goes on from here"
+    exit 125
+}
+
+in_minutes() {
+    if (($1 < 60)); then printf '%d s' "$1"; else printf '%d min %02d s' $(($1 / 60)) $(($1 % 60)); fi
+}
+
+# About how long the rest takes: no less than its longest chain, and than all of it on as many builds.
+seconds_left() {
+    local name spent rest=0 longest=0 one chain
+    for name in "${left[@]}" "${!build_of[@]}"; do
+        spent=0
+        [ -n "${begun_at[$name]+begun}" ] && spent=$((SECONDS - begun_at[$name]))
+        one=$((${usual_seconds[$name]:-60} - spent))
+        ((one >= 5)) || one=5
+        rest=$((rest + one))
+        chain=$((chain_seconds[$name] - spent))
+        ((chain <= longest)) || longest=$chain
+    done
+    rest=$((rest * 2 / (builds + 1)))
+    ((rest >= longest)) || rest=$longest
+    echo "$rest"
+}
+
+# On a terminal one line that changes each second, elsewhere a line for each crate that begins or ends.
+report() {
+    local text
+    text="$finished of ${#collected[@]} crates proved and built; at work on ${!build_of[*]}; $(in_minutes "$SECONDS"), about $(in_minutes "$(seconds_left)") to go"
+    if [ -t 2 ]; then
+        printf '\r\033[K%s: %s' "$first_start_program" "${text:0:$((${COLUMNS:-120} - 10))}" >&2
+    elif [ "$changed" = yes ]; then
+        say "$text"
+    fi
+    changed=no
+}
+
+# Takes note of the builds that have ended.
+gather() {
+    local name status
+    for name in "${!build_of[@]}"; do
+        if [ -e "$first_start_folder/$name.status" ]; then
+            status=$(cat "$first_start_folder/$name.status")
+            unset "build_of[$name]"
+            changed=yes
+            if [ "$status" != 0 ]; then
+                [ -t 2 ] && printf '\n' >&2
+                cat "$first_start_folder/$name.log" >&2
+                say "the build of $name failed"
+                stop_builds
+            fi
+            touch "$first_start_folder/$name.done"
+            finished=$((finished + 1))
+        fi
+    done
+}
+
+# Whether each crate below this one is built.
+is_ready() {
+    local below
+    for below in ${crates_below[$1]}; do
+        [[ " ${left[*]} ${!build_of[*]} " != *" $below "* ]] || return 1
+    done
+}
+
+# Begins what can be built next, the longest chain first.
+begin_ready() {
+    local name best i
+    while ((${#build_of[@]} < builds)); do
+        best=
+        for name in "${left[@]}"; do
+            is_ready "$name" || continue
+            if [ -z "$best" ] || ((chain_seconds[$name] > chain_seconds[$best])); then best=$name; fi
+        done
+        [ -n "$best" ] || return 0
+        for i in "${!left[@]}"; do [ "${left[i]}" != "$best" ] || unset "left[i]"; done
+        begin_build "$best"
+        changed=yes
+    done
+}
+
+first_start() {
+    first_start_program=$1
+    shift
+    first_start_command=("$@")
+    command -v rt >/dev/null || {
+        say "needs the Rattle kit to prove and build the program: its command rt isn't on the PATH"
+        exit 125
+    }
+    mkdir -p "$first_start_folder" || exit 125
+    if command -v flock >/dev/null; then
+        exec 9>"$first_start_folder/lock"
+        flock -n 9 || {
+            say "another start is building; waiting for it"
+            flock 9
+        }
+    fi
+    local -a collected=() left=()
+    local name builds finished=0 changed=yes
+    SECONDS=0
+    read_crates
+    collect "$first_start_program"
+    weigh_chains
+    builds=$(most_builds)
+    for name in "${collected[@]}"; do
+        if is_done "$name"; then finished=$((finished + 1)); else left+=("$name"); fi
+    done
+    trap stop_builds INT TERM HUP
+    while ((${#left[@]} + ${#build_of[@]} > 0)); do
+        begin_ready
+        report
+        sleep 1
+        gather
+    done
+    trap - INT TERM HUP
+    [ -t 2 ] && printf '\r\033[K' >&2
+    say "proved and built in $(in_minutes "$SECONDS")"
+    exec 9>&-
+}
