@@ -1,0 +1,2 @@
+pub mod TimesTen
+pub mod Upgraded
