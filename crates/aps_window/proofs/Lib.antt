@@ -1,0 +1,5 @@
+pub mod Accounts
+pub mod Moves
+pub mod Stands
+pub mod Sums
+pub mod Totals

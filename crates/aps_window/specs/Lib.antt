@@ -1,0 +1,6 @@
+pub mod Account
+pub mod Bills
+pub mod Slots
+pub mod StandsFor
+pub mod Window
+pub mod WindowView
