@@ -1,0 +1,4 @@
+pub mod Short
+pub mod Lasting
+pub mod Stamps
+pub mod Opening

@@ -1,0 +1,5 @@
+pub mod Tasks
+pub mod Calls
+pub mod Kept
+pub mod Start
+pub mod TasksView

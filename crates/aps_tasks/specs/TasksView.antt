@@ -1,0 +1,10 @@
+use Rattle.aps_tasks.specs.declared.tasks.Tasks.TheInside.{Inside}
+use Rattle.aps_tasks.specs.Tasks.{Tasks}
+use Rattle.aps_tasks.specs.Kept.{IsTasks}
+
+-- the threads that the fields stand for
+abbrev pub tasks_of : Inside → Tasks
+tasks_of t = record { shape = t.shape; plans = t.plans.items; tasks = t.tasks.items; stamps = t.stamps }
+
+abbrev pub keeps : Inside → Type 0
+keeps t = IsTasks (tasks_of t)

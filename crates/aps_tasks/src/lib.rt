@@ -1,0 +1,12 @@
+//! The threads of a run as they go through their programs: the state, place, remaining time and stamp of each.
+#![tactic(auto)]
+
+mod operation;
+mod plan;
+mod start;
+mod task;
+mod tasks;
+#[cfg(test)]
+mod tests;
+
+pub use tasks::Tasks;

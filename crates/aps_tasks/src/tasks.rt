@@ -1,0 +1,280 @@
+//! The threads of a run, and the calls that change one of them.
+ghost use Rattle.std.specs.Prelude.{◌≡◌, ◌≢◌, ◌↔◌, ◌+◌, ◌<◌, ◌≤◌, ◌^◌, length, IfOk, IfSome, None};
+ghost use Rattle.aps_model.specs.declared.program.Op.TheVariants.{Exit, Forever};
+ghost use Rattle.aps_model.specs.declared.state.State.TheVariants.{Gone, Running};
+ghost use Rattle.aps_tasks.specs.Calls.{advanced, given_back, is_over, left_after, made_ready, restamped, sleep_end, spent};
+ghost use Rattle.aps_tasks.specs.Kept.{IsLeft, IsShort, IsTasks};
+ghost use Rattle.aps_tasks.specs.Start.{start_tasks};
+ghost use Rattle.aps_tasks.specs.Tasks.{op_at, op_of, plan_at, task_at, with_stamped, with_state, with_task};
+
+use crate::operation::{duration, is_over, is_slice_over, left_after, place_after, sleep_end, state_in};
+use crate::plan::Plan;
+use crate::start::{copy_plans, start_tasks};
+use crate::task::{Task, no_task};
+use aps_model::{CpuId, Nanos, NoMemory, Op, Policy, Scenario, Shape, State, ThreadId};
+use std::alloc::Global;
+use std::marker::Model;
+
+/// The threads of a run as they go through their programs. Contracts see the shape at the start, of which the tick and
+/// the time of a call count, the policy and the program of each thread, the task of each thread, and the next stamp.
+/// The type keeps that stamps are distinct. Where there is no such thread, it counts as gone, at the end of its program,
+/// and no call changes it. All memory is taken when the threads are made.
+#[derive(Drop)]
+pub struct Tasks {
+    shape: Shape,
+    plans: Vec<Plan>,
+    tasks: Vec<Task>,
+    stamps: u64,
+}
+
+impl Model for Tasks {
+    ghost use Rattle.aps_tasks.specs.Tasks.{Tasks as Plain};
+
+    ghost Value = { Plain };
+
+    ghost use Rattle.aps_tasks.specs.TasksView.{tasks_of, keeps};
+
+    ghost view = { tasks_of };
+
+    ghost invariant = { keeps };
+}
+
+impl Tasks {
+    /// Each thread of the scenario in its first operation, entered at 0; the ready ones have the stamps from 0 on, in
+    /// order of the scenario. `NoMemory` comes where there is no room.
+    pub fn new(alloc: Global, scenario: &Scenario) -> Result<Tasks, NoMemory>
+        ensures same { IfOk result (λ t. t ≡ start_tasks scenario.now) }
+        ensures keeps { IfOk result (λ t. IsTasks t) }
+    {
+        let plans = copy_plans(alloc, scenario.threads())?;
+        let (tasks, stamps) = start_tasks(alloc, scenario)?;
+        let shape = *scenario.shape();
+        Ok(Tasks {
+            shape,
+            plans,
+            tasks,
+            stamps,
+        })
+    }
+
+    /// The thread's state.
+    pub fn state(&self, x: ThreadId) -> State
+        ensures { result ≡ (task_at self.now x).state }
+    {
+        self.task(x).state
+    }
+
+    /// The thread's stamp, which no other thread has.
+    pub fn stamp(&self, x: ThreadId) -> u64
+        ensures same { result ≡ (task_at self.now x).stamp }
+        ensures keeps { IsTasks self.now }
+    {
+        self.task(x).stamp
+    }
+
+    /// The thread's operation; past the end of its program that is `Exit`.
+    pub fn op(&self, x: ThreadId) -> Op
+        ensures { result ≡ op_of self.now x }
+    {
+        self.op_at(x, self.task(x).place)
+    }
+
+    /// What remains of the thread's operation, in ns. There is nothing exactly where that is `Forever`.
+    pub fn remaining(&self, x: ThreadId) -> Option<Nanos>
+        ensures same { result ≡ (task_at self.now x).left }
+        ensures forever { x < length self.now.tasks → ((result ≡ None) ↔ (op_of self.now x ≡ Forever)) }
+    {
+        self.task(x).left
+    }
+
+    /// The thread enters its next operation now, in ns, at most 10,000,000,000,000: the first one after `Repeat`, else
+    /// the one behind. Where that is a sleep the thread sleeps, and the answer is the moment until which it does; else
+    /// it stays in its state, and there is none. Its operation isn't `Forever` or `Exit`.
+    pub fn advance(&mut self, x: ThreadId, now: Nanos) -> Option<Nanos>
+        requires forever { op_of self.old x ≢ Forever }
+        requires exit { op_of self.old x ≢ Exit }
+        requires now { now ≤ 10000000000000 }
+        ensures thread { self.new ≡ advanced self.old x now }
+        ensures until { result ≡ sleep_end (op_of self.new x) now }
+    {
+        let task = self.task(x);
+        let place = place_after(&self.op_at(x, task.place), task.place);
+        let op = self.op_at(x, place);
+        let state = state_in(&op, now, task.state);
+        let left = duration(&self.shape, &op);
+        self.set_task(
+            x,
+            Task {
+                state,
+                place,
+                left,
+                ..task
+            },
+        );
+        sleep_end(&op, now)
+    }
+
+    /// The thread is ready, with a new stamp. Fewer than 2^63 stamps were given.
+    pub fn ready(&mut self, x: ThreadId)
+        requires { self.old.stamps < 2 ^ 63 }
+        ensures { self.new ≡ made_ready self.old x }
+    {
+        let task = self.task(x);
+        self.set_stamped(
+            x,
+            Task {
+                state: State::Ready,
+                ..task
+            },
+        );
+    }
+
+    /// A thread that runs is ready again; if it is round-robin and ran for four ticks or more since its stamp, with a
+    /// new one. Any other thread stays as it is. Fewer than 2^63 stamps were given.
+    pub fn give_back(&mut self, x: ThreadId)
+        requires { self.old.stamps < 2 ^ 63 }
+        ensures { self.new ≡ given_back self.old x (task_at self.old x).state }
+    {
+        let task = self.task(x);
+        let State::Running(_) = task.state else {
+            return;
+        };
+        let is_over = is_slice_over(&self.shape, self.policy(x), task.since);
+        let ready = Task {
+            state: State::Ready,
+            ..task
+        };
+        if is_over {
+            self.set_stamped(x, ready);
+        } else {
+            self.set_task(x, ready);
+        }
+    }
+
+    /// The thread runs on the processor.
+    pub fn run(&mut self, x: ThreadId, cpu: CpuId)
+        ensures { self.new ≡ with_state self.old x (Running cpu) }
+    {
+        self.set_state(x, State::Running(cpu));
+    }
+
+    /// The thread waits in this state.
+    pub fn block(&mut self, x: ThreadId, state: State)
+        ensures { self.new ≡ with_state self.old x state }
+    {
+        self.set_state(x, state);
+    }
+
+    /// The thread has a new stamp. Fewer than 2^63 stamps were given.
+    pub fn restamp(&mut self, x: ThreadId)
+        requires { self.old.stamps < 2 ^ 63 }
+        ensures { self.new ≡ restamped self.old x }
+    {
+        let task = self.task(x);
+        self.set_stamped(x, task);
+    }
+
+    /// The thread is gone.
+    pub fn exit(&mut self, x: ThreadId)
+        ensures { self.new ≡ with_state self.old x Gone }
+    {
+        self.set_state(x, State::Gone);
+    }
+
+    /// The thread has run for so many ns, at most what remains of its operation, and since its stamp at most
+    /// 10,000,000,000,000 in all. The answer is whether its operation is over.
+    pub fn spend(&mut self, x: ThreadId, ns: Nanos) -> bool
+        requires left { IfSome (task_at self.old x).left (λ left. ns ≤ left) }
+        requires since { (task_at self.old x).since + ns ≤ 10000000000000 }
+        ensures thread { self.new ≡ spent self.old x ns }
+        ensures over { result ≡ is_over (left_after (task_at self.old x).left ns) }
+    {
+        let task = self.task(x);
+        let left = left_after(&task.left, ns);
+        let since = task.since + ns;
+        self.set_task(
+            x,
+            Task {
+                left,
+                since,
+                ..task
+            },
+        );
+        is_over(&left)
+    }
+
+    /// The thread's task.
+    fn task(&self, x: ThreadId) -> Task
+        ensures same { result ≡ task_at self.now x }
+        ensures left { x < length self.now.tasks → IsLeft (op_at self.now x result.place) result.left }
+        ensures keeps { IsTasks self.now }
+    {
+        match self.tasks.get(x.index()) {
+            Some(task) => *task,
+            None => no_task(),
+        }
+    }
+
+    /// The thread's policy.
+    fn policy(&self, x: ThreadId) -> Policy
+        ensures { result ≡ (plan_at self.now x).policy }
+    {
+        match self.plans.get(x.index()) {
+            Some(plan) => plan.policy,
+            None => Policy::Fifo,
+        }
+    }
+
+    /// The operation at a place of the thread's program; past its end that is `Exit`.
+    fn op_at(&self, x: ThreadId, place: u16) -> Op
+        ensures same { result ≡ op_at self.now x place }
+        ensures short { IsShort result }
+        ensures few { result ≢ Exit → place < 256 }
+    {
+        let Some(plan) = self.plans.get(x.index()) else {
+            return Op::Exit;
+        };
+        match plan.program.ops().get(usize::from(place)) {
+            Some(op) => *op,
+            None => Op::Exit,
+        }
+    }
+
+    /// The thread is in this state from now on.
+    fn set_state(&mut self, x: ThreadId, state: State)
+        ensures { self.new ≡ with_state self.old x state }
+    {
+        let task = self.task(x);
+        self.set_task(x, Task { state, ..task });
+    }
+
+    /// The thread's task is this one, with the stamp that it had.
+    fn set_task(&mut self, x: ThreadId, task: Task)
+        requires stamp { task.stamp ≡ (task_at self.old x).stamp }
+        requires left { x < length self.old.tasks → IsLeft (op_at self.old x task.place) task.left }
+        ensures { self.new ≡ with_task self.old x task }
+    {
+        let index = x.index();
+        if index < self.tasks.len() {
+            self.tasks[index] = task;
+        }
+    }
+
+    /// The thread's task is this one, with the next stamp.
+    fn set_stamped(&mut self, x: ThreadId, task: Task)
+        requires stamps { self.old.stamps < 2 ^ 63 }
+        requires left { x < length self.old.tasks → IsLeft (op_at self.old x task.place) task.left }
+        ensures { self.new ≡ with_stamped self.old x task }
+    {
+        let stamp = self.stamps;
+        self.stamps += 1;
+        let index = x.index();
+        if index < self.tasks.len() {
+            self.tasks[index] = Task {
+                stamp,
+                since: 0,
+                ..task
+            };
+        }
+    }
+}

@@ -1,0 +1,1 @@
+//! Threads that go through their programs as by hand.

@@ -1,0 +1,50 @@
+-- The order of places: a chain of places of which none goes before the next.
+use Rattle.std.proofs.Common.{◌≡◌, ◌⊎◌, inl, inr, ℕ, Bool, true, false, cond, refl, Option, Some, None, arith}
+use Rattle.std.proofs.lemmas.Bool.Decides.{nat_tests}
+use Rattle.aps_model.specs.TickWork.{is_earlier}
+use Rattle.aps_timer.specs.Bracket.{goes_before, first_of}
+
+earlier_chain : (a b c : ℕ × ℕ) → is_earlier a b ≡ false → is_earlier b c ≡ false → is_earlier a c ≡ false
+earlier_chain (a, x) (b, y) (c, z) h k = grind (arith, nat_tests)
+
+earlier_itself : (a : ℕ × ℕ) → is_earlier a a ≡ false
+earlier_itself (a, x) = grind (arith, nat_tests)
+
+pub earlier_one_way : (a b : ℕ × ℕ) → is_earlier a b ≡ true → is_earlier b a ≡ false
+earlier_one_way (a, x) (b, y) h = grind (arith, nat_tests)
+
+pub before_chain : (a b c : Option (ℕ × ℕ)) → goes_before a b ≡ false → goes_before b c ≡ false → goes_before a c ≡ false
+before_chain None b c h k = refl
+before_chain (Some a) None c h k = absurd cc
+before_chain (Some a) (Some b) None h k = absurd cc
+before_chain (Some a) (Some b) (Some c) h k = earlier_chain a b c h k
+
+pub before_itself : (a : Option (ℕ × ℕ)) → goes_before a a ≡ false
+before_itself None = refl
+before_itself (Some a) = earlier_itself a
+
+before_one_way : (a b : Option (ℕ × ℕ)) → goes_before a b ≡ true → goes_before b a ≡ false
+before_one_way None b h = absurd cc
+before_one_way (Some a) None h = refl
+before_one_way (Some a) (Some b) h = earlier_one_way a b h
+
+pub first_left : (a b : Option (ℕ × ℕ)) → goes_before a (first_of a b) ≡ false
+first_left a b = by_test (goes_before b a) refl
+  where
+    by_test : (t : Bool) → goes_before b a ≡ t → goes_before a (cond t b a) ≡ false
+    by_test true h = before_one_way b a h
+    by_test false h = before_itself a
+
+pub first_right : (a b : Option (ℕ × ℕ)) → goes_before b (first_of a b) ≡ false
+first_right a b = by_test (goes_before b a) refl
+  where
+    by_test : (t : Bool) → goes_before b a ≡ t → goes_before b (cond t b a) ≡ false
+    by_test true h = before_itself b
+    by_test false h = h
+
+pub first_is_one : (a b : Option (ℕ × ℕ)) → (first_of a b ≡ a) ⊎ (first_of a b ≡ b)
+first_is_one a b = by_test (goes_before b a)
+  where
+    by_test : (t : Bool) → (cond t b a ≡ a) ⊎ (cond t b a ≡ b)
+    by_test true = inr refl
+    by_test false = inl refl

@@ -1,0 +1,4 @@
+pub mod Bracket
+pub mod Sleepers
+pub mod Seated
+pub mod Waking

@@ -1,0 +1,11 @@
+//! The threads that sleep, and which of them wakes next: the one with the earliest moment, then with the lowest number.
+#![tactic(auto)]
+
+mod bracket;
+pub mod laws;
+mod sleeper;
+#[cfg(test)]
+mod tests;
+mod timer;
+
+pub use timer::Timer;
