@@ -1,0 +1,111 @@
+//! Sets of levels, which are numbers below 256, in four words.
+ghost use Rattle.std.specs.Prelude.{◌≡◌, ℕ, ◌<◌, ◌||◌, ◌&&◌, not, nat_eq, IfSome, IfNone, false};
+ghost use Rattle.aps_levels.specs.Bits.{IsLeast};
+ghost use Rattle.aps_levels.specs.Levels.{has_level};
+
+use crate::bits::Bits64;
+
+/// A set of levels, numbers below 256. Where priorities are kept as levels, 255 less the priority, the least level is the
+/// greatest priority.
+#[derive(Clone, Copy, Debug, PartialEq, Eq)]
+pub struct Levels {
+    /// levels 0 to 63
+    first: Bits64,
+    /// levels 64 to 127, each less 64
+    second: Bits64,
+    /// levels 128 to 191, each less 128
+    third: Bits64,
+    /// levels 192 to 255, each less 192
+    fourth: Bits64,
+}
+
+impl Levels {
+    /// The set without any level.
+    #[inline(always)]
+    pub fn none() -> Levels
+        ensures { (k : ℕ) → has_level result k ≡ false }
+    {
+        Levels {
+            first: Bits64::none(),
+            second: Bits64::none(),
+            third: Bits64::none(),
+            fourth: Bits64::none(),
+        }
+    }
+
+    /// Whether the level is in.
+    #[inline(always)]
+    pub fn has(self, level: usize) -> bool
+        requires { level < 256 }
+        ensures { result ≡ has_level self level }
+    {
+        if level < 64 {
+            self.first.has(level)
+        } else if level < 128 {
+            self.second.has(level - 64)
+        } else if level < 192 {
+            self.third.has(level - 128)
+        } else {
+            self.fourth.has(level - 192)
+        }
+    }
+
+    /// The set with this level.
+    #[inline(always)]
+    pub fn with(self, level: usize) -> Levels
+        requires { level < 256 }
+        ensures { (k : ℕ) → has_level result k ≡ (nat_eq k level || has_level self k) }
+    {
+        let mut set = self;
+        if level < 64 {
+            set.first = set.first.with(level);
+        } else if level < 128 {
+            set.second = set.second.with(level - 64);
+        } else if level < 192 {
+            set.third = set.third.with(level - 128);
+        } else {
+            set.fourth = set.fourth.with(level - 192);
+        }
+        set
+    }
+
+    /// The set without this level.
+    #[inline(always)]
+    pub fn without(self, level: usize) -> Levels
+        requires { level < 256 }
+        ensures { (k : ℕ) → has_level result k ≡ (not (nat_eq k level) && has_level self k) }
+    {
+        let mut set = self;
+        if level < 64 {
+            set.first = set.first.without(level);
+        } else if level < 128 {
+            set.second = set.second.without(level - 64);
+        } else if level < 192 {
+            set.third = set.third.without(level - 128);
+        } else {
+            set.fourth = set.fourth.without(level - 192);
+        }
+        set
+    }
+
+    /// The least level of the set; none exactly where the set is empty.
+    #[inline(always)]
+    pub fn least(self) -> Option<usize>
+        ensures some { IfSome result (IsLeast 256 (has_level self)) }
+        ensures none { IfNone result ((k : ℕ) → has_level self k ≡ false) }
+    {
+        match self.first.least() {
+            Some(level) => Some(level),
+            None => match self.second.least() {
+                Some(level) => Some(level + 64),
+                None => match self.third.least() {
+                    Some(level) => Some(level + 128),
+                    None => match self.fourth.least() {
+                        Some(level) => Some(level + 192),
+                        None => None,
+                    },
+                },
+            },
+        }
+    }
+}

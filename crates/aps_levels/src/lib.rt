@@ -1,0 +1,11 @@
+//! Small sets of numbers, a bit for each: `Bits64` of numbers below 64, `Levels` of numbers below 256. Each call is a few
+//! instructions, takes no memory, and is exact in its clauses.
+#![tactic(auto)]
+
+mod bits;
+mod levels;
+#[cfg(test)]
+mod tests;
+
+pub use bits::Bits64;
+pub use levels::Levels;

@@ -1,0 +1,12 @@
+pub mod Played
+pub mod Drawn
+pub mod Queued
+pub mod Topped
+pub mod IndexLaws
+pub mod GateLaws
+pub mod Content
+pub mod Tops
+pub mod Ahead
+pub mod Among
+pub mod Winner
+pub mod Starved

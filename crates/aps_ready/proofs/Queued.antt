@@ -1,0 +1,120 @@
+use Rattle.std.proofs.Common.{◌≡◌, ◌≢◌, ◌⊎◌, inl, inr, ℕ, zero, suc, ◌+◌, ◌-◌, ◌%◌, ◌<◌, ◌≤◌, Bool, true, false, cond, nat_eq, nat_lt, List, [], ◌∷◌, length, map, get_or, set, replicate, Option, Some, None, All, refl, sym, ◌∙◌, ap, subst, arith, length-set, get_or-set_same, get_or-set_other}
+use Rattle.std.specs.Option.{option_map}
+use Rattle.std.proofs.lemmas.Bool.{cases_eq}
+use Rattle.std.proofs.lemmas.Bool.Decides.{nat_tests}
+use Rattle.std.proofs.lemmas.List.{map-set, get_or-map, get_or-replicate, get_or_default, length-replicate, length-map}
+use Rattle.aps_model.specs.declared.state.Facts.{Facts}
+use Rattle.aps_model.specs.declared.merit.Contender.{Contender}
+use Rattle.aps_ready.specs.declared.entrant.Entrant.{Entrant}
+use Rattle.aps_ready.specs.Ready.{IsFree, facts_of, contender_of, seat_of, with_facts, IsQueued}
+use Rattle.aps_ready.specs.Entrant.{entrant_at, entrant_of, group_of, vacant}
+
+-- who may be set at a place
+pub record IsWelcome (row : List Entrant) (x : ℕ) (e : Entrant) : Type 0 where
+  pub level : e.level ≤ 255
+  pub thread : e.thread ≡ x
+  pub stamp : (y : ℕ) → y < length row → y ≢ x → (entrant_at row y).group < 64 → (entrant_at row y).stamp ≢ e.stamp
+
+pub queued_set : (row : List Entrant) (x : ℕ) (e : Entrant) → IsQueued row → x < length row → (e.group < 64 → IsWelcome row x e) → IsQueued (set row x e)
+queued_set row x e queued within welcome =
+    let here : entrant_at (set row x e) x ≡ e = get_or-set_same row x e vacant within in
+    let there : (y : ℕ) → y ≢ x → entrant_at (set row x e) y ≡ entrant_at row y = λ y ne. get_or-set_other row x y e vacant ne in
+    let inside : (y : ℕ) → y < length (set row x e) → y < length row = λ y below. omega (arith, below, length-set row x e) in
+    record {
+      levels = λ y below. elim (cases_eq y x) [
+        | inl same ↦ subst (λ (j : ℕ). (entrant_at (set row x e) j).group < 64 → (entrant_at (set row x e) j).level ≤ 255) (sym same) (rw here (λ g. (welcome g).level))
+        | inr ne ↦ rw (there y ne) (queued.levels y (inside y below))
+      ];
+      threads = λ y below. elim (cases_eq y x) [
+        | inl same ↦ subst (λ (j : ℕ). (entrant_at (set row x e) j).group < 64 → (entrant_at (set row x e) j).thread ≡ j) (sym same) (rw here (λ g. (welcome g).thread))
+        | inr ne ↦ rw (there y ne) (queued.threads y (inside y below))
+      ];
+      stamps = λ y z y_below z_below. elim (cases_eq y x) [
+        | inl y_same ↦ elim (cases_eq z x) [
+          | inl z_same ↦ λ _ _ _. y_same ∙ sym z_same
+          | inr z_other ↦ subst (λ (j : ℕ). (entrant_at (set row x e) j).group < 64 → (entrant_at (set row x e) z).group < 64 → (entrant_at (set row x e) j).stamp ≡ (entrant_at (set row x e) z).stamp → j ≡ z) (sym y_same)
+              (rw (here, there z z_other) (λ g h same. absurd ((welcome g).stamp z (inside z z_below) z_other h (sym same))))
+        ]
+        | inr y_other ↦ elim (cases_eq z x) [
+          | inl z_same ↦ subst (λ (j : ℕ). (entrant_at (set row x e) y).group < 64 → (entrant_at (set row x e) j).group < 64 → (entrant_at (set row x e) y).stamp ≡ (entrant_at (set row x e) j).stamp → y ≡ j) (sym z_same)
+              (rw (here, there y y_other) (λ g h same. absurd ((welcome h).stamp y (inside y y_below) y_other g same)))
+          | inr z_other ↦ rw (there y y_other, there z z_other) (queued.stamps y z (inside y y_below) (inside z z_below))
+        ]
+      ];
+    }
+
+pub queued_replicate : (n : ℕ) → IsQueued (replicate n vacant)
+queued_replicate n =
+    let read : (x : ℕ) → x < length (replicate n vacant) → entrant_at (replicate n vacant) x ≡ vacant = λ x below. get_or-replicate n x vacant vacant (omega (arith, below, length-replicate n vacant)) in
+    record {
+      levels = λ x below g. absurd (none (entrant_at (replicate n vacant) x) (read x below) g);
+      threads = λ x below g. absurd (none (entrant_at (replicate n vacant) x) (read x below) g);
+      stamps = λ x y x_below y_below g. absurd (none (entrant_at (replicate n vacant) x) (read x x_below) g);
+    }
+  where
+    none : (e : Entrant) → e ≡ vacant → e.group < 64 → ⊥
+    none e is g = omega (arith, ap (λ (f : Entrant). f.group) is, g)
+
+-- ---- the row that contracts see
+
+pub seats_set : (row : List Entrant) (seats : List (Option Contender)) (new : List Entrant) (x i : ℕ) (e : Entrant) (seat : Option Contender)
+    → map seat_of row ≡ seats → new ≡ set row i e → i ≡ x → seat_of e ≡ seat → map seat_of new ≡ set seats x seat
+seats_set row seats new x i e seat view is same seen =
+    ap (map seat_of) is ∙ map-set seat_of row i e ∙ ap (λ (l : List (Option Contender)). set l i (seat_of e)) view
+    ∙ ap (λ (j : ℕ). set seats j (seat_of e)) same ∙ ap (set seats x) seen
+
+seen_group : (p : ℕ) (critical : Bool) → p ≤ 31
+    → (nat_lt (cond critical (p + 32) p) 64 ≡ true) × (cond critical (p + 32) p % 32 ≡ p) × (nat_lt 31 (cond critical (p + 32) p) ≡ critical)
+seen_group p true small = (grind (arith, nat_tests), omega (arith, small), grind (arith, nat_tests))
+seen_group p false small = (grind (arith, nat_tests), omega (arith, small), grind (arith, nat_tests))
+
+pub seen : (x : ℕ) (facts : Facts) (stamp : ℕ) → facts.partition ≤ 31 → facts.priority ≤ 255
+    → seat_of (entrant_of x facts stamp) ≡ Some (record { thread = x; facts = facts; stamp = stamp })
+seen x facts stamp partition priority =
+    let group = seen_group facts.partition facts.critical partition in
+    let level : 255 - (255 - facts.priority) ≡ facts.priority = omega (arith, priority) in
+    rw (group.0, group.1, group.2, level) refl
+
+pub in_group : (facts : Facts) → facts.partition ≤ 31 → group_of facts < 64
+in_group facts small = by_mark facts.critical
+  where
+    by_mark : (b : Bool) → cond b (facts.partition + 32) facts.partition < 64
+    by_mark true = omega (arith, small)
+    by_mark false = omega (arith, small)
+
+pub replicate_seats : (n : ℕ) → map seat_of (replicate n vacant) ≡ replicate n None
+replicate_seats zero = refl
+replicate_seats (suc n) = ap (λ (rest : List (Option Contender)). None ∷ rest) (replicate_seats n)
+
+pub seat_in : (e : Entrant) → e.group < 64 → seat_of e ≡ Some (contender_of e)
+seat_in e g = grind (arith, nat_tests)
+
+pub seat_at : (row : List Entrant) (x : ℕ) → x < length row → get_or (map seat_of row) x None ≡ seat_of (entrant_at row x)
+seat_at row x within = get_or-map seat_of row x vacant None within
+
+-- nobody who is in has a stamp that is free
+pub free_stamp : (row : List Entrant) (seats : List (Option Contender)) (stamp y : ℕ) → map seat_of row ≡ seats → All (IsFree stamp) seats → y < length row → (entrant_at row y).group < 64
+    → (entrant_at row y).stamp ≢ stamp
+free_stamp row seats stamp y view free within g =
+    let at : IsFree stamp (get_or (map seat_of row) y None) = rw view (free y None (omega (arith, within, length-map row seat_of, ap length view))) in
+    subst (IsFree stamp) (seat_at row y within ∙ seat_in (entrant_at row y) g) at
+
+-- who is seen is in
+pub is_in : (e : Entrant) → (seat_of e ≡ None → ⊥) → e.group < 64
+is_in e some = by_test (nat_lt e.group 64) refl
+  where
+    by_test : (t : Bool) → nat_lt e.group 64 ≡ t → e.group < 64
+    by_test true h = grind (arith, nat_tests)
+    by_test false h = absurd (some (ap (λ b. cond b (Some (contender_of e)) None) h))
+
+pub changed_seat : (e : Entrant) (x : ℕ) (facts : Facts) → e.group < 64 → e.thread ≡ x
+    → Some (record { thread = x; facts = facts; stamp = e.stamp }) ≡ option_map (with_facts facts) (seat_of e)
+changed_seat e x facts g same = rw (seat_in e g, same) refl
+
+pub place_in_row : (row : List Entrant) (seats : List (Option Contender)) (x i : ℕ) → map seat_of row ≡ seats → x < length seats → i ≡ x → i < length row
+place_in_row row seats x i view within same = omega (arith, within, same, length-map row seat_of, ap length view)
+
+-- what is seen at a place
+pub seen_at : (row : List Entrant) (seats : List (Option Contender)) (x i : ℕ) → map seat_of row ≡ seats → x < length seats → i ≡ x → seat_of (entrant_at row i) ≡ get_or seats x None
+seen_at row seats x i view within same =
+    sym (seat_at row i (place_in_row row seats x i view within same)) ∙ ap (λ (l : List (Option Contender)). get_or l i None) view ∙ ap (λ (j : ℕ). get_or seats j None) same

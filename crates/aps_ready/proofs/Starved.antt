@@ -1,0 +1,247 @@
+use Rattle.std.proofs.Common.{◌≡◌, ◌≢◌, ◌⊎◌, inl, inr, ℕ, zero, suc, ◌+◌, ◌%◌, ◌<◌, ◌≤◌, Bool, true, false, cond, ◌&&◌, ◌||◌, not, nat_eq, nat_lt, List, [], ◌∷◌, length, map, get_or, Option, Some, None, refl, sym, ◌∙◌, ap, subst, arith}
+use Rattle.std.specs.List.{Contains, find, range_with_len, list_any}
+use Rattle.std.specs.Option.{option_or}
+use Rattle.std.proofs.lemmas.Bool.{cases_eq}
+use Rattle.std.proofs.lemmas.Bool.Decides.{nat_tests}
+use Rattle.std.proofs.lemmas.List.{get_or_past}
+use Rattle.std.proofs.lemmas.List.Folds.{find-append, list_any_at, list_any_none}
+use Rattle.aps_model.specs.declared.merit.PartFacts.{PartFacts}
+use Rattle.aps_model.specs.declared.merit.Contender.{Contender}
+use Rattle.aps_model.specs.Budget.{part_at, no_part}
+use Rattle.aps_model.specs.Pick.{candidates, missing}
+use Rattle.aps_model.proofs.Ranges.{range_more}
+use Rattle.aps_levels.specs.declared.bits.Bits64.{Bits64}
+use Rattle.aps_levels.specs.Bits.{has}
+use Rattle.aps_ready.specs.declared.entrant.Entrant.{Entrant}
+use Rattle.aps_ready.specs.declared.gates.Gates.{Gates}
+use Rattle.aps_ready.specs.Entrant.{entrant_at}
+use Rattle.aps_ready.specs.Ready.{members, contender_of, seat_of}
+use Rattle.aps_ready.specs.Gates.{AreGates}
+use Rattle.aps_ready.specs.Index.{level_of}
+use Rattle.aps_ready.proofs.Content.{is_candidate_at, open_group, open_among, all_candidates}
+use Rattle.aps_ready.proofs.Tops.{IsKept, Occupant, occupant, level_at_most}
+use Rattle.aps_ready.proofs.Winner.{first_stands, second_stands, in_one}
+
+-- ---- the first number of a range that does
+
+more : (test : ℕ → Bool) (n : ℕ) → find test (range_with_len 0 (suc n)) ≡ option_or (find test (range_with_len 0 n)) (cond (test n) (Some n) None)
+more test n =
+    let next : suc n ≡ n + 1 = omega arith in
+    ap (λ (m : ℕ). find test (range_with_len 0 m)) next
+    ∙ ap (find test) (range_more 0 n n (omega arith)) ∙ find-append test (range_with_len 0 n) (n ∷ [])
+
+pub find_none : (test : ℕ → Bool) (n : ℕ) → ((k : ℕ) → k < n → test k ≡ false) → find test (range_with_len 0 n) ≡ None
+find_none test zero none = refl
+find_none test (suc n) none =
+    let before : find test (range_with_len 0 n) ≡ None = find_none test n (λ k below. none k (omega (arith, below))) in
+    more test n ∙ ap (λ (r : Option ℕ). option_or r (cond (test n) (Some n) None)) before
+    ∙ ap (λ (t : Bool). cond t (Some n) None) (none n (omega arith))
+
+pub find_some : (test : ℕ → Bool) (n p : ℕ) → p < n → test p ≡ true → ((k : ℕ) → k < p → test k ≡ false)
+    → find test (range_with_len 0 n) ≡ Some p
+find_some test zero p below here earlier = absurd (omega (arith, below))
+find_some test (suc n) p below here earlier = by_place (find_some test n p) (cases_eq p n)
+  where
+    by_place : (p < n → test p ≡ true → ((k : ℕ) → k < p → test k ≡ false) → find test (range_with_len 0 n) ≡ Some p)
+        → (p ≡ n) ⊎ (p ≢ n) → find test (range_with_len 0 (suc n)) ≡ Some p
+    by_place found (inl same) =
+        let before : find test (range_with_len 0 n) ≡ None = find_none test n (λ k low. earlier k (omega (arith, low, same))) in
+        more test n ∙ ap (λ (r : Option ℕ). option_or r (cond (test n) (Some n) None)) before
+        ∙ ap (λ (t : Bool). cond t (Some n) None) (ap test (sym same) ∙ here)
+        ∙ ap (λ (m : ℕ). Some m) (sym same)
+    by_place found (inr other) =
+        more test n
+        ∙ ap (λ (r : Option ℕ). option_or r (cond (test n) (Some n) None)) (found (omega (arith, below, other)) here earlier)
+
+-- ---- whether a partition has a candidate
+
+abbrev is_of : ℕ → Contender → Bool
+is_of p c = nat_eq c.facts.partition p
+
+abbrev pub has_candidate : List PartFacts → List Entrant → ℕ → Bool
+has_candidate parts row p = list_any (is_of p) (candidates parts (members (map seat_of row)))
+
+clash : (t : Bool) → t ≡ true → t ≡ false → ⊥
+clash t p q = cc
+
+equal : (a b : ℕ) → a ≡ b → nat_eq a b ≡ true
+equal a b h = grind (arith, nat_tests)
+
+both : (a b : Bool) → (a && b) ≡ true → (a ≡ true) × (b ≡ true)
+both true b h = (refl, h)
+both false b h = absurd cc
+
+one_of : (a b : Bool) → (a || b) ≡ true → (a ≡ true) ⊎ (b ≡ true)
+one_of true b h = inl refl
+one_of false b h = inr h
+
+is_below : (a b : ℕ) → nat_lt a b ≡ true → a < b
+is_below a b h = grind (arith, nat_tests)
+
+-- the groups that have candidates: neither shut nor empty
+record AreHeld (tops : List ℕ) (gates : Gates) (groups : Bits64) : Type 0 where
+  held : (g : ℕ) → g < 64 → has groups g ≡ ((has gates.first g || has gates.second g) && nat_lt (level_of tops g) 256)
+
+group_has : (parts : List PartFacts) (row : List Entrant) (brackets : List (List Entrant)) (tops : List ℕ) (gates : Gates) (groups : Bits64)
+    (p g : ℕ) → AreGates parts gates → IsKept row brackets tops → AreHeld tops gates groups → g < 64 → g % 32 ≡ p → has groups g ≡ true
+    → has_candidate parts row p ≡ true
+group_has parts row brackets tops gates groups p g are kept held below same here =
+    any_among (candidates parts (members (map seat_of row))) (contender_of e) among (equal (e.group % 32) p partition)
+  where
+    parted : ((has gates.first g || has gates.second g) ≡ true) × (nat_lt (level_of tops g) 256 ≡ true)
+    parted = both (has gates.first g || has gates.second g) (nat_lt (level_of tops g) 256) (sym (held.held g below) ∙ here)
+    who : Occupant row g (level_of tops g)
+    who = occupant row brackets tops g kept below (is_below (level_of tops g) 256 parted.1)
+    e : Entrant
+    e = entrant_at row who.place
+    there : e.group < 64
+    there = omega (arith, who.group, below)
+    stands : (has gates.first g ≡ true) ⊎ (has gates.second g ≡ true) → is_candidate_at parts e ≡ true
+    stands (inl one) = (first_stands parts gates e are there (ap (has gates.first) who.group ∙ one)).candidate
+    stands (inr two) = (second_stands parts gates e are there (ap (has gates.second) who.group ∙ two)).candidate
+    among : Contains (candidates parts (members (map seat_of row))) (contender_of e)
+    among = open_among parts row who.place who.within (stands (one_of (has gates.first g) (has gates.second g) parted.0))
+    partition : e.group % 32 ≡ p
+    partition = ap (λ (m : ℕ). m % 32) who.group ∙ same
+    any_among : (cs : List Contender) (c : Contender) → Contains cs c → is_of p c ≡ true → list_any (is_of p) cs ≡ true
+    any_among cs c (k, within, is) h = list_any_at (is_of p) cs k c within (ap (is_of p) is ∙ h)
+
+group_partition : (g p : ℕ) → g < 64 → p < 32 → g % 32 ≡ p → (g ≡ p) ⊎ (g ≡ p + 32)
+group_partition g p g_below p_below same = elim (halves g) [
+  | inl low ↦ inl (omega (arith, low, same))
+  | inr high ↦ inr (omega (arith, high, g_below, same))
+]
+  where
+    halves : (g : ℕ) → (g < 32) ⊎ (32 ≤ g)
+    halves g = search arith
+
+-- the group of a candidate is held
+held_by : (parts : List PartFacts) (row : List Entrant) (brackets : List (List Entrant)) (tops : List ℕ) (gates : Gates) (groups : Bits64)
+    (x : ℕ) → AreGates parts gates → IsKept row brackets tops → AreHeld tops gates groups → x < length row
+    → is_candidate_at parts (entrant_at row x) ≡ true → has groups (entrant_at row x).group ≡ true
+held_by parts row brackets tops gates groups x are kept held within here =
+    held.held g below ∙ pair (has gates.first g || has gates.second g) (nat_lt (level_of tops g) 256)
+    (either (in_one parts gates (entrant_at row x) are here)) some
+  where
+    g : ℕ
+    g = (entrant_at row x).group
+    below : g < 64
+    below = open_group parts (entrant_at row x) here
+    pair : (a b : Bool) → a ≡ true → b ≡ true → (a && b) ≡ true
+    pair a b h k = rw (h, k) refl
+    left : (a b : Bool) → a ≡ true → (a || b) ≡ true
+    left a b h = rw h refl
+    right : (a b : Bool) → b ≡ true → (a || b) ≡ true
+    right true b h = refl
+    right false b h = h
+    either : (has gates.first g ≡ true) ⊎ (has gates.second g ≡ true) → (has gates.first g || has gates.second g) ≡ true
+    either (inl one) = left (has gates.first g) (has gates.second g) one
+    either (inr two) = right (has gates.first g) (has gates.second g) two
+    less : (a b : ℕ) → a < b → nat_lt a b ≡ true
+    less a b h = grind (arith, nat_tests)
+    some : nat_lt (level_of tops g) 256 ≡ true
+    some = less (level_of tops g) 256
+        (omega (arith, level_at_most row brackets tops x kept within below, kept.queued.levels x within below))
+
+none_has : (parts : List PartFacts) (row : List Entrant) (brackets : List (List Entrant)) (tops : List ℕ) (gates : Gates) (groups : Bits64)
+    (p : ℕ) → AreGates parts gates → IsKept row brackets tops → AreHeld tops gates groups → p < 32
+    → has groups p ≡ false → has groups (p + 32) ≡ false → has_candidate parts row p ≡ false
+none_has parts row brackets tops gates groups p are kept held below plain marked =
+    list_any_none (is_of p) (candidates parts (members (map seat_of row)))
+    (all_candidates (λ (c : Contender). is_of p c ≡ false) parts row (λ x within here. by_test x within here (nat_eq ((entrant_at row x).group % 32) p) refl))
+  where
+    by_test : (x : ℕ) → x < length row → is_candidate_at parts (entrant_at row x) ≡ true → (t : Bool)
+        → nat_eq ((entrant_at row x).group % 32) p ≡ t → nat_eq ((entrant_at row x).group % 32) p ≡ false
+    by_test x within here false h = h
+    by_test x within here true h =
+        let same : (entrant_at row x).group % 32 ≡ p = grind (arith, nat_tests) in
+        let is_held = held_by parts row brackets tops gates groups x are kept held within here in
+        elim (group_partition (entrant_at row x).group p (open_group parts (entrant_at row x) here) below same) [
+          | inl low ↦ absurd (clash (has groups p) (ap (has groups) (sym low) ∙ is_held) plain)
+          | inr high ↦ absurd (clash (has groups (p + 32)) (ap (has groups) (sym high) ∙ is_held) marked)
+        ]
+
+partition_has : (parts : List PartFacts) (row : List Entrant) (brackets : List (List Entrant)) (tops : List ℕ) (gates : Gates) (groups : Bits64)
+    (p : ℕ) → AreGates parts gates → IsKept row brackets tops → AreHeld tops gates groups → p < 32
+    → (has groups p || has groups (p + 32)) ≡ has_candidate parts row p
+partition_has parts row brackets tops gates groups p are kept held below = by_tests (has groups p) (has groups (p + 32)) refl refl
+  where
+    same_place : (p : ℕ) → p < 32 → p % 32 ≡ p
+    same_place p h = omega (arith, h)
+    marked_place : (p : ℕ) → p < 32 → (p + 32) % 32 ≡ p
+    marked_place p h = omega (arith, h)
+    by_tests : (a b : Bool) → has groups p ≡ a → has groups (p + 32) ≡ b → (a || b) ≡ has_candidate parts row p
+    by_tests true b h k =
+        sym (group_has parts row brackets tops gates groups p p are kept held (omega (arith, below)) (same_place p below) h)
+    by_tests false true h k =
+        sym (group_has parts row brackets tops gates groups p (p + 32) are kept held (omega (arith, below)) (marked_place p below) k)
+    by_tests false false h k = sym (none_has parts row brackets tops gates groups p are kept held below h k)
+
+-- ---- the partitions with a budget and no candidate
+
+abbrev pub is_starved : List PartFacts → List Entrant → ℕ → Bool
+is_starved parts row p = nat_lt 0 (part_at parts p).budget && not (has_candidate parts row p)
+
+-- the sets that the look goes through, by the clauses of its calls
+pub record AreSteps (tops : List ℕ) (gates : Gates) (a b c d e f : Bits64) : Type 0 where
+  pub opened : (k : ℕ) → has a k ≡ (has gates.first k || has gates.second k)
+  pub occupied : (g : ℕ) → g < 64 → has b g ≡ nat_lt (level_of tops g) 256
+  pub groups : (k : ℕ) → has c k ≡ (has a k && has b k)
+  pub upper : (k : ℕ) → has d k ≡ has c (k + 32)
+  pub held : (k : ℕ) → has e k ≡ (has c k || has d k)
+  pub starved : (k : ℕ) → k < 64 → has f k ≡ (has gates.budgeted k && not (has e k))
+
+starved_is : (parts : List PartFacts) (row : List Entrant) (brackets : List (List Entrant)) (tops : List ℕ) (gates : Gates)
+    (a b c d e f : Bits64) (p : ℕ) → AreGates parts gates → IsKept row brackets tops → AreSteps tops gates a b c d e f → p < 32
+    → has f p ≡ is_starved parts row p
+starved_is parts row brackets tops gates a b c d e f p are kept steps below =
+    steps.starved p (omega (arith, below))
+    ∙ ap (λ (t : Bool). t && not (has e p)) (are.budgeted p (omega (arith, below)) ∙ ap (λ (t : Bool). t && nat_lt 0 (part_at parts p).budget) (less p 32 below))
+    ∙ ap (λ (t : Bool). nat_lt 0 (part_at parts p).budget && not t)
+      (steps.held p ∙ ap (λ (t : Bool). has c p || t) (steps.upper p) ∙ partition_has parts row brackets tops gates c p are kept are_held below)
+  where
+    less : (a b : ℕ) → a < b → nat_lt a b ≡ true
+    less a b h = grind (arith, nat_tests)
+    are_held : AreHeld tops gates c
+    are_held = record {
+      held = λ g inside. steps.groups g ∙ ap (λ (t : Bool). t && has b g) (steps.opened g)
+          ∙ ap (λ (t : Bool). (has gates.first g || has gates.second g) && t) (steps.occupied g inside);
+    }
+
+-- a partition that starves exists
+within_parts : (parts : List PartFacts) (row : List Entrant) (p : ℕ) → is_starved parts row p ≡ true → p < length parts
+within_parts parts row p h = by_place (below_or_not p (length parts))
+  where
+    below_or_not : (a b : ℕ) → (a < b) ⊎ (b ≤ a)
+    below_or_not a b = search arith
+    by_place : (p < length parts) ⊎ (length parts ≤ p) → p < length parts
+    by_place (inl low) = low
+    by_place (inr high) =
+        let none : (part_at parts p).budget ≡ 0 = ap (λ (part : PartFacts). part.budget) (get_or_past parts p no_part high) in
+        absurd (clash (nat_lt 0 (part_at parts p).budget) (both (nat_lt 0 (part_at parts p).budget) (not (has_candidate parts row p)) h).0
+          (ap (λ (n : ℕ). nat_lt 0 n) none))
+
+pub starved_found : (parts : List PartFacts) (row : List Entrant) (brackets : List (List Entrant)) (tops : List ℕ) (gates : Gates)
+    (a b c d e f : Bits64) (p : ℕ) → AreGates parts gates → IsKept row brackets tops → AreSteps tops gates a b c d e f → p < 32
+    → has f p ≡ true → ((k : ℕ) → k < p → has f k ≡ false) → missing parts (members (map seat_of row)) ≡ Some p
+starved_found parts row brackets tops gates a b c d e f p are kept steps below here earlier =
+    let is = starved_is parts row brackets tops gates a b c d e f in
+    let starved : is_starved parts row p ≡ true = sym (is p are kept steps below) ∙ here in
+    find_some (is_starved parts row) (length parts) p (within_parts parts row p starved) starved
+    (λ k low. sym (is k are kept steps (omega (arith, low, below))) ∙ earlier k low)
+
+pub none_starved : (parts : List PartFacts) (row : List Entrant) (brackets : List (List Entrant)) (tops : List ℕ) (gates : Gates)
+    (a b c d e f : Bits64) → AreGates parts gates → IsKept row brackets tops → AreSteps tops gates a b c d e f → length parts ≤ 32
+    → ((k : ℕ) → k < 32 → has f k ≡ false) → missing parts (members (map seat_of row)) ≡ None
+none_starved parts row brackets tops gates a b c d e f are kept steps few none =
+    find_none (is_starved parts row) (length parts)
+    (λ k low. sym (starved_is parts row brackets tops gates a b c d e f k are kept steps (omega (arith, low, few))) ∙ none k (omega (arith, low, few)))
+
+-- no partition from number 32 on counts
+pub not_past : (parts : List PartFacts) (gates : Gates) (e f : Bits64) (p : ℕ) → AreGates parts gates → p < 64 → 32 ≤ p
+    → ((k : ℕ) → k < 64 → has f k ≡ (has gates.budgeted k && not (has e k))) → has f p ≡ false
+not_past parts gates e f p are below past minus =
+    minus p below ∙ ap (λ (t : Bool). t && not (has e p)) (are.budgeted p below ∙ ap (λ (t : Bool). t && nat_lt 0 (part_at parts p).budget) (not_less p 32 past))
+  where
+    not_less : (a b : ℕ) → b ≤ a → nat_lt a b ≡ false
+    not_less a b h = grind (arith, nat_tests)

@@ -1,0 +1,138 @@
+use Rattle.std.proofs.Common.{◌≡◌, ◌≢◌, ◌⊎◌, inl, inr, ℕ, zero, suc, ◌<◌, ◌≤◌, Bool, true, false, cond, nat_eq, nat_lt, List, [], ◌∷◌, length, map, get_or, refl, sym, ◌∙◌, ap, subst, arith}
+use Rattle.std.specs.List.{Contains}
+use Rattle.std.proofs.lemmas.Bool.Decides.{nat_tests}
+use Rattle.std.proofs.lemmas.List.{length-map, get_or-map, get_or_read}
+use Rattle.aps_ready.specs.declared.entrant.Entrant.{Entrant}
+use Rattle.aps_ready.specs.Entrant.{entrant_at, vacant, goes_before, IsFirst}
+use Rattle.aps_ready.specs.Index.{level_of}
+use Rattle.aps_ready.specs.Ready.{entrant_in, bracket_at, AreDrawn, IsQueued}
+use Rattle.aps_ready.specs.Topped.{HasTop, AreTopped}
+use Rattle.aps_ready.specs.Best.{Sits}
+
+-- ---- the first of a group
+
+pub record IsTop (row : List Entrant) (n : ℕ) (top : Entrant) : Type 0 where
+  pub group : top.group < 64 → top.group ≡ n
+  pub sits : top.group < 64 → Sits row top
+  pub none : (top.group < 64 → ⊥) → top ≡ vacant
+  pub first : (x : ℕ) → x < length row → (entrant_at row x).group ≡ n → (top.group ≡ n) × (goes_before (entrant_at row x) top ≡ false)
+
+-- one of the group
+record Own (row : List Entrant) (n : ℕ) (top : Entrant) : Type 0 where
+  place : ℕ
+  within : place < length row
+  group : (entrant_at row place).group ≡ n
+  is : entrant_at row place ≡ top
+
+kind_of : (n : ℕ) (e top : Entrant) → entrant_in n e ≡ top → ((e.group ≡ n) × (e ≡ top)) ⊎ (top ≡ vacant)
+kind_of n e top is = by_test (nat_eq e.group n) refl is
+  where
+    by_test : (t : Bool) → nat_eq e.group n ≡ t → cond t e vacant ≡ top → ((e.group ≡ n) × (e ≡ top)) ⊎ (top ≡ vacant)
+    by_test true h k = inl (grind (arith, nat_tests), k)
+    by_test false h k = inr (sym k)
+
+who : (row : List Entrant) (n : ℕ) (top : Entrant) → Contains (vacant ∷ map (entrant_in n) row) top → Own row n top ⊎ (top ≡ vacant)
+who row n top (zero, within, is) = inr (sym is)
+who row n top (suc k, within, is) =
+    let inside : k < length row = omega (arith, within, length-map row (entrant_in n)) in
+    let at : entrant_in n (entrant_at row k) ≡ top = sym (get_or-map (entrant_in n) row k vacant top inside) ∙ is in
+    elim (kind_of n (entrant_at row k) top at) [
+      | inl own ↦ inl (record { place = k; within = inside; group = own.0; is = own.1 })
+      | inr none ↦ inr none
+    ]
+
+pub not_vacant : (top : Entrant) → top ≡ vacant → top.group < 64 → ⊥
+not_vacant top is g = omega (arith, g, ap (λ (e : Entrant). e.group) is)
+
+own_entrant : (n : ℕ) (e : Entrant) → e.group ≡ n → entrant_in n e ≡ e
+own_entrant n e same = grind (arith, nat_tests)
+
+before_vacant : (e top : Entrant) → e.level ≤ 255 → top ≡ vacant → goes_before e top ≡ false → ⊥
+before_vacant e top small is h =
+    let level : top.level ≡ 256 = ap (λ (f : Entrant). f.level) is in
+    grind (arith, nat_tests)
+
+pub top_is : (row : List Entrant) (n : ℕ) (top : Entrant) → n < 64 → IsQueued row → IsFirst (map (entrant_in n) row) top → IsTop row n top
+top_is row n top below queued first = by_kind (who row n top first.one)
+  where
+    before : (x : ℕ) → x < length row → (entrant_at row x).group ≡ n → goes_before (entrant_at row x) top ≡ false
+    before x within same =
+        let read : get_or (map (entrant_in n) row) x vacant ≡ entrant_at row x =
+            get_or-map (entrant_in n) row x vacant vacant within ∙ own_entrant n (entrant_at row x) same in
+        ap (λ (e : Entrant). goes_before e top) (sym read) ∙ first.others x vacant (omega (arith, within, length-map row (entrant_in n)))
+    by_kind : Own row n top ⊎ (top ≡ vacant) → IsTop row n top
+    by_kind (inl own) =
+        let group : top.group ≡ n = ap (λ (e : Entrant). e.group) (sym own.is) ∙ own.group in
+        record {
+          group = λ _. group;
+          sits = λ _. record { place = own.place; within = own.within; is = own.is };
+          none = λ no. absurd (no (omega (arith, group, below)));
+          first = λ x within same. (group, before x within same);
+        }
+    by_kind (inr none) = record {
+      group = λ g. absurd (not_vacant top none g);
+      sits = λ g. absurd (not_vacant top none g);
+      none = λ _. none;
+      first = λ x within same.
+          absurd (before_vacant (entrant_at row x) top (queued.levels x within (omega (arith, same, below))) none (before x within same));
+    }
+
+pub top_by : (row : List Entrant) (brackets : List (List Entrant)) (bracket : List Entrant) (g : ℕ) (first : Entrant)
+    → AreDrawn row brackets → IsQueued row → g < 64 → bracket ≡ get_or brackets g bracket → IsFirst bracket first → IsTop row g first
+top_by row brackets bracket g first drawn queued below read is_first =
+    let is : bracket ≡ map (entrant_in g) row = get_or_read brackets g bracket (omega (arith, drawn.each, below)) read [] ∙ drawn.drawn g below in
+    top_is row g first below queued (subst (λ (b : List Entrant). IsFirst b first) is is_first)
+
+-- the level of somebody who sits there
+pub sits_level : (row : List Entrant) (e : Entrant) → IsQueued row → e.group < 64 → Sits row e → e.level ≤ 255
+sits_level row e queued g sits =
+    subst (λ (f : Entrant). f.level ≤ 255) sits.is
+    (queued.levels sits.place sits.within (subst (λ (f : Entrant). f.group < 64) (sym sits.is) g))
+
+-- ---- the levels of the groups
+
+-- what is kept of the row
+pub record IsKept (row : List Entrant) (brackets : List (List Entrant)) (tops : List ℕ) : Type 0 where
+  pub drawn : AreDrawn row brackets
+  pub queued : IsQueued row
+  pub topped : AreTopped brackets tops
+
+top_of : (row : List Entrant) (brackets : List (List Entrant)) (tops : List ℕ) (g : ℕ) → IsKept row brackets tops → (below : g < 64)
+    → (has : HasTop (bracket_at brackets g) (level_of tops g)) → IsTop row g has.first
+top_of row brackets tops g kept below has =
+    top_is row g has.first below kept.queued (subst (λ (b : List Entrant). IsFirst b has.first) (kept.drawn.drawn g below) has.is)
+
+not_before : (first e : Entrant) → goes_before e first ≡ false → first.level ≤ e.level
+not_before first e h = grind (arith, nat_tests)
+
+-- nobody has a lower level than its group
+pub level_at_most : (row : List Entrant) (brackets : List (List Entrant)) (tops : List ℕ) (x : ℕ) → IsKept row brackets tops
+    → x < length row → (entrant_at row x).group < 64 → level_of tops (entrant_at row x).group ≤ (entrant_at row x).level
+level_at_most row brackets tops x kept within below =
+    let g = (entrant_at row x).group in
+    let has = kept.topped.each g below in
+    let first = (top_of row brackets tops g kept below has).first x within refl in
+    subst (λ (l : ℕ). l ≤ (entrant_at row x).level) has.same (not_before has.first (entrant_at row x) first.1)
+
+-- somebody of the group has its level
+pub record Occupant (row : List Entrant) (g at_level : ℕ) : Type 0 where
+  pub place : ℕ
+  pub within : place < length row
+  pub group : (entrant_at row place).group ≡ g
+  pub level : (entrant_at row place).level ≡ at_level
+
+pub occupant : (row : List Entrant) (brackets : List (List Entrant)) (tops : List ℕ) (g : ℕ) → IsKept row brackets tops
+    → g < 64 → level_of tops g < 256 → Occupant row g (level_of tops g)
+occupant row brackets tops g kept below some =
+    by_kind (who row g has.first (subst (λ (b : List Entrant). Contains (vacant ∷ b) has.first) (kept.drawn.drawn g below) has.is.one))
+  where
+    has : HasTop (bracket_at brackets g) (level_of tops g)
+    has = kept.topped.each g below
+    by_kind : Own row g has.first ⊎ (has.first ≡ vacant) → Occupant row g (level_of tops g)
+    by_kind (inl own) = record {
+      place = own.place;
+      within = own.within;
+      group = own.group;
+      level = ap (λ (e : Entrant). e.level) own.is ∙ has.same;
+    }
+    by_kind (inr none) = absurd (omega (arith, some, has.same, ap (λ (e : Entrant). e.level) none))

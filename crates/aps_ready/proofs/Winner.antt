@@ -1,0 +1,402 @@
+use Rattle.std.proofs.Common.{◌≡◌, ◌≢◌, ◌⊎◌, inl, inr, ℕ, suc, ◌%◌, ◌<◌, ◌≤◌, Bool, true, false, cond, ◌&&◌, ◌||◌, not, nat_eq, nat_lt, List, [], ◌∷◌, length, map, get_or, Option, Some, None, All, refl, sym, ◌∙◌, ap, subst, arith}
+use Rattle.std.specs.List.{Contains}
+use Rattle.std.proofs.lemmas.Bool.Decides.{nat_tests}
+use Rattle.aps_model.specs.declared.shape.Free.{Free}
+use Rattle.aps_model.specs.declared.shape.Free.TheVariants.{Priority, Ratio}
+use Rattle.aps_model.specs.declared.merit.PartFacts.{PartFacts}
+use Rattle.aps_model.specs.declared.merit.Contender.{Contender}
+use Rattle.aps_model.specs.Merit.{class_of, is_candidate, IsGreater}
+use Rattle.aps_model.specs.Budget.{part_at}
+use Rattle.aps_model.specs.Pick.{merit_among, candidates, greatest, IsGreatestCandidate}
+use Rattle.aps_model.proofs.GreatestLaws.{greatest-is, greatest-only, no_greatest, unbeaten-less}
+use Rattle.aps_levels.specs.declared.bits.Bits64.{Bits64}
+use Rattle.aps_levels.specs.Bits.{has}
+use Rattle.aps_ready.specs.declared.entrant.Entrant.{Entrant}
+use Rattle.aps_ready.specs.declared.gates.Gates.{Gates}
+use Rattle.aps_ready.specs.Entrant.{entrant_at, goes_before}
+use Rattle.aps_ready.specs.Ready.{members, facts_of, contender_of, seat_of, AreDrawn, IsQueued}
+use Rattle.aps_ready.specs.Topped.{AreTopped}
+use Rattle.aps_ready.specs.Gates.{is_first, is_open, AreGates}
+use Rattle.aps_ready.specs.Index.{level_of, AreLeast, AreEmpty}
+use Rattle.aps_ready.specs.Likely.{AreOccupied, AreLikely, AreLikelySecond}
+use Rattle.aps_ready.specs.Choice.{is_ahead}
+use Rattle.aps_ready.specs.Best.{Sits, IsBest}
+use Rattle.aps_ready.proofs.Queued.{seat_at, seat_in}
+use Rattle.aps_ready.proofs.Content.{is_candidate_at, open_from, open_group, open_among, all_candidates}
+use Rattle.aps_ready.proofs.Tops.{IsKept, level_at_most, Occupant, occupant, sits_level}
+use Rattle.aps_ready.proofs.Ahead.{is_above, class_at, ahead_in_group, above_tie, above_by_ratio, above_lower_first, above_lower_second, above_class}
+
+-- ---- what the gates say of somebody
+
+-- a candidate of this class
+pub record Stands (parts : List PartFacts) (e : Entrant) (k : ℕ) : Type 0 where
+  pub candidate : is_candidate_at parts e ≡ true
+  pub class : class_at parts e ≡ k
+
+abbrev part_of : List PartFacts → Entrant → PartFacts
+part_of parts e = part_at parts (e.group % 32)
+
+class_test : (t : Bool) → nat_eq (cond t 1 0) 1 ≡ t
+class_test true = refl
+class_test false = refl
+
+candidate_is : (parts : List PartFacts) (e : Entrant) → e.group < 64
+    → is_candidate_at parts e ≡ is_open (part_of parts e) (nat_lt 31 e.group)
+candidate_is parts e below =
+    let part = part_of parts e in
+    let there : nat_lt e.group 64 ≡ true = grind (arith, nat_tests) in
+    ap (λ (t : Bool). t && is_candidate (facts_of e) part) there
+    ∙ ap (λ (t : Bool). not part.shut || (t && not part.funded)) (class_test (is_first part (nat_lt 31 e.group)))
+
+both : (a b : Bool) → (a && b) ≡ true → (a ≡ true) × (b ≡ true)
+both true b h = (refl, h)
+both false b h = absurd cc
+
+not_true : (t : Bool) → not t ≡ true → t ≡ false
+not_true true h = absurd cc
+not_true false h = refl
+
+pub first_stands : (parts : List PartFacts) (gates : Gates) (e : Entrant) → AreGates parts gates → e.group < 64 → has gates.first e.group ≡ true
+    → Stands parts e 1
+first_stands parts gates e are below h =
+    let parted = both (is_open (part_of parts e) (nat_lt 31 e.group)) (is_first (part_of parts e) (nat_lt 31 e.group)) (sym (are.first e.group below) ∙ h) in
+    record {
+      candidate = candidate_is parts e below ∙ parted.0;
+      class = ap (λ (t : Bool). cond t 1 0) parted.1;
+    }
+
+pub second_stands : (parts : List PartFacts) (gates : Gates) (e : Entrant) → AreGates parts gates → e.group < 64 → has gates.second e.group ≡ true
+    → Stands parts e 0
+second_stands parts gates e are below h =
+    let parted = both (is_open (part_of parts e) (nat_lt 31 e.group)) (not (is_first (part_of parts e) (nat_lt 31 e.group)))
+        (sym (are.second e.group below) ∙ h) in
+    record {
+      candidate = candidate_is parts e below ∙ parted.0;
+      class = ap (λ (t : Bool). cond t 1 0) (not_true (is_first (part_of parts e) (nat_lt 31 e.group)) parted.1);
+    }
+
+-- every candidate is in one of the two
+pub in_one : (parts : List PartFacts) (gates : Gates) (e : Entrant) → AreGates parts gates → is_candidate_at parts e ≡ true
+    → (has gates.first e.group ≡ true) ⊎ (has gates.second e.group ≡ true)
+in_one parts gates e are here = by_test (is_first part (nat_lt 31 e.group)) refl
+  where
+    part : PartFacts
+    part = part_of parts e
+    below : e.group < 64
+    below = open_group parts e here
+    opened : is_open part (nat_lt 31 e.group) ≡ true
+    opened = sym (candidate_is parts e below) ∙ here
+    pair : (a b : Bool) → a ≡ true → b ≡ true → (a && b) ≡ true
+    pair a b h k = rw (h, k) refl
+    by_test : (t : Bool) → is_first part (nat_lt 31 e.group) ≡ t → (has gates.first e.group ≡ true) ⊎ (has gates.second e.group ≡ true)
+    by_test true h = inl (are.first e.group below ∙ pair (is_open part (nat_lt 31 e.group)) (is_first part (nat_lt 31 e.group)) opened h)
+    by_test false h =
+        inr (are.second e.group below
+          ∙ pair (is_open part (nat_lt 31 e.group)) (not (is_first part (nat_lt 31 e.group))) opened (ap not h))
+
+-- ---- nobody is above the best
+
+pub record IsWinner (free : Free) (parts : List PartFacts) (row : List Entrant) (best : Entrant) : Type 0 where
+  pub open_here : best.group < 64 → is_candidate_at parts best ≡ true
+  pub sits : best.group < 64 → Sits row best
+  pub others : (x : ℕ) → x < length row → is_candidate_at parts (entrant_at row x) ≡ true
+      → (best.group < 64) × (is_above free parts (entrant_at row x) best ≡ false)
+
+below_or_not : (a b : ℕ) → (a < b) ⊎ (b ≤ a)
+below_or_not a b = search arith
+
+-- the best of the groups at the least level: somebody is there, at that level
+record IsAtLeast (tops : List ℕ) (set groups : Bits64) (best : Entrant) (l : ℕ) : Type 0 where
+  there : best.group < 64
+  among : has set best.group ≡ true
+  level : best.level ≡ l
+
+in_found : (tops : List ℕ) (set found : Bits64) (least : AreLeast tops set found) (g : ℕ) → g < 64 → has found g ≡ true
+    → (level_of tops g ≡ least.level) × (has set g ≡ true)
+in_found tops set found least g below h =
+    let parted = both (nat_eq (level_of tops g) least.level) (has set g) (sym (least.these g below) ∙ h) in
+    (same (level_of tops g) least.level parted.0, parted.1)
+  where
+    same : (a b : ℕ) → nat_eq a b ≡ true → a ≡ b
+    same a b h = grind (arith, nat_tests)
+
+not_before : (first e : Entrant) → goes_before e first ≡ false → first.level ≤ e.level
+not_before first e h = grind (arith, nat_tests)
+
+at_least : (parts : List PartFacts) (row : List Entrant) (brackets : List (List Entrant)) (tops : List ℕ) (set found : Bits64) (best : Entrant)
+    → IsKept row brackets tops → (least : AreLeast tops set found) → IsBest parts row (has found) best
+    → IsAtLeast tops set found best least.level
+at_least parts row brackets tops set found best kept least is_best = record { there = there; among = own.1; level = omega (arith, low, high) }
+  where
+    -- who has the level of the group, in any of the found groups
+    at : (g : ℕ) → g < 64 → has found g ≡ true → Occupant row g (level_of tops g)
+    at g below h = occupant row brackets tops g kept below (omega (arith, least.below, (in_found tops set found least g below h).0))
+    -- and so isn't ahead of the best
+    behind : (g : ℕ) → (below : g < 64) → (h : has found g ≡ true)
+        → (best.group < 64) × (is_ahead parts (entrant_at row (at g below h).place) best ≡ false)
+    behind g below h =
+        let who = at g below h in
+        is_best.others who.place who.within (omega (arith, who.group, below)) (ap (has found) who.group ∙ h)
+    there : best.group < 64
+    there = (behind least.group least.inside least.some).0
+    own : (level_of tops best.group ≡ least.level) × (has set best.group ≡ true)
+    own = in_found tops set found least best.group there (is_best.inside there)
+    sits : Sits row best
+    sits = is_best.sits there
+    low : least.level ≤ best.level
+    low = subst (λ (l : ℕ). l ≤ best.level) own.0
+        (subst (λ (e : Entrant). level_of tops e.group ≤ e.level) sits.is
+          (level_at_most row brackets tops sits.place kept sits.within (subst (λ (e : Entrant). e.group < 64) (sym sits.is) there)))
+    high : best.level ≤ least.level
+    high =
+        let who = at best.group there (is_best.inside there) in
+        let e = entrant_at row who.place in
+        let before : goes_before e best ≡ false =
+            sym (ahead_in_group parts e best who.group) ∙ (behind best.group there (is_best.inside there)).1 in
+        omega (arith, not_before best e before, who.level, own.0)
+
+-- of the set nobody is above it
+not_above : (free : Free) (parts : List PartFacts) (row : List Entrant) (brackets : List (List Entrant)) (tops : List ℕ)
+    (set found : Bits64) (best : Entrant) (k x : ℕ)
+    → IsKept row brackets tops → (least : AreLeast tops set found) → IsBest parts row (has found) best
+    → class_at parts best ≡ k → class_at parts (entrant_at row x) ≡ k
+    → (best.level < (entrant_at row x).level → is_above free parts (entrant_at row x) best ≡ false)
+    → x < length row → (entrant_at row x).group < 64 → has set (entrant_at row x).group ≡ true
+    → is_above free parts (entrant_at row x) best ≡ false
+not_above free parts row brackets tops set found best k x kept least is_best best_class class lower within below among =
+    elim (below_or_not best.level (entrant_at row x).level) [
+      | inl low ↦ lower low
+      | inr high ↦ above_tie free parts (entrant_at row x) best k class best_class (same_level high) (behind high).1
+    ]
+  where
+    e : Entrant
+    e = entrant_at row x
+    best_at : IsAtLeast tops set found best least.level
+    best_at = at_least parts row brackets tops set found best kept least is_best
+    from_least : least.level ≤ level_of tops e.group
+    from_least = least.least e.group below among
+    to_level : level_of tops e.group ≤ e.level
+    to_level = level_at_most row brackets tops x kept within below
+    same_level : e.level ≤ best.level → e.level ≡ best.level
+    same_level high = omega (arith, high, from_least, to_level, best_at.level)
+    in_these : e.level ≤ best.level → has found e.group ≡ true
+    in_these high = least.these e.group below ∙ pair (nat_eq (level_of tops e.group) least.level) (has set e.group)
+        (equal (level_of tops e.group) least.level (omega (arith, high, from_least, to_level, best_at.level))) among
+      where
+        pair : (a b : Bool) → a ≡ true → b ≡ true → (a && b) ≡ true
+        pair a b h k = rw (h, k) refl
+        equal : (a b : ℕ) → a ≡ b → nat_eq a b ≡ true
+        equal a b h = grind (arith, nat_tests)
+    behind : e.level ≤ best.level → (best.group < 64) × (is_ahead parts e best ≡ false)
+    behind high = is_best.others x within below (in_these high)
+
+small : (row : List Entrant) (x : ℕ) → IsQueued row → x < length row → (entrant_at row x).group < 64 → (entrant_at row x).level ≤ 255
+small row x queued within below = queued.levels x within below
+
+-- an empty group has nobody
+no_member : (row : List Entrant) (brackets : List (List Entrant)) (tops : List ℕ) (set : Bits64) (x : ℕ) → IsKept row brackets tops → AreEmpty tops set
+    → x < length row → (entrant_at row x).group < 64 → has set (entrant_at row x).group ≡ true → ⊥
+no_member row brackets tops set x kept empty within below among =
+    omega (arith, empty (entrant_at row x).group below among, level_at_most row brackets tops x kept within below,
+      kept.queued.levels x within below)
+
+-- ---- somebody of class 1
+
+pub first_wins : (free : Free) (parts : List PartFacts) (row : List Entrant) (brackets : List (List Entrant)) (tops : List ℕ)
+    (gates : Gates) (found : Bits64) (best : Entrant) → AreGates parts gates → IsKept row brackets tops → AreLeast tops gates.first found
+    → IsBest parts row (has found) best → IsWinner free parts row best
+first_wins free parts row brackets tops gates found best are kept least is_best = record {
+  open_here = λ _. stands.candidate;
+  sits = is_best.sits;
+  others = λ x within here. (best_at.there, beaten x within here (in_one parts gates (entrant_at row x) are here));
+}
+  where
+    best_at : IsAtLeast tops gates.first found best least.level
+    best_at = at_least parts row brackets tops gates.first found best kept least is_best
+    stands : Stands parts best 1
+    stands = first_stands parts gates best are best_at.there best_at.among
+    beaten : (x : ℕ) → x < length row → is_candidate_at parts (entrant_at row x) ≡ true
+        → (has gates.first (entrant_at row x).group ≡ true) ⊎ (has gates.second (entrant_at row x).group ≡ true)
+        → is_above free parts (entrant_at row x) best ≡ false
+    beaten x within here (inl one) =
+        let below = open_group parts (entrant_at row x) here in
+        let class = (first_stands parts gates (entrant_at row x) are below one).class in
+        not_above free parts row brackets tops gates.first found best 1 x kept least is_best stands.class class
+        (λ low. above_lower_first free parts (entrant_at row x) best class stands.class low (small row x kept.queued within below))
+        within below one
+    beaten x within here (inr two) =
+        let below = open_group parts (entrant_at row x) here in
+        above_class free parts (entrant_at row x) best (second_stands parts gates (entrant_at row x) are below two).class stands.class
+
+-- ---- nobody of class 1
+
+only_second : (parts : List PartFacts) (row : List Entrant) (brackets : List (List Entrant)) (tops : List ℕ) (gates : Gates) (x : ℕ)
+    → AreGates parts gates → IsKept row brackets tops → AreEmpty tops gates.first → x < length row
+    → is_candidate_at parts (entrant_at row x) ≡ true → has gates.second (entrant_at row x).group ≡ true
+only_second parts row brackets tops gates x are kept empty within here =
+    by_side (in_one parts gates (entrant_at row x) are here)
+  where
+    by_side : (has gates.first (entrant_at row x).group ≡ true) ⊎ (has gates.second (entrant_at row x).group ≡ true)
+        → has gates.second (entrant_at row x).group ≡ true
+    by_side (inl one) = absurd (no_member row brackets tops gates.first x kept empty within (open_group parts (entrant_at row x) here) one)
+    by_side (inr two) = two
+
+pub second_wins : (parts : List PartFacts) (row : List Entrant) (brackets : List (List Entrant)) (tops : List ℕ)
+    (gates : Gates) (found : Bits64) (best : Entrant) → AreGates parts gates → IsKept row brackets tops → AreEmpty tops gates.first
+    → AreLeast tops gates.second found → IsBest parts row (has found) best → IsWinner Priority parts row best
+second_wins parts row brackets tops gates found best are kept empty least is_best = record {
+  open_here = λ _. stands.candidate;
+  sits = is_best.sits;
+  others = λ x within here.
+      let below = open_group parts (entrant_at row x) here in
+      let two = only_second parts row brackets tops gates x are kept empty within here in
+      let class = (second_stands parts gates (entrant_at row x) are below two).class in
+      (best_at.there, not_above Priority parts row brackets tops gates.second found best 0 x kept least is_best stands.class class
+        (λ low. above_lower_second parts (entrant_at row x) best class stands.class low (small row x kept.queued within below))
+        within below two);
+}
+  where
+    best_at : IsAtLeast tops gates.second found best least.level
+    best_at = at_least parts row brackets tops gates.second found best kept least is_best
+    stands : Stands parts best 0
+    stands = second_stands parts gates best are best_at.there best_at.among
+
+pub ratio_wins : (parts : List PartFacts) (row : List Entrant) (brackets : List (List Entrant)) (tops : List ℕ)
+    (gates : Gates) (found : Bits64) (best : Entrant) → AreGates parts gates → IsKept row brackets tops → AreEmpty tops gates.first
+    → AreOccupied tops gates.second found → IsBest parts row (has found) best → IsWinner Ratio parts row best
+ratio_wins parts row brackets tops gates found best are kept empty occupied is_best = record {
+  open_here = λ g. (stands g).candidate;
+  sits = is_best.sits;
+  others = λ x within here.
+      let below = open_group parts (entrant_at row x) here in
+      let two = only_second parts row brackets tops gates x are kept empty within here in
+      let class = (second_stands parts gates (entrant_at row x) are below two).class in
+      let level = small row x kept.queued within below in
+      let behind = is_best.others x within below (is_found x within below level two) in
+      (behind.0, above_by_ratio parts (entrant_at row x) best class (stands behind.0).class level
+        (sits_level row best kept.queued behind.0 (is_best.sits behind.0)) behind.1);
+}
+  where
+    stands : best.group < 64 → Stands parts best 0
+    stands g = second_stands parts gates best are g
+        (both (has gates.second best.group) (nat_lt (level_of tops best.group) 256) (sym (occupied best.group g) ∙ is_best.inside g)).0
+    is_found : (x : ℕ) → x < length row → (entrant_at row x).group < 64 → (entrant_at row x).level ≤ 255
+        → has gates.second (entrant_at row x).group ≡ true → has found (entrant_at row x).group ≡ true
+    is_found x within below level two =
+        let most = level_at_most row brackets tops x kept within below in
+        occupied (entrant_at row x).group below
+        ∙ pair (has gates.second (entrant_at row x).group) (nat_lt (level_of tops (entrant_at row x).group) 256) two
+          (less (level_of tops (entrant_at row x).group) 256 (omega (arith, most, level)))
+      where
+        pair : (a b : Bool) → a ≡ true → b ≡ true → (a && b) ≡ true
+        pair a b h k = rw (h, k) refl
+        less : (a b : ℕ) → a < b → nat_lt a b ≡ true
+        less a b h = grind (arith, nat_tests)
+
+pub nobody_wins : (parts : List PartFacts) (row : List Entrant) (brackets : List (List Entrant)) (tops : List ℕ)
+    (gates : Gates) (found : Bits64) (best : Entrant) → AreGates parts gates → IsKept row brackets tops → AreEmpty tops gates.first
+    → AreEmpty tops gates.second → ((g : ℕ) → g < 64 → has found g ≡ false) → IsBest parts row (has found) best
+    → IsWinner Priority parts row best
+nobody_wins parts row brackets tops gates found best are kept empty empty_too none is_best = record {
+  open_here = λ g. absurd (clash (has found best.group) (is_best.inside g) (none best.group g));
+  sits = is_best.sits;
+  others = λ x within here.
+      absurd (no_member row brackets tops gates.second x kept empty_too within (open_group parts (entrant_at row x) here)
+        (only_second parts row brackets tops gates x are kept empty within here));
+}
+  where
+    clash : (t : Bool) → t ≡ true → t ≡ false → ⊥
+    clash t p q = cc
+
+pub likely_wins : (free : Free) (parts : List PartFacts) (row : List Entrant) (brackets : List (List Entrant)) (tops : List ℕ)
+    (gates : Gates) (found : Bits64) (best : Entrant) → AreGates parts gates → IsKept row brackets tops → AreLikely free tops gates found
+    → IsBest parts row (has found) best → IsWinner free parts row best
+likely_wins free parts row brackets tops gates found best are kept (inl least) is_best =
+    first_wins free parts row brackets tops gates found best are kept least is_best
+likely_wins Ratio parts row brackets tops gates found best are kept (inr rest) is_best =
+    ratio_wins parts row brackets tops gates found best are kept rest.0 rest.1 is_best
+likely_wins Priority parts row brackets tops gates found best are kept (inr rest) is_best = elim rest.1 [
+  | inl least ↦ second_wins parts row brackets tops gates found best are kept rest.0 least is_best
+  | inr none ↦ nobody_wins parts row brackets tops gates found best are kept rest.0 none.0 none.1 is_best
+]
+
+-- ---- it is the greatest candidate
+
+-- stamps differ
+same_member : (row : List Entrant) (x y : ℕ) → IsQueued row → x < length row → y < length row → (entrant_at row x).group < 64 → (entrant_at row y).group < 64
+    → (entrant_at row x).stamp ≡ (entrant_at row y).stamp → entrant_at row x ≡ entrant_at row y
+same_member row x y queued x_in y_in gx gy same = ap (entrant_at row) (queued.stamps x y x_in y_in gx gy same)
+
+pub best_is_greatest : (free : Free) (parts : List PartFacts) (row : List Entrant) (best : Entrant) → IsQueued row → IsWinner free parts row best → best.group < 64
+    → greatest free parts (members (map seat_of row)) ≡ Some (contender_of best)
+best_is_greatest free parts row best queued is_winner g = by_result (greatest free parts (members (map seat_of row))) refl
+  where
+    sits : Sits row best
+    sits = is_winner.sits g
+    here : is_candidate_at parts (entrant_at row sits.place) ≡ true
+    here = ap (is_candidate_at parts) sits.is ∙ is_winner.open_here g
+    among : Contains (candidates parts (members (map seat_of row))) (contender_of best)
+    among = subst (λ (e : Entrant). Contains (candidates parts (members (map seat_of row))) (contender_of e)) sits.is (open_among parts row sits.place sits.within here)
+    is_greatest : IsGreatestCandidate free parts (members (map seat_of row)) (contender_of best)
+    is_greatest = record {
+      candidate = among;
+      others = all_candidates (λ (c : Contender). c.stamp ≢ best.stamp → IsGreater free (merit_among parts (contender_of best)) (merit_among parts c)) parts row
+          (λ x within here ne. unbeaten-less free parts (contender_of best) (contender_of (entrant_at row x)) ne (is_winner.others x within here).1);
+    }
+    nothing : (cs : List Contender) (c : Contender) → cs ≡ [] → Contains cs c → ⊥
+    nothing cs c none (k, within, is) = omega (arith, within, ap length none)
+    by_result : (r : Option Contender) → greatest free parts (members (map seat_of row)) ≡ r → greatest free parts (members (map seat_of row)) ≡ Some (contender_of best)
+    by_result None h = absurd (nothing _ _ (no_greatest free parts (members (map seat_of row)) h) among)
+    by_result (Some c) h =
+        let at = open_from parts row c (greatest-is free parts (members (map seat_of row)) c h).candidate in
+        let stamp : best.stamp ≡ (entrant_at row at.place).stamp = greatest-only free parts (members (map seat_of row)) c (contender_of best) h is_greatest ∙ ap (λ (d : Contender). d.stamp) at.is in
+        let same : entrant_at row sits.place ≡ entrant_at row at.place =
+            same_member row sits.place at.place queued sits.within at.within (open_group parts (entrant_at row sits.place) here) (open_group parts (entrant_at row at.place) at.open_here)
+            (ap (λ (e : Entrant). e.stamp) sits.is ∙ stamp) in
+        h ∙ ap (λ (d : Contender). Some d) (at.is ∙ ap contender_of (sym same ∙ sits.is))
+
+pub none_is_greatest : (free : Free) (parts : List PartFacts) (row : List Entrant) (best : Entrant) → IsWinner free parts row best → (best.group < 64 → ⊥)
+    → greatest free parts (members (map seat_of row)) ≡ None
+none_is_greatest free parts row best is_winner none = by_result (greatest free parts (members (map seat_of row))) refl
+  where
+    by_result : (r : Option Contender) → greatest free parts (members (map seat_of row)) ≡ r → greatest free parts (members (map seat_of row)) ≡ None
+    by_result None h = h
+    by_result (Some c) h =
+        let at = open_from parts row c (greatest-is free parts (members (map seat_of row)) c h).candidate in
+        absurd (none (is_winner.others at.place at.within at.open_here).0)
+
+-- ---- where the best sits
+
+pub record Place (row : List Entrant) (x : ℕ) : Type 0 where
+  pub within : x < length row
+  pub present : get_or (map seat_of row) x None ≢ None
+
+pub place_by : (row : List Entrant) (best : Entrant) (x : ℕ) → IsQueued row → Sits row best → best.group < 64 → x ≡ best.thread → Place row x
+place_by row best x queued sits g is =
+    let group : (entrant_at row sits.place).group < 64 = subst (λ (e : Entrant). e.group < 64) (sym sits.is) g in
+    let same : sits.place ≡ x = sym (queued.threads sits.place sits.within group) ∙ ap (λ (e : Entrant). e.thread) sits.is ∙ sym is in
+    record {
+      within = omega (arith, same, sits.within);
+      present = λ none. is_some (contender_of (entrant_at row sits.place)) (sym (seat_in (entrant_at row sits.place) group) ∙ sym (seat_at row sits.place sits.within) ∙ ap (λ (i : ℕ). get_or (map seat_of row) i None) same ∙ none);
+    }
+  where
+    is_some : (c : Contender) → Some c ≡ None → ⊥
+    is_some c h = cc
+
+-- ---- the look at the likely groups
+
+pub look_wins : (free : Free) (parts : List PartFacts) (row : List Entrant) (brackets looked : List (List Entrant)) (tops : List ℕ)
+    (gates : Gates) (groups : Bits64) (best : Entrant)
+    → AreDrawn row brackets → IsQueued row → AreTopped brackets tops → looked ≡ brackets → AreGates parts gates
+    → AreLikely free tops gates groups
+    → ((row : List Entrant) → AreDrawn row looked → IsQueued row → IsBest parts row (has groups) best)
+    → IsWinner free parts row best
+look_wins free parts row brackets looked tops gates groups best drawn queued topped same are likely is_best =
+    likely_wins free parts row brackets tops gates groups best are (record { drawn = drawn; queued = queued; topped = topped }) likely
+    (is_best row (subst (AreDrawn row) (sym same) drawn) queued)
+
+pub thread_small : (row : List Entrant) (best : Entrant) → length row ≤ 1024 → IsQueued row → Sits row best → best.group < 64
+    → best.thread ≤ 1023
+thread_small row best few queued sits g =
+    let there : (entrant_at row sits.place).group < 64 = subst (λ (e : Entrant). e.group < 64) (sym sits.is) g in
+    omega (arith, sits.within, few, queued.threads sits.place sits.within there, ap (λ (e : Entrant). e.thread) sits.is)

@@ -1,0 +1,6 @@
+use Rattle.std.proofs.Common.{◌≡◌, replicate}
+use Rattle.aps_ready.specs.Entrant.{vacant}
+use Rattle.aps_ready.proofs.bracket.Bracket.new.Given as goal
+
+abbrev pub invariant-loop : goal.invariant-loop
+invariant-loop l = l.nodes.items ≡ replicate l.counter vacant

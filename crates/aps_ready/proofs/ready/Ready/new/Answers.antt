@@ -1,0 +1,22 @@
+use Rattle.std.proofs.Common.{◌≡◌, ◌∙◌, ap, map, replicate, arith, List}
+use Rattle.aps_ready.specs.declared.entrant.Entrant.{Entrant}
+use Rattle.aps_ready.specs.Ready.{seat_of}
+use Rattle.aps_ready.proofs.Drawn.{drawn_replicate}
+use Rattle.aps_ready.proofs.Topped.{topped_replicate}
+use Rattle.aps_ready.proofs.Queued.{queued_replicate, replicate_seats}
+use Rattle.aps_ready.specs.Entrant.{vacant}
+use Rattle.aps_ready.proofs.ready.Ready.new.Goals as goal
+
+pub invariant_of-result : goal.invariant_of-result
+invariant_of-result c =
+    let all : c.row.counter ≡ c.args.threads = omega arith in
+    let groups : c.brackets.counter ≡ 64 = omega arith in
+    let row_is = c.row.invariant ∙ ap (λ n. replicate n vacant) all in
+    let brackets_are = c.brackets.invariant ∙ ap (λ n. replicate n (replicate c.args.threads vacant)) groups in
+    rw (row_is, brackets_are, c.in_ok-index.ensures)
+    (drawn_replicate c.args.threads (omega arith), queued_replicate c.args.threads, topped_replicate c.args.threads)
+
+pub returns : goal.returns
+returns c =
+    let all : c.row.counter ≡ c.args.threads = omega arith in
+    ap (map seat_of) (c.row.invariant ∙ ap (λ n. replicate n vacant) all) ∙ replicate_seats c.args.threads

@@ -1,0 +1,23 @@
+use Rattle.std.specs.Prelude.{ℕ, ◌%◌, Bool, true, false, ◌&&◌, nat_lt, if◌then◌else◌, List}
+use Rattle.aps_model.specs.declared.merit.PartFacts.{PartFacts}
+use Rattle.aps_model.specs.Merit.{smaller}
+use Rattle.aps_model.specs.Budget.{part_at}
+use Rattle.aps_ready.specs.declared.entrant.Entrant.{Entrant}
+use Rattle.aps_ready.specs.Entrant.{goes_before}
+
+-- a thread of the first partition is ahead of one of the second: the smaller fraction, and where neither is smaller the
+-- rest decides
+abbrev pub ahead_by : PartFacts → PartFacts → Bool → Bool
+ahead_by a b rest =
+    if smaller a.used a.budget b.used b.budget then true
+    else if smaller b.used b.budget a.used a.budget then false
+    else rest
+
+-- the order of candidates of one class, where they have one level too or free time goes by ratio
+abbrev pub is_ahead : List PartFacts → Entrant → Entrant → Bool
+is_ahead parts a b = ahead_by (part_at parts (a.group % 32)) (part_at parts (b.group % 32)) (goes_before a b)
+
+-- the best so far, or the first of one more group, if somebody is there and ahead of it
+abbrev pub ahead_of : List PartFacts → Entrant → Entrant → Entrant
+ahead_of parts best top =
+    if nat_lt best.group 64 then (if nat_lt top.group 64 && is_ahead parts top best then top else best) else top

@@ -1,0 +1,37 @@
+use Rattle.std.specs.Prelude.{◌≡◌, ℕ, ◌<◌, ◌≤◌, ◌&&◌, nat_eq, nat_lt, true, List, length, slice_index_or}
+use Rattle.aps_levels.specs.declared.bits.Bits64.{Bits64}
+use Rattle.aps_levels.specs.declared.levels.Levels.{Levels}
+use Rattle.aps_levels.specs.Bits.{has}
+use Rattle.aps_levels.specs.Levels.{has_level}
+
+-- the level of a group, 256 where it is empty
+abbrev pub level_of : List ℕ → ℕ → ℕ
+level_of tops g = slice_index_or tops g 256
+
+abbrev pub no_bits : Bits64
+no_bits = record { word = 0 }
+
+abbrev pub bits_at : List Bits64 → ℕ → Bits64
+bits_at at_level l = slice_index_or at_level l no_bits
+
+-- each group stands at its level and at no other, and the levels at which groups stand are among the kept ones
+pub record IsIndex (tops : List ℕ) (at_level : List Bits64) (levels : Levels) (some : Bits64) : Type 0 where
+  pub groups : length tops ≡ 64
+  pub each : length at_level ≡ 256
+  pub at : (l g : ℕ) → l < 256 → g < 64 → has (bits_at at_level l) g ≡ nat_eq (level_of tops g) l
+  pub in_use : (l g : ℕ) → l < 256 → g < 64 → has (bits_at at_level l) g ≡ true → has_level levels l ≡ true
+  pub occupied : (g : ℕ) → g < 64 → has some g ≡ nat_lt (level_of tops g) 256
+
+-- all groups of the set are empty
+abbrev pub AreEmpty : List ℕ → Bits64 → Type 0
+AreEmpty tops set = (g : ℕ) → g < 64 → has set g ≡ true → 256 ≤ level_of tops g
+
+-- the groups of the set at the least level of any of them, which is below 256
+pub record AreLeast (tops : List ℕ) (set found : Bits64) : Type 0 where
+  pub level : ℕ
+  pub below : level < 256
+  pub group : ℕ
+  pub inside : group < 64
+  pub some : has found group ≡ true
+  pub these : (g : ℕ) → g < 64 → has found g ≡ (nat_eq (level_of tops g) level && has set g)
+  pub least : (g : ℕ) → g < 64 → has set g ≡ true → level ≤ level_of tops g

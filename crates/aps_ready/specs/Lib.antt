@@ -1,0 +1,10 @@
+pub mod Small
+pub mod Entrant
+pub mod Bracket
+pub mod Gates
+pub mod Index
+pub mod Ready
+pub mod Topped
+pub mod Choice
+pub mod Likely
+pub mod Best

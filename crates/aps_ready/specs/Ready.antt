@@ -1,0 +1,51 @@
+use Rattle.std.specs.Prelude.{◌≡◌, ◌≢◌, ℕ, ◌-◌, ◌%◌, ◌<◌, ◌≤◌, nat_lt, nat_eq, if◌then◌else◌, List, [], ◌∷◌, length, map, slice_index_or, Option, Some, None}
+use Rattle.aps_model.specs.declared.state.Facts.{Facts}
+use Rattle.aps_model.specs.declared.merit.Contender.{Contender}
+use Rattle.aps_ready.specs.declared.entrant.Entrant.{Entrant}
+use Rattle.aps_ready.specs.Entrant.{entrant_at, vacant}
+
+-- those who are in, in order of their numbers
+abbrev pub members : List (Option Contender) → List Contender
+members [] = []
+members (None ∷ row) = members row
+members (Some c ∷ row) = c ∷ members row
+
+-- no one who is in has the stamp
+abbrev pub IsFree : ℕ → Option Contender → Type 0
+IsFree stamp None = Unit {0}
+IsFree stamp (Some c) = c.stamp ≢ stamp
+
+abbrev pub with_facts : Facts → Contender → Contender
+with_facts facts c = record { thread = c.thread; facts = facts; stamp = c.stamp }
+
+-- the values of an entrant, and the thread that it stands for
+abbrev pub facts_of : Entrant → Facts
+facts_of e = record { partition = e.group % 32; priority = 255 - e.level; critical = nat_lt 31 e.group }
+
+abbrev pub contender_of : Entrant → Contender
+contender_of e = record { thread = e.thread; facts = facts_of e; stamp = e.stamp }
+
+-- who is in there, if anybody is
+abbrev pub seat_of : Entrant → Option Contender
+seat_of e = if nat_lt e.group 64 then Some (contender_of e) else None
+
+-- who takes part in the bracket of a group
+abbrev pub entrant_in : ℕ → Entrant → Entrant
+entrant_in g e = if nat_eq e.group g then e else vacant
+
+abbrev pub bracket_at : List (List Entrant) → ℕ → List Entrant
+bracket_at brackets g = slice_index_or brackets g []
+
+-- each group has its bracket
+pub record AreDrawn (row : List Entrant) (brackets : List (List Entrant)) : Type 0 where
+  pub few : length row ≤ 1024
+  pub each : length brackets ≡ 64
+  pub drawn : (g : ℕ) → g < 64 → bracket_at brackets g ≡ map (entrant_in g) row
+
+-- stamps differ, and whoever is in is in its own place
+pub record IsQueued (row : List Entrant) : Type 0 where
+  pub levels : (x : ℕ) → x < length row → (entrant_at row x).group < 64 → (entrant_at row x).level ≤ 255
+  pub threads : (x : ℕ) → x < length row → (entrant_at row x).group < 64 → (entrant_at row x).thread ≡ x
+  pub stamps : (x y : ℕ) → x < length row → y < length row
+      → (entrant_at row x).group < 64 → (entrant_at row y).group < 64
+      → (entrant_at row x).stamp ≡ (entrant_at row y).stamp → x ≡ y

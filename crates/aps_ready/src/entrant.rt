@@ -1,0 +1,67 @@
+//! Who takes part in a bracket, and which of two goes first.
+ghost use Rattle.std.specs.Prelude.{◌≡◌, ◌≤◌};
+ghost use Rattle.aps_model.specs.declared.state.Facts.{Facts};
+ghost use Rattle.aps_ready.specs.Entrant.{goes_before, first_of, vacant, entrant_of};
+
+use aps_model::{Facts, ThreadId};
+
+/// Who takes part: a thread, its group, its level (the lower goes first), and its stamp, which decides between equal
+/// levels. It is sixteen bytes of plain numbers, so that one is copied and compared in a few instructions.
+#[derive(Clone, Copy, Debug, PartialEq, Eq)]
+pub struct Entrant {
+    /// 255 less the priority, 256 where nobody is
+    pub level: u16,
+    /// the partition, and 32 more where the thread is critical; 64 where nobody is
+    pub group: u16,
+    pub thread: u16,
+    pub stamp: u64,
+}
+
+/// Nobody: at a level above all others, and of no group.
+#[inline(always)]
+pub fn vacant() -> Entrant
+    ensures { result ≡ vacant }
+{
+    Entrant {
+        level: 256,
+        group: 64,
+        thread: 0,
+        stamp: 0,
+    }
+}
+
+/// A thread with these values, as it takes part.
+#[inline(always)]
+pub fn entrant_of(x: ThreadId, facts: Facts, stamp: u64) -> Entrant
+    ensures same { result ≡ entrant_of x facts stamp }
+    ensures partition { facts.partition ≤ 31 }
+    ensures priority { facts.priority ≤ 255 }
+{
+    let partition = facts.partition.index() as u16;
+    Entrant {
+        level: 255 - u16::from(facts.priority),
+        group: if facts.critical {
+            partition + 32
+        } else {
+            partition
+        },
+        thread: x.index() as u16,
+        stamp,
+    }
+}
+
+/// Whether `a` goes before `b`.
+#[inline(always)]
+pub fn goes_before(a: &Entrant, b: &Entrant) -> bool
+    ensures { result ≡ goes_before a.now b.now }
+{
+    a.level < b.level || (a.level == b.level && a.stamp < b.stamp)
+}
+
+/// The one of two that goes first.
+#[inline(always)]
+pub fn first_of(a: Entrant, b: Entrant) -> Entrant
+    ensures { result ≡ first_of a b }
+{
+    if goes_before(&b, &a) { b } else { a }
+}

@@ -1,0 +1,16 @@
+//! The ready threads, and the greatest candidate among them. `Ready` keeps 64 knock-out brackets, one for each partition
+//! and mark, so that a thread is put in, changed and taken out in a few steps; `Gates` keeps which of them are candidates.
+#![tactic(auto)]
+
+mod bracket;
+mod choice;
+mod entrant;
+mod gates;
+mod index;
+mod ready;
+mod seat;
+#[cfg(test)]
+mod tests;
+
+pub use gates::Gates;
+pub use ready::Ready;
