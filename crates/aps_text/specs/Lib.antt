@@ -7,3 +7,4 @@ pub mod Line
 pub mod Place
 pub mod Refusal
 pub mod Whole
+pub mod Separator

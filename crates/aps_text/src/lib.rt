@@ -8,11 +8,13 @@ mod operation;
 mod printing;
 mod reading;
 mod refusal;
+mod separator;
 
 pub use line::{LineBuffer, MAX_LINE};
 pub use printing::print_journal;
 pub use reading::read_journal;
 pub use refusal::JournalRefusal;
+pub use separator::{JournalAt, journal_at};
 
 #[cfg(test)]
 mod tests;

@@ -1,4 +1,4 @@
-use crate::{JournalRefusal, print_journal, read_journal};
+use crate::{JournalRefusal, journal_at, print_journal, read_journal};
 use aps_model::{Done, Entry, ThreadId};
 use std::alloc::Global;
 use std::test::Fail;
@@ -113,4 +113,18 @@ fn bad_lines_have_their_places(rt: HostRuntime) {
             Ok(_) => panic!(rt; "read as a journal: {text}"),
         }
     }
+}
+
+// The length of the scenario, and where the journal begins, of such a text.
+fn parts_of(text: &str) -> Option<(usize, usize)> {
+    journal_at(text.as_bytes()).map(|at| (at.scenario_len, at.journal_from))
+}
+
+#[test]
+fn the_journal_begins_behind_its_line(rt: HostRuntime) {
+    assert_eq!(rt; parts_of("version = 1\n--- journal\n0 0 x"), Some((12, 24)));
+    assert_eq!(rt; parts_of("--- journal\n"), Some((0, 12)));
+    assert_eq!(rt; parts_of("a\n--- journal\n--- journal\n"), Some((2, 14)));
+    assert_eq!(rt; parts_of("a --- journal\n\n--- journal \n--- journal\r\n--- journal"), None);
+    assert_eq!(rt; parts_of(""), None);
 }
