@@ -1,0 +1,7 @@
+pub mod Order
+pub mod Links
+pub mod Serving
+pub mod Table
+pub mod Values
+pub mod Opening
+pub mod Chains
