@@ -8,8 +8,6 @@ use aps_model::{Bankruptcy, Demand, Free, Name, NoMemory, Shape};
 use std::alloc::Global;
 use std::test::Fail;
 
-const NAMES: &[u8; 31] = b"ABCDEFGHIJKLMNOPQRSTUVWXYZabcde";
-
 /// The greatest need.
 const MOST: u64 = 64_000_000_000;
 
@@ -25,7 +23,16 @@ const SHAPE: Shape = Shape {
     bankruptcy: Bankruptcy::Basic,
 };
 
-/// Demands of these needs, with the letters as their names.
+/// `A` for the first demand, and `B` for each other.
+fn name_of(place: usize) -> Name {
+    if place == 0 {
+        Name::new(b"A").unwrap()
+    } else {
+        Name::new(b"B").unwrap()
+    }
+}
+
+/// Demands of these needs.
 fn demands_of(alloc: Global, needs: &[u64]) -> Result<Vec<Demand>, NoMemory>
     requires { length needs.now ≤ 31 }
     ensures few { IfOk result (λ demands. length demands.items ≤ 31) }
@@ -33,9 +40,11 @@ fn demands_of(alloc: Global, needs: &[u64]) -> Result<Vec<Demand>, NoMemory>
 {
     let mut demands = Vec::new(alloc);
     for i in 0..needs.len() {
-        let name = Name::new(&NAMES[i..i + 1]).unwrap();
         let need = needs[i].min(MOST);
-        demands.push(Demand { name, need })?;
+        demands.push(Demand {
+            name: name_of(i),
+            need,
+        })?;
     }
     Ok(demands)
 }
