@@ -52,19 +52,19 @@ by_level la lb sa sb a_small b_small = elim (below_or_not la lb) [
   | inl low ↦
       ap (λ (t : Bool). t || (nat_eq la lb && nat_lt sa sb)) (less la lb low)
       ∙ sym (ap (λ (t : Bool). cond t true (cond (nat_lt (255 - la) (255 - lb)) false (nat_lt sa sb)))
-        (less (255 - lb) (255 - la) (omega (arith, low, a_small, b_small))))
+      (less (255 - lb) (255 - la) (omega (arith, low, a_small, b_small))))
   | inr high ↦ elim (below_or_not lb la) [
     | inl more ↦
         let left : (nat_lt la lb || (nat_eq la lb && nat_lt sa sb)) ≡ false =
-            rw (not_less la lb high, not_equal la lb (λ e. omega (arith, e, more))) refl in
+        rw (not_less la lb high, not_equal la lb (λ e. omega (arith, e, more))) refl in
         let right : greater_first (255 - la) (255 - lb) (nat_lt sa sb) ≡ false =
-            rw (not_less (255 - lb) (255 - la) (omega (arith, more)), less (255 - la) (255 - lb) (omega (arith, more, a_small))) refl in
+        rw (not_less (255 - lb) (255 - la) (omega (arith, more)), less (255 - la) (255 - lb) (omega (arith, more, a_small))) refl in
         left ∙ sym right
     | inr same ↦
         let left : (nat_lt la lb || (nat_eq la lb && nat_lt sa sb)) ≡ nat_lt sa sb =
-            rw (not_less la lb high, equal la lb (omega (arith, high, same))) refl in
+        rw (not_less la lb high, equal la lb (omega (arith, high, same))) refl in
         let right : greater_first (255 - la) (255 - lb) (nat_lt sa sb) ≡ nat_lt sa sb =
-            rw (not_less (255 - lb) (255 - la) (omega (arith, high, same)), not_less (255 - la) (255 - lb) (omega (arith, high, same))) refl in
+        rw (not_less (255 - lb) (255 - la) (omega (arith, high, same)), not_less (255 - la) (255 - lb) (omega (arith, high, same))) refl in
         left ∙ sym right
   ]
 ]
@@ -79,7 +79,7 @@ pub ahead_chain : (parts : List PartFacts) (a b c : Entrant) → a.level ≤ 255
 ahead_chain parts a b c a_small b_small c_small h k =
     ahead_is parts a c a_small c_small
     ∙ (greater_order Ratio).chain (of_class 0 parts a) (of_class 0 parts b) (of_class 0 parts c)
-      (sym (ahead_is parts a b a_small b_small) ∙ h) (sym (ahead_is parts b c b_small c_small) ∙ k)
+    (sym (ahead_is parts a b a_small b_small) ∙ h) (sym (ahead_is parts b c b_small c_small) ∙ k)
 
 pub ahead_one_way : (parts : List PartFacts) (a b : Entrant) → a.level ≤ 255 → b.level ≤ 255
     → is_ahead parts a b ≡ true → is_ahead parts b a ≡ false
@@ -95,7 +95,7 @@ pub ahead_in_group : (parts : List PartFacts) (a b : Entrant) → a.group ≡ b.
 ahead_in_group parts a b same =
     let part = part_of parts b in
     let flat : ahead_by part part (goes_before a b) ≡ goes_before a b =
-        ap (λ (t : Bool). cond t true (cond t false (goes_before a b))) (not_smaller part.used part.budget) in
+    ap (λ (t : Bool). cond t true (cond t false (goes_before a b))) (not_smaller part.used part.budget) in
     ap (λ (g : ℕ). ahead_by (part_at parts (g % 32)) part (goes_before a b)) same ∙ flat
 
 -- ---- merits
@@ -122,7 +122,7 @@ either false x = refl
 -- of one class and one priority the fraction and the stamp decide
 tie : (free : Free) (k p ua ba sa ub bb sb : ℕ)
     → is_greater free (numbers k p ua ba sa) (numbers k p ub bb sb)
-      ≡ cond (smaller ua ba ub bb) true (cond (smaller ub bb ua ba) false (nat_lt sa sb))
+    ≡ cond (smaller ua ba ub bb) true (cond (smaller ub bb ua ba) false (nat_lt sa sb))
 tie Priority k p ua ba sa ub bb sb = rw (not_less k k (omega arith), not_less p p (omega arith)) refl
 tie Ratio k p ua ba sa ub bb sb =
     rw (not_less k k (omega arith), not_less p p (omega arith))

@@ -1,12 +1,12 @@
-use Rattle.std.proofs.Common.{◌≡◌, ◌≢◌, ◌⊎◌, inl, inr, ℕ, ◌+◌, ◌<◌, ◌≤◌, Bool, true, false, cond, ◌&&◌, not, nat_eq, nat_lt, List, length, refl, sym, ◌∙◌, ap, subst, arith}
+use Rattle.std.proofs.Common.{◌≡◌, ◌≢◌, ◌⊎◌, inl, inr, ℕ, ◌+◌, ◌<◌, ◌≤◌, Bool, true, false, cond, ◌&&◌, not, nat_eq, nat_lt, List, length, refl, sym, ◌∙◌, ap, arith}
 use Rattle.std.proofs.lemmas.Bool.{cases_eq}
 use Rattle.std.proofs.lemmas.Bool.Decides.{nat_tests}
 use Rattle.aps_model.specs.declared.merit.PartFacts.{PartFacts}
 use Rattle.aps_ready.specs.declared.entrant.Entrant.{Entrant}
-use Rattle.aps_ready.specs.Entrant.{entrant_at, vacant, goes_before}
+use Rattle.aps_ready.specs.Entrant.{entrant_at, vacant}
 use Rattle.aps_ready.specs.Ready.{IsQueued}
 use Rattle.aps_ready.specs.Choice.{is_ahead, ahead_of}
-use Rattle.aps_ready.specs.Best.{Sits, IsBest}
+use Rattle.aps_ready.specs.Best.{IsBest}
 use Rattle.aps_ready.proofs.Tops.{IsTop, not_vacant, sits_level}
 use Rattle.aps_ready.proofs.Ahead.{ahead_chain, ahead_one_way, ahead_in_group}
 
@@ -70,14 +70,16 @@ best_more parts row before after m best top below queued more is_top is_best =
   where
     small : (x : ℕ) → x < length row → (entrant_at row x).group < 64 → (entrant_at row x).level ≤ 255
     small x within there = queued.levels x within there
+
     -- of this group nobody is ahead of the top
     of_group : (x : ℕ) → x < length row → (entrant_at row x).group ≡ m → (top.group < 64) × (is_ahead parts (entrant_at row x) top ≡ false)
     of_group x within same =
         let first = is_top.first x within same in
         (omega (arith, first.0, below), ahead_in_group parts (entrant_at row x) top (same ∙ sym first.0) ∙ first.1)
+
     top_wins : top.group < 64
         → ((x : ℕ) → x < length row → (entrant_at row x).group < 64 → before (entrant_at row x).group ≡ true
-          → is_ahead parts (entrant_at row x) top ≡ false)
+        → is_ahead parts (entrant_at row x) top ≡ false)
         → IsBest parts row after top
     top_wins there earlier = record {
       inside = λ g. ap after (is_top.group g) ∙ more.new;
@@ -87,6 +89,7 @@ best_more parts row before after m best top below queued more is_top is_best =
         | inr old ↦ (there, earlier x within here old)
       ];
     }
+
     best_stays : best.group < 64
         → ((x : ℕ) → x < length row → (entrant_at row x).group ≡ m → is_ahead parts (entrant_at row x) best ≡ false)
         → IsBest parts row after best
@@ -98,6 +101,7 @@ best_more parts row before after m best top below queued more is_top is_best =
         | inr old ↦ is_best.others x within here old
       ];
     }
+
     -- nobody was there yet
     first_one : (best.group < 64 → ⊥) → IsBest parts row after top
     first_one none = record {
@@ -108,6 +112,7 @@ best_more parts row before after m best top below queued more is_top is_best =
         | inr old ↦ absurd (none (is_best.others x within here old).0)
       ];
     }
+
     by_tests : (b t : Bool) → nat_lt best.group 64 ≡ b → (nat_lt top.group 64 && is_ahead parts top best) ≡ t
         → IsBest parts row after (cond b (cond t top best) top)
     by_tests false t b_is t_is = first_one (no_one best.group b_is)
@@ -118,16 +123,16 @@ best_more parts row before after m best top below queued more is_top is_best =
         let top_small : top.level ≤ 255 = sits_level row top queued g (is_top.sits g) in
         let best_small : best.level ≤ 255 = sits_level row best queued h (is_best.sits h) in
         top_wins g (λ x within here old.
-          ahead_chain parts (entrant_at row x) best top (small x within here) best_small top_small (is_best.others x within here old).1
-          (ahead_one_way parts top best top_small best_small there.1))
+        ahead_chain parts (entrant_at row x) best top (small x within here) best_small top_small (is_best.others x within here old).1
+        (ahead_one_way parts top best top_small best_small there.1))
     by_tests true false b_is t_is =
         let h : best.group < 64 = is_there best.group b_is in
         let best_small : best.level ≤ 255 = sits_level row best queued h (is_best.sits h) in
         best_stays h (λ x within same.
-          let own = of_group x within same in
-          ahead_chain parts (entrant_at row x) top best (small x within (omega (arith, same, below)))
-          (sits_level row top queued own.0 (is_top.sits own.0)) best_small own.1
-          (second (nat_lt top.group 64) (is_ahead parts top best) (seen top.group own.0) t_is))
+        let own = of_group x within same in
+        ahead_chain parts (entrant_at row x) top best (small x within (omega (arith, same, below)))
+        (sits_level row top queued own.0 (is_top.sits own.0)) best_small own.1
+        (second (nat_lt top.group 64) (is_ahead parts top best) (seen top.group own.0) t_is))
 
 -- ---- groups that are left
 
@@ -159,16 +164,21 @@ one_more groups left after m among was without = record {
   where
     equal : (a b : ℕ) → a ≡ b → nat_eq a b ≡ true
     equal a b h = grind (arith, nat_tests)
+
     not_equal : (a b : ℕ) → a ≢ b → nat_eq a b ≡ false
     not_equal a b h = grind (arith, nat_tests)
+
     here : (a b : Bool) → a ≡ true → b ≡ false → (a && not b) ≡ true
     here a b h k = rw (h, k) refl
+
     not_true : (t : Bool) → not t ≡ true → t ≡ false
     not_true true h = absurd cc
     not_true false h = refl
+
     and_false : (a b : Bool) → b ≡ false → (a && b) ≡ false
     and_false true b h = h
     and_false false b h = refl
+
     still : (g : ℕ) → (groups g ≡ true) × (not (left g) ≡ true) → (groups g && not (after g)) ≡ true
     still g old = here (groups g) (after g) old.0 (without g ∙ and_false (not (nat_eq g m)) (left g) (not_true (left g) old.1))
 
@@ -187,9 +197,11 @@ least_passed left after m n passed here earlier without g below = without g ∙ 
   where
     equal : (a b : ℕ) → a ≡ b → nat_eq a b ≡ true
     equal a b h = grind (arith, nat_tests)
+
     and_false : (a b : Bool) → b ≡ false → (a && b) ≡ false
     and_false true b h = h
     and_false false b h = refl
+
     from_n : n ≤ m
     from_n = elim (below_or_not m n) [
       | inl low ↦ absurd (clash (left m) here (passed m low))

@@ -1,4 +1,4 @@
-use Rattle.std.proofs.Common.{◌≡◌, ◌≢◌, ◌⊎◌, inl, inr, ℕ, zero, suc, ◌%◌, ◌<◌, ◌≤◌, Bool, true, false, cond, ◌&&◌, nat_eq, nat_lt, List, [], ◌∷◌, length, map, get_or, Option, Some, None, All, refl, sym, ◌∙◌, ap, subst, arith}
+use Rattle.std.proofs.Common.{◌≡◌, ℕ, zero, suc, ◌%◌, ◌<◌, Bool, true, false, cond, ◌&&◌, nat_lt, List, [], ◌∷◌, length, map, get_or, Option, Some, None, All, refl, sym, ◌∙◌, ap, subst, arith}
 use Rattle.std.specs.List.{Contains}
 use Rattle.std.proofs.lemmas.Bool.Decides.{nat_tests}
 use Rattle.std.proofs.lemmas.List.{length-map}
@@ -55,6 +55,7 @@ to_candidates parts (Some d ∷ seats) zero c within is h =
   where
     some_same : (a b : Contender) → Some a ≡ Some b → a ≡ b
     some_same a b e = cc
+
     by_test : (t : Bool) → t ≡ true → d ≡ c → Contains (cond t (d ∷ candidates parts (members seats)) (candidates parts (members seats))) c
     by_test true e same = (0, omega arith, same)
     by_test false e same = absurd cc

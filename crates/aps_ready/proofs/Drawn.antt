@@ -1,7 +1,7 @@
-use Rattle.std.proofs.Common.{◌≡◌, ◌≢◌, ◌⊎◌, inl, inr, ℕ, zero, suc, ◌∷◌, ◌<◌, ◌≤◌, Bool, true, false, cond, nat_eq, nat_lt, List, [], length, map, get_or, set, replicate, refl, sym, ◌∙◌, ap, subst, arith, length-set, get_or-set_same, get_or-set_other}
+use Rattle.std.proofs.Common.{◌≡◌, ◌≢◌, inl, inr, ℕ, zero, suc, ◌∷◌, ◌<◌, ◌≤◌, Bool, true, false, cond, nat_eq, List, [], length, map, set, replicate, refl, sym, ◌∙◌, ap, subst, arith, length-set, get_or-set_same, get_or-set_other}
 use Rattle.std.proofs.lemmas.Bool.{cases_eq}
 use Rattle.std.proofs.lemmas.Bool.Decides.{nat_tests}
-use Rattle.std.proofs.lemmas.List.{map-set, set-get_or, set-set, set_past, get_or-map, get_or-replicate, get_or_default, length-replicate}
+use Rattle.std.proofs.lemmas.List.{map-set, set-get_or, set_past, get_or-map, get_or-replicate, length-replicate}
 use Rattle.aps_ready.specs.declared.entrant.Entrant.{Entrant}
 use Rattle.aps_ready.specs.Ready.{entrant_in, bracket_at, AreDrawn}
 use Rattle.aps_ready.specs.Entrant.{entrant_at, vacant}
@@ -19,7 +19,7 @@ drawn_place row brackets x k e drawn within own others = record {
   drawn = λ g below. elim (cases_eq g k) [
     | inl same ↦
         let here : bracket_at (with_place brackets k x e) k ≡ set (bracket_at brackets k) x e =
-            get_or-set_same brackets k (set (bracket_at brackets k) x e) [] (omega (arith, drawn.each, same, below)) in
+        get_or-set_same brackets k (set (bracket_at brackets k) x e) [] (omega (arith, drawn.each, same, below)) in
         let k_below : k < 64 = omega (arith, same, below) in
         ap (bracket_at (with_place brackets k x e)) same ∙ here
         ∙ ap (λ (bracket : List Entrant). set bracket x e) (drawn.drawn k k_below)

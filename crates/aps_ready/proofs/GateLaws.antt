@@ -1,4 +1,4 @@
-use Rattle.std.proofs.Common.{◌≡◌, ◌≢◌, ◌⊎◌, inl, inr, ℕ, ◌+◌, ◌-◌, ◌%◌, ◌<◌, ◌≤◌, Bool, true, false, cond, ◌&&◌, ◌||◌, not, nat_eq, nat_lt, List, [], ◌∷◌, ◌++◌, length, get_or, set, sym, ◌∙◌, ap, subst, refl, arith, get_or-set_same, get_or-set_other}
+use Rattle.std.proofs.Common.{◌≡◌, ◌≢◌, ◌⊎◌, inl, inr, ℕ, ◌+◌, ◌-◌, ◌%◌, ◌<◌, ◌≤◌, Bool, true, false, cond, ◌&&◌, nat_eq, nat_lt, List, [], ◌∷◌, ◌++◌, length, get_or, set, sym, ◌∙◌, ap, refl, arith, get_or-set_same, get_or-set_other}
 use Rattle.std.proofs.lemmas.Bool.{cases_eq}
 use Rattle.std.proofs.Math.Seq.{get_or-append_seam}
 use Rattle.std.proofs.lemmas.List.{get_or_append_left, get_or-append_right, get_or_past}
@@ -53,20 +53,20 @@ gate_set test stands p part old plain both small plain_is both_is was g below = 
   | inl marked ↦
       let place : g % 32 ≡ p = omega (arith, marked.0, small) in
       let left : has both g ≡ test part true =
-          both_is g ∙ ap (λ (t : Bool). cond t (test part true) (has plain g)) (equal g (p + 32) marked.0) in
+      both_is g ∙ ap (λ (t : Bool). cond t (test part true) (has plain g)) (equal g (p + 32) marked.0) in
       left ∙ sym (now_here place true marked.1)
   | inr rest ↦ elim rest [
     | inl bare ↦
         let place : g % 32 ≡ p = omega (arith, bare.0, small) in
         let apart : g ≢ p + 32 = λ e. omega (arith, e, bare.0) in
         let left : has both g ≡ test part false =
-            plain_here apart ∙ ap (λ (t : Bool). cond t (test part false) (has old g)) (equal g p bare.0) in
+        plain_here apart ∙ ap (λ (t : Bool). cond t (test part false) (has old g)) (equal g p bare.0) in
         left ∙ sym (now_here place false bare.1)
     | inr other ↦
         let apart : g ≢ p = λ e. other (omega (arith, e, small)) in
         let far : g ≢ p + 32 = λ e. other (omega (arith, e, small)) in
         let left : has both g ≡ has old g =
-            plain_here far ∙ ap (λ (t : Bool). cond t (test part false) (has old g)) (not_equal g p apart) in
+        plain_here far ∙ ap (λ (t : Bool). cond t (test part false) (has old g)) (not_equal g p apart) in
         left ∙ was g below
         ∙ ap (λ (q : PartFacts). test q (nat_lt 31 g)) (sym (set_there (g % 32) (stands (g % 32)) p part other))
   ]
@@ -75,6 +75,7 @@ gate_set test stands p part old plain both small plain_is both_is was g below = 
     plain_here : g ≢ p + 32 → has both g ≡ cond (nat_eq g p) (test part false) (has old g)
     plain_here apart =
         both_is g ∙ ap (λ (t : Bool). cond t (test part true) (has plain g)) (not_equal g (p + 32) apart) ∙ plain_is g
+
     now_here : g % 32 ≡ p → (t : Bool) → nat_lt 31 g ≡ t
         → test (cond (nat_eq (g % 32) p) part (stands (g % 32))) (nat_lt 31 g) ≡ test part t
     now_here place t is =
@@ -87,9 +88,9 @@ pub budget_set : (stands : ℕ → PartFacts) (p : ℕ) (part : PartFacts) (old 
 budget_set stands p part old new small put was q below = elim (cases_eq q p) [
   | inl same ↦
       let left : has new q ≡ nat_lt 0 part.budget =
-          put q ∙ ap (λ (t : Bool). cond t (nat_lt 0 part.budget) (has old q)) (equal q p same) in
+      put q ∙ ap (λ (t : Bool). cond t (nat_lt 0 part.budget) (has old q)) (equal q p same) in
       left ∙ sym (ap (λ (t : Bool). t && nat_lt 0 (cond (nat_eq q p) part (stands q)).budget) (less q 32 (omega (arith, same, small)))
-        ∙ ap (λ (part : PartFacts). nat_lt 0 part.budget) (set_here q (stands q) p part same))
+      ∙ ap (λ (part : PartFacts). nat_lt 0 part.budget) (set_here q (stands q) p part same))
   | inr other ↦
       let left : has new q ≡ has old q = put q ∙ ap (λ (t : Bool). cond t (nat_lt 0 part.budget) (has old q)) (not_equal q p other) in
       left ∙ was q below ∙ ap (λ (r : PartFacts). nat_lt q 32 && nat_lt 0 r.budget) (sym (set_there q (stands q) p part other))
@@ -133,12 +134,13 @@ added_to_list parts p q part end = elim (cases_eq q p) [
   where
     past : (i : ℕ) → 1 ≤ i → get_or (part ∷ []) i no_part ≡ no_part
     past i some = get_or_past (part ∷ []) i no_part (omega (arith, some))
+
     elsewhere : q ≢ p → (q < length parts) ⊎ (length parts ≤ q) → part_at parts q ≡ part_at (parts ++ part ∷ []) q
     elsewhere other (inl inside) = sym (get_or_append_left parts (part ∷ []) no_part q inside)
     elsewhere other (inr outside) =
         get_or_past parts q no_part outside
         ∙ sym (get_or-append_right parts (part ∷ []) (length parts) q no_part refl outside
-          ∙ past (q - length parts) (omega (arith, other, outside, end)))
+        ∙ past (q - length parts) (omega (arith, other, outside, end)))
 
 -- the first n partitions alone
 abbrev pub told : List PartFacts → ℕ → ℕ → PartFacts

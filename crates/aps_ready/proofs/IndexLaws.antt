@@ -1,4 +1,4 @@
-use Rattle.std.proofs.Common.{◌≡◌, ◌≢◌, ◌⊎◌, inl, inr, ℕ, ◌+◌, ◌<◌, ◌≤◌, Bool, true, false, cond, not, ◌&&◌, ◌||◌, nat_eq, nat_lt, List, length, get_or, set, refl, sym, ◌∙◌, ap, subst, arith, length-set, get_or-set_same, get_or-set_other}
+use Rattle.std.proofs.Common.{◌≡◌, ◌≢◌, ◌⊎◌, inl, inr, ℕ, ◌+◌, ◌<◌, ◌≤◌, Bool, true, false, cond, not, ◌&&◌, ◌||◌, nat_eq, nat_lt, List, length, set, refl, sym, ◌∙◌, ap, arith, length-set, get_or-set_same, get_or-set_other}
 use Rattle.std.proofs.lemmas.Bool.{cases_eq}
 use Rattle.std.proofs.lemmas.Bool.Decides.{nat_tests}
 use Rattle.aps_levels.specs.declared.bits.Bits64.{Bits64}
@@ -39,7 +39,7 @@ occupied_set : (tops : List ℕ) (old new : Bits64) (group level : ℕ) → grou
 occupied_set tops old new group level inside was put g below = put g ∙ (elim (cases_eq g group) [
   | inl same ↦
       let here : level_of (set tops group level) g ≡ level =
-          ap (level_of (set tops group level)) same ∙ get_or-set_same tops group level 256 inside in
+      ap (level_of (set tops group level)) same ∙ get_or-set_same tops group level 256 inside in
       let is : nat_eq g group ≡ true = ap (λ (k : ℕ). nat_eq k group) same ∙ equal_self group in
       rw (is, here) refl
   | inr ne ↦ rw (not_equal g group ne, get_or-set_other tops group g level 256 ne) (was g below)
@@ -57,17 +57,17 @@ pub index_set : (tops : List ℕ) (at_level left entered : List Bits64) (levels 
 index_set tops at_level left entered levels fewer more old_some new_some group level before index g_small was count leave in_fewer enter in_more put =
     let here : level_of (set tops group level) group ≡ level = get_or-set_same tops group level 256 (omega (arith, index.groups, g_small)) in
     let there : (g : ℕ) → g ≢ group → level_of (set tops group level) g ≡ level_of tops g =
-        λ g ne. get_or-set_other tops group g level 256 ne in
+    λ g ne. get_or-set_other tops group g level 256 ne in
     let both : (l g : ℕ) → l < 256 → has (bits_at entered l) g
-            ≡ ((nat_eq l level && nat_eq g group) || (not (nat_eq l before && nat_eq g group) && has (bits_at at_level l) g)) =
-        λ l g below. enter l g below ∙ ap (λ (b : Bool). (nat_eq l level && nat_eq g group) || b) (leave l g below) in
+    ≡ ((nat_eq l level && nat_eq g group) || (not (nat_eq l before && nat_eq g group) && has (bits_at at_level l) g)) =
+    λ l g below. enter l g below ∙ ap (λ (b : Bool). (nat_eq l level && nat_eq g group) || b) (leave l g below) in
     record {
       groups = length-set tops group level ∙ index.groups;
       each = count;
       at = λ l g l_below g_below. both l g l_below ∙ (elim (cases_eq g group) [
         | inl same ↦
             let old : has (bits_at at_level l) g ≡ nat_eq before l =
-                index.at l g l_below g_below ∙ ap (λ (k : ℕ). nat_eq (level_of tops k) l) same ∙ ap (λ (k : ℕ). nat_eq k l) (sym was) in
+            index.at l g l_below g_below ∙ ap (λ (k : ℕ). nat_eq (level_of tops k) l) same ∙ ap (λ (k : ℕ). nat_eq k l) (sym was) in
             let is : nat_eq g group ≡ true = ap (λ (k : ℕ). nat_eq k group) same ∙ equal_self group in
             rw (old, is) (moved_here l before level)
             ∙ ap (λ (k : ℕ). nat_eq k l) (sym here)
@@ -78,9 +78,9 @@ index_set tops at_level left entered levels fewer more old_some new_some group l
       ]);
       in_use = λ l g l_below g_below h.
           in_more l l_below ∙ used (nat_eq l level) (nat_eq g group) (has (bits_at left l) g) (has_level fewer l)
-              (sym (enter l g l_below) ∙ h)
-              (λ still. in_fewer l g l_below g_below still
-                (index.in_use l g l_below g_below (kept (not (nat_eq l before && nat_eq g group)) (has (bits_at at_level l) g) (sym (leave l g l_below) ∙ still))));
+          (sym (enter l g l_below) ∙ h)
+          (λ still. in_fewer l g l_below g_below still
+          (index.in_use l g l_below g_below (kept (not (nat_eq l before && nat_eq g group)) (has (bits_at at_level l) g) (sym (leave l g l_below) ∙ still))));
       occupied = occupied_set tops old_some new_some group level (omega (arith, index.groups, g_small)) index.occupied put;
     }
 
@@ -91,7 +91,7 @@ pub left_in_use : (at_level : List Bits64) (levels fewer : Levels) (rest : Bits6
 left_in_use at_level levels fewer rest level l g count below empty without still kept = elim (cases_eq l level) [
   | inl same ↦
       let here : bits_at (set at_level level rest) l ≡ rest =
-          ap (bits_at (set at_level level rest)) same ∙ get_or-set_same at_level level rest no_bits (omega (arith, count, below)) in
+      ap (bits_at (set at_level level rest)) same ∙ get_or-set_same at_level level rest no_bits (omega (arith, count, below)) in
       absurd (clash (has rest g) (ap (λ (b : Bits64). has b g) (sym here) ∙ still) (empty g))
   | inr ne ↦ without l ∙ ap (λ (t : Bool). not t && has_level levels l) (not_equal l level ne) ∙ kept
 ]
@@ -163,6 +163,7 @@ more_done tops at_level levels left rest some set from level index done below he
     and_no : (a : Bool) → (a && false) ≡ false
     and_no true = refl
     and_no false = refl
+
     -- the level itself was left, so it isn't below `from`
     from_level : from ≤ level
     from_level = elim (below_or_not level from) [
@@ -172,6 +173,7 @@ more_done tops at_level levels left rest some set from level index done below he
       where
         clash : (u : Bool) → u ≡ true → u ≡ false → ⊥
         clash u p q = cc
+
     from_before : (k : ℕ) → level + 1 ≤ k → from ≤ k
     from_before k past = omega (arith, past, from_level)
 

@@ -1,8 +1,8 @@
-use Rattle.std.proofs.Common.{◌≡◌, ◌≢◌, ◌⊎◌, inl, inr, ℕ, suc, zero, ◌+◌, ◌*◌, ◌/◌, ◌-◌, ◌<◌, ◌≤◌, Bool, true, false, cond, ◌||◌, ◌&&◌, nat_eq, nat_lt, List, ◌∷◌, length, drop, get_or, set, replicate, refl, sym, ◌∙◌, ap, subst, arith, length-set, length-drop, get_or-set_same, get_or-set_other, All}
+use Rattle.std.proofs.Common.{◌≡◌, ◌≢◌, ◌⊎◌, inl, inr, ℕ, suc, zero, ◌+◌, ◌*◌, ◌/◌, ◌-◌, ◌<◌, ◌≤◌, Bool, true, false, cond, List, ◌∷◌, length, get_or, set, replicate, refl, sym, ◌∙◌, ap, subst, arith, length-set, length-drop, get_or-set_same, get_or-set_other, All}
 use Rattle.std.specs.List.{Contains}
 use Rattle.std.proofs.lemmas.Bool.{cases_eq}
 use Rattle.std.proofs.lemmas.Bool.Decides.{nat_tests}
-use Rattle.std.proofs.lemmas.List.{get_or-drop, drop-set-lt, drop-set-add, get_or_default, get_or-replicate}
+use Rattle.std.proofs.lemmas.List.{get_or-drop, drop-set-lt, get_or_default, get_or-replicate}
 use Rattle.std.proofs.lemmas.List.Elements.{Contains-get_or}
 use Rattle.aps_ready.specs.declared.entrant.Entrant.{Entrant}
 use Rattle.aps_ready.specs.Bracket.{places, IsPlayed}
@@ -68,16 +68,16 @@ pub replayed_but : (width at : ℕ) (nodes : List Entrant) → 0 < at → at < w
 replayed_but width at nodes positive within played =
     let first = first_of (entrant_at nodes (2 * at)) (entrant_at nodes (2 * at + 1)) in
     record {
-          few = played.few;
+      few = played.few;
       both = length-set nodes at first ∙ played.both;
       inner = λ i some below other.
           let left : 2 * i ≢ at = λ e. other (omega (arith, e)) in
           let right : 2 * i + 1 ≢ at = λ e. other (omega (arith, e)) in
           let here : entrant_at (replayed nodes at) i ≡ first_of (entrant_at nodes (2 * i)) (entrant_at nodes (2 * i + 1)) =
-              elim (cases_eq i at) [
-                | inl e ↦ subst (λ (j : ℕ). entrant_at (replayed nodes at) j ≡ first_of (entrant_at nodes (2 * j)) (entrant_at nodes (2 * j + 1))) (sym e) (get_or-set_same nodes at first vacant (omega (arith, played.both)))
-                | inr ne ↦ get_or-set_other nodes at i first vacant ne ∙ played.inner i some below ne
-              ] in
+          elim (cases_eq i at) [
+            | inl e ↦ subst (λ (j : ℕ). entrant_at (replayed nodes at) j ≡ first_of (entrant_at nodes (2 * j)) (entrant_at nodes (2 * j + 1))) (sym e) (get_or-set_same nodes at first vacant (omega (arith, played.both)))
+            | inr ne ↦ get_or-set_other nodes at i first vacant ne ∙ played.inner i some below ne
+          ] in
           rw (get_or-set_other nodes at (2 * i) first vacant left, get_or-set_other nodes at (2 * i + 1) first vacant right) here;
     }
 
@@ -86,7 +86,7 @@ pub unchanged_but : (width at : ℕ) (nodes : List Entrant) → 0 < at → at < 
 unchanged_but width at nodes positive within played same =
     let after = replayed_but width at nodes positive within played in
     record {
-          few = played.few;
+      few = played.few;
       both = played.both;
       inner = λ i some below other. elim (cases_eq i (at / 2)) [
         | inl e ↦ played.inner i some below (λ here. omega (arith, e, here))
@@ -114,7 +114,7 @@ none_before (suc fuel) width nodes played i small some within = elim (cases_eq i
       let half : above < width = omega (arith, within) in
       let here = played.inner above positive half in
       let up : goes_before (entrant_at nodes above) (entrant_at nodes 1) ≡ false =
-          none_before fuel width nodes played above (omega (arith, small, ne, some)) positive (omega (arith, within)) in
+      none_before fuel width nodes played above (omega (arith, small, ne, some)) positive (omega (arith, within)) in
       let from : goes_before (entrant_at nodes i) (entrant_at nodes above) ≡ false = elim (halves i) [
         | inl even ↦ rw here (subst (λ (j : ℕ). goes_before (entrant_at nodes j) (first_of (entrant_at nodes (2 * above)) (entrant_at nodes (2 * above + 1))) ≡ false) (sym even) (first_left (entrant_at nodes (2 * above)) (entrant_at nodes (2 * above + 1))))
         | inr odd ↦ rw here (subst (λ (j : ℕ). goes_before (entrant_at nodes j) (first_of (entrant_at nodes (2 * above)) (entrant_at nodes (2 * above + 1))) ≡ false) (sym odd) (first_right (entrant_at nodes (2 * above)) (entrant_at nodes (2 * above + 1))))
@@ -154,7 +154,7 @@ first_of_all : (width : ℕ) (nodes : List Entrant) → 0 < width → IsPlayed w
 first_of_all width nodes some played k d within =
     let inside : width + k < 2 * width = omega (arith, within, length-drop width nodes, played.both) in
     let read : get_or (places width nodes) k d ≡ entrant_at nodes (width + k) =
-        get_or_default (places width nodes) k d vacant within ∙ get_or-drop width nodes k vacant in
+    get_or_default (places width nodes) k d vacant within ∙ get_or-drop width nodes k vacant in
     rw read (none_before (width + k) width nodes played (width + k) (omega arith) (omega (arith, some)) inside)
 
 pub first_is : (width : ℕ) (nodes : List Entrant) (first : Entrant) → 0 < width → IsPlayed width nodes → first ≡ entrant_at nodes 1

@@ -1,12 +1,12 @@
-use Rattle.std.proofs.Common.{◌≡◌, ◌≢◌, ◌⊎◌, inl, inr, ℕ, zero, suc, ◌+◌, ◌-◌, ◌%◌, ◌<◌, ◌≤◌, Bool, true, false, cond, nat_eq, nat_lt, List, [], ◌∷◌, length, map, get_or, set, replicate, Option, Some, None, All, refl, sym, ◌∙◌, ap, subst, arith, length-set, get_or-set_same, get_or-set_other}
+use Rattle.std.proofs.Common.{◌≡◌, ◌≢◌, inl, inr, ℕ, zero, suc, ◌+◌, ◌-◌, ◌%◌, ◌<◌, ◌≤◌, Bool, true, false, cond, nat_lt, List, ◌∷◌, length, map, get_or, set, replicate, Option, Some, None, All, refl, sym, ◌∙◌, ap, subst, arith, length-set, get_or-set_same, get_or-set_other}
 use Rattle.std.specs.Option.{option_map}
 use Rattle.std.proofs.lemmas.Bool.{cases_eq}
 use Rattle.std.proofs.lemmas.Bool.Decides.{nat_tests}
-use Rattle.std.proofs.lemmas.List.{map-set, get_or-map, get_or-replicate, get_or_default, length-replicate, length-map}
+use Rattle.std.proofs.lemmas.List.{map-set, get_or-map, get_or-replicate, length-replicate, length-map}
 use Rattle.aps_model.specs.declared.state.Facts.{Facts}
 use Rattle.aps_model.specs.declared.merit.Contender.{Contender}
 use Rattle.aps_ready.specs.declared.entrant.Entrant.{Entrant}
-use Rattle.aps_ready.specs.Ready.{IsFree, facts_of, contender_of, seat_of, with_facts, IsQueued}
+use Rattle.aps_ready.specs.Ready.{IsFree, contender_of, seat_of, with_facts, IsQueued}
 use Rattle.aps_ready.specs.Entrant.{entrant_at, entrant_of, group_of, vacant}
 
 -- who may be set at a place

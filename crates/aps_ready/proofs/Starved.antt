@@ -1,4 +1,4 @@
-use Rattle.std.proofs.Common.{◌≡◌, ◌≢◌, ◌⊎◌, inl, inr, ℕ, zero, suc, ◌+◌, ◌%◌, ◌<◌, ◌≤◌, Bool, true, false, cond, ◌&&◌, ◌||◌, not, nat_eq, nat_lt, List, [], ◌∷◌, length, map, get_or, Option, Some, None, refl, sym, ◌∙◌, ap, subst, arith}
+use Rattle.std.proofs.Common.{◌≡◌, ◌≢◌, ◌⊎◌, inl, inr, ℕ, zero, suc, ◌+◌, ◌%◌, ◌<◌, ◌≤◌, Bool, true, false, cond, ◌&&◌, ◌||◌, not, nat_eq, nat_lt, List, [], ◌∷◌, length, map, Option, Some, None, refl, sym, ◌∙◌, ap, arith}
 use Rattle.std.specs.List.{Contains, find, range_with_len, list_any}
 use Rattle.std.specs.Option.{option_or}
 use Rattle.std.proofs.lemmas.Bool.{cases_eq}
@@ -90,19 +90,26 @@ group_has parts row brackets tops gates groups p g are kept held below same here
   where
     parted : ((has gates.first g || has gates.second g) ≡ true) × (nat_lt (level_of tops g) 256 ≡ true)
     parted = both (has gates.first g || has gates.second g) (nat_lt (level_of tops g) 256) (sym (held.held g below) ∙ here)
+
     who : Occupant row g (level_of tops g)
     who = occupant row brackets tops g kept below (is_below (level_of tops g) 256 parted.1)
+
     e : Entrant
     e = entrant_at row who.place
+
     there : e.group < 64
     there = omega (arith, who.group, below)
+
     stands : (has gates.first g ≡ true) ⊎ (has gates.second g ≡ true) → is_candidate_at parts e ≡ true
     stands (inl one) = (first_stands parts gates e are there (ap (has gates.first) who.group ∙ one)).candidate
     stands (inr two) = (second_stands parts gates e are there (ap (has gates.second) who.group ∙ two)).candidate
+
     among : Contains (candidates parts (members (map seat_of row))) (contender_of e)
     among = open_among parts row who.place who.within (stands (one_of (has gates.first g) (has gates.second g) parted.0))
+
     partition : e.group % 32 ≡ p
     partition = ap (λ (m : ℕ). m % 32) who.group ∙ same
+
     any_among : (cs : List Contender) (c : Contender) → Contains cs c → is_of p c ≡ true → list_any (is_of p) cs ≡ true
     any_among cs c (k, within, is) h = list_any_at (is_of p) cs k c within (ap (is_of p) is ∙ h)
 
@@ -125,20 +132,27 @@ held_by parts row brackets tops gates groups x are kept held within here =
   where
     g : ℕ
     g = (entrant_at row x).group
+
     below : g < 64
     below = open_group parts (entrant_at row x) here
+
     pair : (a b : Bool) → a ≡ true → b ≡ true → (a && b) ≡ true
     pair a b h k = rw (h, k) refl
+
     left : (a b : Bool) → a ≡ true → (a || b) ≡ true
     left a b h = rw h refl
+
     right : (a b : Bool) → b ≡ true → (a || b) ≡ true
     right true b h = refl
     right false b h = h
+
     either : (has gates.first g ≡ true) ⊎ (has gates.second g ≡ true) → (has gates.first g || has gates.second g) ≡ true
     either (inl one) = left (has gates.first g) (has gates.second g) one
     either (inr two) = right (has gates.first g) (has gates.second g) two
+
     less : (a b : ℕ) → a < b → nat_lt a b ≡ true
     less a b h = grind (arith, nat_tests)
+
     some : nat_lt (level_of tops g) 256 ≡ true
     some = less (level_of tops g) 256
         (omega (arith, level_at_most row brackets tops x kept within below, kept.queued.levels x within below))
@@ -168,8 +182,10 @@ partition_has parts row brackets tops gates groups p are kept held below = by_te
   where
     same_place : (p : ℕ) → p < 32 → p % 32 ≡ p
     same_place p h = omega (arith, h)
+
     marked_place : (p : ℕ) → p < 32 → (p + 32) % 32 ≡ p
     marked_place p h = omega (arith, h)
+
     by_tests : (a b : Bool) → has groups p ≡ a → has groups (p + 32) ≡ b → (a || b) ≡ has_candidate parts row p
     by_tests true b h k =
         sym (group_has parts row brackets tops gates groups p p are kept held (omega (arith, below)) (same_place p below) h)
@@ -198,10 +214,11 @@ starved_is parts row brackets tops gates a b c d e f p are kept steps below =
     steps.starved p (omega (arith, below))
     ∙ ap (λ (t : Bool). t && not (has e p)) (are.budgeted p (omega (arith, below)) ∙ ap (λ (t : Bool). t && nat_lt 0 (part_at parts p).budget) (less p 32 below))
     ∙ ap (λ (t : Bool). nat_lt 0 (part_at parts p).budget && not t)
-      (steps.held p ∙ ap (λ (t : Bool). has c p || t) (steps.upper p) ∙ partition_has parts row brackets tops gates c p are kept are_held below)
+    (steps.held p ∙ ap (λ (t : Bool). has c p || t) (steps.upper p) ∙ partition_has parts row brackets tops gates c p are kept are_held below)
   where
     less : (a b : ℕ) → a < b → nat_lt a b ≡ true
     less a b h = grind (arith, nat_tests)
+
     are_held : AreHeld tops gates c
     are_held = record {
       held = λ g inside. steps.groups g ∙ ap (λ (t : Bool). t && has b g) (steps.opened g)
@@ -214,12 +231,13 @@ within_parts parts row p h = by_place (below_or_not p (length parts))
   where
     below_or_not : (a b : ℕ) → (a < b) ⊎ (b ≤ a)
     below_or_not a b = search arith
+
     by_place : (p < length parts) ⊎ (length parts ≤ p) → p < length parts
     by_place (inl low) = low
     by_place (inr high) =
         let none : (part_at parts p).budget ≡ 0 = ap (λ (part : PartFacts). part.budget) (get_or_past parts p no_part high) in
         absurd (clash (nat_lt 0 (part_at parts p).budget) (both (nat_lt 0 (part_at parts p).budget) (not (has_candidate parts row p)) h).0
-          (ap (λ (n : ℕ). nat_lt 0 n) none))
+        (ap (λ (n : ℕ). nat_lt 0 n) none))
 
 pub starved_found : (parts : List PartFacts) (row : List Entrant) (brackets : List (List Entrant)) (tops : List ℕ) (gates : Gates)
     (a b c d e f : Bits64) (p : ℕ) → AreGates parts gates → IsKept row brackets tops → AreSteps tops gates a b c d e f → p < 32

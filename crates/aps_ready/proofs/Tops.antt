@@ -1,4 +1,4 @@
-use Rattle.std.proofs.Common.{◌≡◌, ◌≢◌, ◌⊎◌, inl, inr, ℕ, zero, suc, ◌<◌, ◌≤◌, Bool, true, false, cond, nat_eq, nat_lt, List, [], ◌∷◌, length, map, get_or, refl, sym, ◌∙◌, ap, subst, arith}
+use Rattle.std.proofs.Common.{◌≡◌, ◌⊎◌, inl, inr, ℕ, zero, suc, ◌<◌, ◌≤◌, Bool, true, false, cond, nat_eq, List, [], ◌∷◌, length, map, get_or, refl, sym, ◌∙◌, ap, subst, arith}
 use Rattle.std.specs.List.{Contains}
 use Rattle.std.proofs.lemmas.Bool.Decides.{nat_tests}
 use Rattle.std.proofs.lemmas.List.{length-map, get_or-map, get_or_read}
@@ -58,8 +58,9 @@ top_is row n top below queued first = by_kind (who row n top first.one)
     before : (x : ℕ) → x < length row → (entrant_at row x).group ≡ n → goes_before (entrant_at row x) top ≡ false
     before x within same =
         let read : get_or (map (entrant_in n) row) x vacant ≡ entrant_at row x =
-            get_or-map (entrant_in n) row x vacant vacant within ∙ own_entrant n (entrant_at row x) same in
+        get_or-map (entrant_in n) row x vacant vacant within ∙ own_entrant n (entrant_at row x) same in
         ap (λ (e : Entrant). goes_before e top) (sym read) ∙ first.others x vacant (omega (arith, within, length-map row (entrant_in n)))
+
     by_kind : Own row n top ⊎ (top ≡ vacant) → IsTop row n top
     by_kind (inl own) =
         let group : top.group ≡ n = ap (λ (e : Entrant). e.group) (sym own.is) ∙ own.group in
@@ -128,6 +129,7 @@ occupant row brackets tops g kept below some =
   where
     has : HasTop (bracket_at brackets g) (level_of tops g)
     has = kept.topped.each g below
+
     by_kind : Own row g has.first ⊎ (has.first ≡ vacant) → Occupant row g (level_of tops g)
     by_kind (inl own) = record {
       place = own.place;

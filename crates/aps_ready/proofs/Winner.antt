@@ -1,11 +1,11 @@
-use Rattle.std.proofs.Common.{◌≡◌, ◌≢◌, ◌⊎◌, inl, inr, ℕ, suc, ◌%◌, ◌<◌, ◌≤◌, Bool, true, false, cond, ◌&&◌, ◌||◌, not, nat_eq, nat_lt, List, [], ◌∷◌, length, map, get_or, Option, Some, None, All, refl, sym, ◌∙◌, ap, subst, arith}
+use Rattle.std.proofs.Common.{◌≡◌, ◌≢◌, ◌⊎◌, inl, inr, ℕ, ◌%◌, ◌<◌, ◌≤◌, Bool, true, false, cond, ◌&&◌, ◌||◌, not, nat_eq, nat_lt, List, [], length, map, get_or, Option, Some, None, refl, sym, ◌∙◌, ap, subst, arith}
 use Rattle.std.specs.List.{Contains}
 use Rattle.std.proofs.lemmas.Bool.Decides.{nat_tests}
 use Rattle.aps_model.specs.declared.shape.Free.{Free}
 use Rattle.aps_model.specs.declared.shape.Free.TheVariants.{Priority, Ratio}
 use Rattle.aps_model.specs.declared.merit.PartFacts.{PartFacts}
 use Rattle.aps_model.specs.declared.merit.Contender.{Contender}
-use Rattle.aps_model.specs.Merit.{class_of, is_candidate, IsGreater}
+use Rattle.aps_model.specs.Merit.{is_candidate, IsGreater}
 use Rattle.aps_model.specs.Budget.{part_at}
 use Rattle.aps_model.specs.Pick.{merit_among, candidates, greatest, IsGreatestCandidate}
 use Rattle.aps_model.proofs.GreatestLaws.{greatest-is, greatest-only, no_greatest, unbeaten-less}
@@ -18,7 +18,7 @@ use Rattle.aps_ready.specs.Ready.{members, facts_of, contender_of, seat_of, AreD
 use Rattle.aps_ready.specs.Topped.{AreTopped}
 use Rattle.aps_ready.specs.Gates.{is_first, is_open, AreGates}
 use Rattle.aps_ready.specs.Index.{level_of, AreLeast, AreEmpty}
-use Rattle.aps_ready.specs.Likely.{AreOccupied, AreLikely, AreLikelySecond}
+use Rattle.aps_ready.specs.Likely.{AreOccupied, AreLikely}
 use Rattle.aps_ready.specs.Choice.{is_ahead}
 use Rattle.aps_ready.specs.Best.{Sits, IsBest}
 use Rattle.aps_ready.proofs.Queued.{seat_at, seat_in}
@@ -69,7 +69,7 @@ pub second_stands : (parts : List PartFacts) (gates : Gates) (e : Entrant) → A
     → Stands parts e 0
 second_stands parts gates e are below h =
     let parted = both (is_open (part_of parts e) (nat_lt 31 e.group)) (not (is_first (part_of parts e) (nat_lt 31 e.group)))
-        (sym (are.second e.group below) ∙ h) in
+    (sym (are.second e.group below) ∙ h) in
     record {
       candidate = candidate_is parts e below ∙ parted.0;
       class = ap (λ (t : Bool). cond t 1 0) (not_true (is_first (part_of parts e) (nat_lt 31 e.group)) parted.1);
@@ -82,17 +82,21 @@ in_one parts gates e are here = by_test (is_first part (nat_lt 31 e.group)) refl
   where
     part : PartFacts
     part = part_of parts e
+
     below : e.group < 64
     below = open_group parts e here
+
     opened : is_open part (nat_lt 31 e.group) ≡ true
     opened = sym (candidate_is parts e below) ∙ here
+
     pair : (a b : Bool) → a ≡ true → b ≡ true → (a && b) ≡ true
     pair a b h k = rw (h, k) refl
+
     by_test : (t : Bool) → is_first part (nat_lt 31 e.group) ≡ t → (has gates.first e.group ≡ true) ⊎ (has gates.second e.group ≡ true)
     by_test true h = inl (are.first e.group below ∙ pair (is_open part (nat_lt 31 e.group)) (is_first part (nat_lt 31 e.group)) opened h)
     by_test false h =
         inr (are.second e.group below
-          ∙ pair (is_open part (nat_lt 31 e.group)) (not (is_first part (nat_lt 31 e.group))) opened (ap not h))
+        ∙ pair (is_open part (nat_lt 31 e.group)) (not (is_first part (nat_lt 31 e.group))) opened (ap not h))
 
 -- ---- nobody is above the best
 
@@ -131,28 +135,34 @@ at_least parts row brackets tops set found best kept least is_best = record { th
     -- who has the level of the group, in any of the found groups
     at : (g : ℕ) → g < 64 → has found g ≡ true → Occupant row g (level_of tops g)
     at g below h = occupant row brackets tops g kept below (omega (arith, least.below, (in_found tops set found least g below h).0))
+
     -- and so isn't ahead of the best
     behind : (g : ℕ) → (below : g < 64) → (h : has found g ≡ true)
         → (best.group < 64) × (is_ahead parts (entrant_at row (at g below h).place) best ≡ false)
     behind g below h =
         let who = at g below h in
         is_best.others who.place who.within (omega (arith, who.group, below)) (ap (has found) who.group ∙ h)
+
     there : best.group < 64
     there = (behind least.group least.inside least.some).0
+
     own : (level_of tops best.group ≡ least.level) × (has set best.group ≡ true)
     own = in_found tops set found least best.group there (is_best.inside there)
+
     sits : Sits row best
     sits = is_best.sits there
+
     low : least.level ≤ best.level
     low = subst (λ (l : ℕ). l ≤ best.level) own.0
         (subst (λ (e : Entrant). level_of tops e.group ≤ e.level) sits.is
-          (level_at_most row brackets tops sits.place kept sits.within (subst (λ (e : Entrant). e.group < 64) (sym sits.is) there)))
+        (level_at_most row brackets tops sits.place kept sits.within (subst (λ (e : Entrant). e.group < 64) (sym sits.is) there)))
+
     high : best.level ≤ least.level
     high =
         let who = at best.group there (is_best.inside there) in
         let e = entrant_at row who.place in
         let before : goes_before e best ≡ false =
-            sym (ahead_in_group parts e best who.group) ∙ (behind best.group there (is_best.inside there)).1 in
+        sym (ahead_in_group parts e best who.group) ∙ (behind best.group there (is_best.inside there)).1 in
         omega (arith, not_before best e before, who.level, own.0)
 
 -- of the set nobody is above it
@@ -171,22 +181,29 @@ not_above free parts row brackets tops set found best k x kept least is_best bes
   where
     e : Entrant
     e = entrant_at row x
+
     best_at : IsAtLeast tops set found best least.level
     best_at = at_least parts row brackets tops set found best kept least is_best
+
     from_least : least.level ≤ level_of tops e.group
     from_least = least.least e.group below among
+
     to_level : level_of tops e.group ≤ e.level
     to_level = level_at_most row brackets tops x kept within below
+
     same_level : e.level ≤ best.level → e.level ≡ best.level
     same_level high = omega (arith, high, from_least, to_level, best_at.level)
+
     in_these : e.level ≤ best.level → has found e.group ≡ true
     in_these high = least.these e.group below ∙ pair (nat_eq (level_of tops e.group) least.level) (has set e.group)
         (equal (level_of tops e.group) least.level (omega (arith, high, from_least, to_level, best_at.level))) among
       where
         pair : (a b : Bool) → a ≡ true → b ≡ true → (a && b) ≡ true
         pair a b h k = rw (h, k) refl
+
         equal : (a b : ℕ) → a ≡ b → nat_eq a b ≡ true
         equal a b h = grind (arith, nat_tests)
+
     behind : e.level ≤ best.level → (best.group < 64) × (is_ahead parts e best ≡ false)
     behind high = is_best.others x within below (in_these high)
 
@@ -197,8 +214,12 @@ small row x queued within below = queued.levels x within below
 no_member : (row : List Entrant) (brackets : List (List Entrant)) (tops : List ℕ) (set : Bits64) (x : ℕ) → IsKept row brackets tops → AreEmpty tops set
     → x < length row → (entrant_at row x).group < 64 → has set (entrant_at row x).group ≡ true → ⊥
 no_member row brackets tops set x kept empty within below among =
-    omega (arith, empty (entrant_at row x).group below among, level_at_most row brackets tops x kept within below,
-      kept.queued.levels x within below)
+    omega (
+      arith,
+      empty (entrant_at row x).group below among,
+      level_at_most row brackets tops x kept within below,
+      kept.queued.levels x within below,
+    )
 
 -- ---- somebody of class 1
 
@@ -213,8 +234,10 @@ first_wins free parts row brackets tops gates found best are kept least is_best 
   where
     best_at : IsAtLeast tops gates.first found best least.level
     best_at = at_least parts row brackets tops gates.first found best kept least is_best
+
     stands : Stands parts best 1
     stands = first_stands parts gates best are best_at.there best_at.among
+
     beaten : (x : ℕ) → x < length row → is_candidate_at parts (entrant_at row x) ≡ true
         → (has gates.first (entrant_at row x).group ≡ true) ⊎ (has gates.second (entrant_at row x).group ≡ true)
         → is_above free parts (entrant_at row x) best ≡ false
@@ -250,14 +273,17 @@ second_wins parts row brackets tops gates found best are kept empty least is_bes
   others = λ x within here.
       let below = open_group parts (entrant_at row x) here in
       let two = only_second parts row brackets tops gates x are kept empty within here in
-      let class = (second_stands parts gates (entrant_at row x) are below two).class in
-      (best_at.there, not_above Priority parts row brackets tops gates.second found best 0 x kept least is_best stands.class class
-        (λ low. above_lower_second parts (entrant_at row x) best class stands.class low (small row x kept.queued within below))
-        within below two);
+      let class = (second_stands parts gates (entrant_at row x) are below two).class in (
+        best_at.there,
+        not_above Priority parts row brackets tops gates.second found best 0 x kept least is_best stands.class class
+            (λ low. above_lower_second parts (entrant_at row x) best class stands.class low (small row x kept.queued within below))
+            within below two,
+      );
 }
   where
     best_at : IsAtLeast tops gates.second found best least.level
     best_at = at_least parts row brackets tops gates.second found best kept least is_best
+
     stands : Stands parts best 0
     stands = second_stands parts gates best are best_at.there best_at.among
 
@@ -272,24 +298,28 @@ ratio_wins parts row brackets tops gates found best are kept empty occupied is_b
       let two = only_second parts row brackets tops gates x are kept empty within here in
       let class = (second_stands parts gates (entrant_at row x) are below two).class in
       let level = small row x kept.queued within below in
-      let behind = is_best.others x within below (is_found x within below level two) in
-      (behind.0, above_by_ratio parts (entrant_at row x) best class (stands behind.0).class level
-        (sits_level row best kept.queued behind.0 (is_best.sits behind.0)) behind.1);
+      let behind = is_best.others x within below (is_found x within below level two) in (
+        behind.0,
+        above_by_ratio parts (entrant_at row x) best class (stands behind.0).class level
+            (sits_level row best kept.queued behind.0 (is_best.sits behind.0)) behind.1,
+      );
 }
   where
     stands : best.group < 64 → Stands parts best 0
     stands g = second_stands parts gates best are g
         (both (has gates.second best.group) (nat_lt (level_of tops best.group) 256) (sym (occupied best.group g) ∙ is_best.inside g)).0
+
     is_found : (x : ℕ) → x < length row → (entrant_at row x).group < 64 → (entrant_at row x).level ≤ 255
         → has gates.second (entrant_at row x).group ≡ true → has found (entrant_at row x).group ≡ true
     is_found x within below level two =
         let most = level_at_most row brackets tops x kept within below in
         occupied (entrant_at row x).group below
         ∙ pair (has gates.second (entrant_at row x).group) (nat_lt (level_of tops (entrant_at row x).group) 256) two
-          (less (level_of tops (entrant_at row x).group) 256 (omega (arith, most, level)))
+        (less (level_of tops (entrant_at row x).group) 256 (omega (arith, most, level)))
       where
         pair : (a b : Bool) → a ≡ true → b ≡ true → (a && b) ≡ true
         pair a b h k = rw (h, k) refl
+
         less : (a b : ℕ) → a < b → nat_lt a b ≡ true
         less a b h = grind (arith, nat_tests)
 
@@ -302,7 +332,7 @@ nobody_wins parts row brackets tops gates found best are kept empty empty_too no
   sits = is_best.sits;
   others = λ x within here.
       absurd (no_member row brackets tops gates.second x kept empty_too within (open_group parts (entrant_at row x) here)
-        (only_second parts row brackets tops gates x are kept empty within here));
+      (only_second parts row brackets tops gates x are kept empty within here));
 }
   where
     clash : (t : Bool) → t ≡ true → t ≡ false → ⊥
@@ -333,26 +363,31 @@ best_is_greatest free parts row best queued is_winner g = by_result (greatest fr
   where
     sits : Sits row best
     sits = is_winner.sits g
+
     here : is_candidate_at parts (entrant_at row sits.place) ≡ true
     here = ap (is_candidate_at parts) sits.is ∙ is_winner.open_here g
+
     among : Contains (candidates parts (members (map seat_of row))) (contender_of best)
     among = subst (λ (e : Entrant). Contains (candidates parts (members (map seat_of row))) (contender_of e)) sits.is (open_among parts row sits.place sits.within here)
+
     is_greatest : IsGreatestCandidate free parts (members (map seat_of row)) (contender_of best)
     is_greatest = record {
       candidate = among;
       others = all_candidates (λ (c : Contender). c.stamp ≢ best.stamp → IsGreater free (merit_among parts (contender_of best)) (merit_among parts c)) parts row
           (λ x within here ne. unbeaten-less free parts (contender_of best) (contender_of (entrant_at row x)) ne (is_winner.others x within here).1);
     }
+
     nothing : (cs : List Contender) (c : Contender) → cs ≡ [] → Contains cs c → ⊥
     nothing cs c none (k, within, is) = omega (arith, within, ap length none)
+
     by_result : (r : Option Contender) → greatest free parts (members (map seat_of row)) ≡ r → greatest free parts (members (map seat_of row)) ≡ Some (contender_of best)
     by_result None h = absurd (nothing _ _ (no_greatest free parts (members (map seat_of row)) h) among)
     by_result (Some c) h =
         let at = open_from parts row c (greatest-is free parts (members (map seat_of row)) c h).candidate in
         let stamp : best.stamp ≡ (entrant_at row at.place).stamp = greatest-only free parts (members (map seat_of row)) c (contender_of best) h is_greatest ∙ ap (λ (d : Contender). d.stamp) at.is in
         let same : entrant_at row sits.place ≡ entrant_at row at.place =
-            same_member row sits.place at.place queued sits.within at.within (open_group parts (entrant_at row sits.place) here) (open_group parts (entrant_at row at.place) at.open_here)
-            (ap (λ (e : Entrant). e.stamp) sits.is ∙ stamp) in
+        same_member row sits.place at.place queued sits.within at.within (open_group parts (entrant_at row sits.place) here) (open_group parts (entrant_at row at.place) at.open_here)
+        (ap (λ (e : Entrant). e.stamp) sits.is ∙ stamp) in
         h ∙ ap (λ (d : Contender). Some d) (at.is ∙ ap contender_of (sym same ∙ sits.is))
 
 pub none_is_greatest : (free : Free) (parts : List PartFacts) (row : List Entrant) (best : Entrant) → IsWinner free parts row best → (best.group < 64 → ⊥)

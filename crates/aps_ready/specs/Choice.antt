@@ -1,4 +1,4 @@
-use Rattle.std.specs.Prelude.{ℕ, ◌%◌, Bool, true, false, ◌&&◌, nat_lt, if◌then◌else◌, List}
+use Rattle.std.specs.Prelude.{◌%◌, Bool, true, false, ◌&&◌, nat_lt, if◌then◌else◌, List}
 use Rattle.aps_model.specs.declared.merit.PartFacts.{PartFacts}
 use Rattle.aps_model.specs.Merit.{smaller}
 use Rattle.aps_model.specs.Budget.{part_at}

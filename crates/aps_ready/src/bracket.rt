@@ -57,7 +57,11 @@ impl Bracket {
     pub fn first(&self) -> Entrant
         ensures { IsFirst self.now result }
     {
-        if self.width == 0 { vacant() } else { self.nodes[1] }
+        if self.width == 0 {
+            vacant()
+        } else {
+            self.nodes[1]
+        }
     }
 }
 
@@ -82,9 +86,7 @@ fn enter(nodes: &mut [Entrant], width: usize, place: usize, entrant: Entrant)
 fn replay(nodes: &mut [Entrant], at: usize) -> usize
     requires at { 0 < at }
     requires below { 2 * at + 1 < length nodes.old }
-    ensures set {
-        nodes.new ≡ slice_set nodes.old at (first_of (entrant_at nodes.old (2 * at)) (entrant_at nodes.old (2 * at + 1)))
-    }
+    ensures set { nodes.new ≡ slice_set nodes.old at (first_of (entrant_at nodes.old (2 * at)) (entrant_at nodes.old (2 * at + 1))) }
     ensures next { (result ≡ at) ⊎ ((result ≡ 1) × (nodes.new ≡ nodes.old)) }
 {
     let first = first_of(nodes[2 * at], nodes[2 * at + 1]);

@@ -47,12 +47,8 @@ impl Gates {
     /// The gates after one partition changed, or after one more came, whose number is the next.
     #[inline(always)]
     pub fn set(&mut self, p: PartitionId, part: &PartFacts)
-        ensures changed {
-            (parts : List PartFacts) → AreGates parts self.old → p < length parts → AreGates (slice_set parts p part.now) self.new
-        }
-        ensures added {
-            (parts : List PartFacts) → AreGates parts self.old → length parts ≡ p → AreGates (parts ++ part.now ∷ []) self.new
-        }
+        ensures changed { (parts : List PartFacts) → AreGates parts self.old → p < length parts → AreGates (slice_set parts p part.now) self.new }
+        ensures added { (parts : List PartFacts) → AreGates parts self.old → length parts ≡ p → AreGates (parts ++ part.now ∷ []) self.new }
     {
         self.put(p.index(), part);
     }
@@ -61,14 +57,18 @@ impl Gates {
     #[inline(always)]
     fn put(&mut self, p: usize, part: &PartFacts)
         requires { p < 32 }
-        ensures {
-            (stands : ℕ → PartFacts) → AreGatesOf stands self.old
-                → AreGatesOf (λ q. if nat_eq q p then part.now else stands q) self.new
-        }
+        ensures { (stands : ℕ → PartFacts) → AreGatesOf stands self.old
+            → AreGatesOf (λ q. if nat_eq q p then part.now else stands q) self.new }
     {
         let marked = p + PARTITIONS;
-        self.first = self.first.put(p, is_open_first(part, false)).put(marked, is_open_first(part, true));
-        self.second = self.second.put(p, is_open_second(part, false)).put(marked, is_open_second(part, true));
+        self.first = self
+            .first
+            .put(p, is_open_first(part, false))
+            .put(marked, is_open_first(part, true));
+        self.second = self
+            .second
+            .put(p, is_open_second(part, false))
+            .put(marked, is_open_second(part, true));
         self.budgeted = self.budgeted.put(p, part.budget > 0);
     }
 }

@@ -105,21 +105,21 @@ fn leave(at_level: &mut Vec<Bits64>, levels: Levels, group: usize, level: usize)
     requires group { group < 64 }
     requires count { length at_level.old.items ≡ 256 }
     ensures count { length at_level.new.items ≡ 256 }
-    ensures at {
-        (l g : ℕ) → l < 256 → has (bits_at at_level.new.items l) g
-            ≡ (not (nat_eq l level && nat_eq g group) && has (bits_at at_level.old.items l) g)
-    }
-    ensures in_use {
-        (l g : ℕ) → l < 256 → g < 64 → has (bits_at at_level.new.items l) g ≡ true → has_level levels l ≡ true
-            → has_level result l ≡ true
-    }
+    ensures at { (l g : ℕ) → l < 256 → has (bits_at at_level.new.items l) g
+        ≡ (not (nat_eq l level && nat_eq g group) && has (bits_at at_level.old.items l) g) }
+    ensures in_use { (l g : ℕ) → l < 256 → g < 64 → has (bits_at at_level.new.items l) g ≡ true → has_level levels l ≡ true
+        → has_level result l ≡ true }
 {
     if level >= 256 {
         return levels;
     }
     let rest = at_level[level].without(group);
     at_level[level] = rest;
-    if rest.is_empty() { levels.without(level) } else { levels }
+    if rest.is_empty() {
+        levels.without(level)
+    } else {
+        levels
+    }
 }
 
 /// A group stands at a level from now on. The answer are the levels at which groups may stand afterwards.
@@ -128,10 +128,8 @@ fn enter(at_level: &mut Vec<Bits64>, levels: Levels, group: usize, level: usize)
     requires group { group < 64 }
     requires count { length at_level.old.items ≡ 256 }
     ensures count { length at_level.new.items ≡ 256 }
-    ensures at {
-        (l g : ℕ) → l < 256 → has (bits_at at_level.new.items l) g
-            ≡ ((nat_eq l level && nat_eq g group) || has (bits_at at_level.old.items l) g)
-    }
+    ensures at { (l g : ℕ) → l < 256 → has (bits_at at_level.new.items l) g
+        ≡ ((nat_eq l level && nat_eq g group) || has (bits_at at_level.old.items l) g) }
     ensures in_use { (l : ℕ) → l < 256 → has_level result l ≡ (nat_eq l level || has_level levels l) }
 {
     if level >= 256 {

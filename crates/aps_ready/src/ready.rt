@@ -80,7 +80,13 @@ impl Ready {
         ensures { self.new ≡ slice_set self.old x (Some (record { thread = x; facts = facts; stamp = stamp })) }
     {
         let entrant = entrant_of(x, facts, stamp);
-        seat(&mut self.row, &mut self.brackets, &mut self.index, x.index(), entrant);
+        seat(
+            &mut self.row,
+            &mut self.brackets,
+            &mut self.index,
+            x.index(),
+            entrant,
+        );
     }
 
     /// Takes a thread out.
@@ -89,7 +95,13 @@ impl Ready {
         requires present { slice_index_or self.old x None ≢ None }
         ensures { self.new ≡ slice_set self.old x None }
     {
-        seat(&mut self.row, &mut self.brackets, &mut self.index, x.index(), vacant());
+        seat(
+            &mut self.row,
+            &mut self.brackets,
+            &mut self.index,
+            x.index(),
+            vacant(),
+        );
     }
 
     /// Gives a thread that is in other values: the same as `take` and then `put` with the stamp that it has.
@@ -100,7 +112,13 @@ impl Ready {
     {
         let stamp = self.row[x.index()].stamp;
         let entrant = entrant_of(x, facts, stamp);
-        seat(&mut self.row, &mut self.brackets, &mut self.index, x.index(), entrant);
+        seat(
+            &mut self.row,
+            &mut self.brackets,
+            &mut self.index,
+            x.index(),
+            entrant,
+        );
     }
 }
 
@@ -144,9 +162,7 @@ impl Ready {
     /// The lowest partition with a budget and no candidate, as `missing`, by kept gates. It looks at no thread and at no
     /// partition.
     pub fn missing_by(&self, gates: Gates) -> Option<PartitionId>
-        ensures {
-            (parts : List PartFacts) → AreGates parts gates → length parts ≤ 32 → result ≡ missing parts (members self.now)
-        }
+        ensures { (parts : List PartFacts) → AreGates parts gates → length parts ≤ 32 → result ≡ missing parts (members self.now) }
     {
         let groups = gates.first.join(gates.second).meet(self.index.occupied());
         let starved = gates.budgeted.minus(groups.join(groups.upper_half()));

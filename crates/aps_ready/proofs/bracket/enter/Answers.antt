@@ -1,4 +1,4 @@
-use Rattle.std.proofs.Common.{◌≡◌, ◌∙◌, ◌/◌, ◌<◌, ap, arith}
+use Rattle.std.proofs.Common.{◌∙◌, ◌/◌, ◌<◌, ap, arith}
 use Rattle.std.proofs.lemmas.List.{drop-set-add}
 use Rattle.aps_ready.specs.Bracket.{places}
 use Rattle.aps_ready.proofs.Played.{placed_but, goes_on, next_within, places_stay}

@@ -1,4 +1,4 @@
-use Rattle.std.proofs.Common.{◌≡◌, ℕ, ◌*◌, ◌/◌, ◌<◌, slice_set}
+use Rattle.std.proofs.Common.{◌≡◌, ◌*◌, ◌/◌, ◌<◌, slice_set}
 use Rattle.aps_ready.specs.Bracket.{places}
 use Rattle.aps_ready.proofs.Played.{IsPlayedBut}
 use Rattle.aps_ready.proofs.bracket.enter.Given as goal

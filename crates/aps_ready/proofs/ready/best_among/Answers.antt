@@ -1,6 +1,5 @@
-use Rattle.std.proofs.Common.{◌≡◌, ◌⊎◌, inl, inr, ℕ, suc, ◌+◌, ◌<◌, ◌≤◌, Bool, true, false, ◌&&◌, not, nat_eq, List, sym, ◌∙◌, ap, subst, arith}
+use Rattle.std.proofs.Common.{ℕ, ◌≤◌, ◌&&◌, not, sym, subst, arith}
 use Rattle.aps_levels.specs.Bits.{has}
-use Rattle.aps_ready.specs.declared.entrant.Entrant.{Entrant}
 use Rattle.aps_ready.specs.Best.{IsBest}
 use Rattle.aps_ready.proofs.Tops.{top_by}
 use Rattle.aps_ready.proofs.Among.{best_of_none, best_of_same, best_more, one_more, none_yet, all_done, left_less, least_passed}
@@ -27,10 +26,10 @@ loop-preserved c =
       best = λ row drawn queued.
           subst (IsBest c.args.parts.now row (λ (g : ℕ). has c.args.groups g && not (after g))) (sym c.ahead_of-best.ensures)
           (best_more c.args.parts.now row (λ (g : ℕ). has c.args.groups g && not (left g)) (λ (g : ℕ). has c.args.groups g && not (after g))
-            group c.loop.best c.first.result least.below queued
-            (one_more (has c.args.groups) left after group (c.loop.invariant.within group least.here) least.here c.without-left.ensures)
-            (top_by row c.args.brackets.now c.index-brackets-group.result group c.first.result drawn queued least.below c.index-brackets-group.is c.first.ensures)
-            (c.loop.invariant.best row drawn queued));
+          group c.loop.best c.first.result least.below queued
+          (one_more (has c.args.groups) left after group (c.loop.invariant.within group least.here) least.here c.without-left.ensures)
+          (top_by row c.args.brackets.now c.index-brackets-group.result group c.first.result drawn queued least.below c.index-brackets-group.is c.first.ensures)
+          (c.loop.invariant.best row drawn queued));
     }
 
 pub returns-in_default : goal.returns-in_default

@@ -1,6 +1,5 @@
-use Rattle.std.proofs.Common.{◌≡◌, ◌∙◌, sym, ap, subst, set, List, [], arith}
+use Rattle.std.proofs.Common.{◌∙◌, ap, set, List, [], arith}
 use Rattle.aps_ready.specs.declared.entrant.Entrant.{Entrant}
-use Rattle.aps_ready.specs.Ready.{AreDrawn, bracket_at}
 use Rattle.std.proofs.lemmas.List.{get_or_read}
 use Rattle.aps_ready.proofs.Drawn.{drawn_place, drawn_none}
 use Rattle.aps_ready.proofs.seat.place.Goals as goal
@@ -9,7 +8,7 @@ pub returns-then-group-lt-GROUPS-clause-drawn : goal.returns-then-group-lt-GROUP
 returns-then-group-lt-GROUPS-clause-drawn c =
     let brackets = c.args.brackets.now.items in
     let read = get_or_read brackets c.args.group c.index_mut-then-group-lt-GROUPS.result.now
-        (omega (arith, c.requires.drawn.each, c.if-group-lt-GROUPS.true)) c.index_mut-then-group-lt-GROUPS.ensures.value [] in
+    (omega (arith, c.requires.drawn.each, c.if-group-lt-GROUPS.true)) c.index_mut-then-group-lt-GROUPS.ensures.value [] in
     let is = c.set.ensures ∙ ap (λ (bracket : List Entrant). set bracket c.args.x c.args.entrant) read in
     rw is (drawn_place c.args.row.now.items brackets c.args.x c.args.group c.args.entrant c.requires.drawn c.requires.inside c.requires.own c.requires.others)
 

@@ -1,7 +1,6 @@
-use Rattle.std.proofs.Common.{◌≡◌, ◌∙◌, ap, set, List}
+use Rattle.std.proofs.Common.{◌∙◌, ap, set, List}
 use Rattle.std.proofs.lemmas.List.{set-set}
 use Rattle.aps_ready.specs.declared.entrant.Entrant.{Entrant}
-use Rattle.aps_ready.specs.Entrant.{vacant}
 use Rattle.aps_ready.proofs.seat.seat.Goals as goal
 
 pub returns-clause-row : goal.returns-clause-row

@@ -1,4 +1,4 @@
-use Rattle.std.proofs.Common.{◌≡◌, ◌<◌, List, subst, arith}
+use Rattle.std.proofs.Common.{◌<◌, List, subst, arith}
 use Rattle.std.proofs.lemmas.List.{get_or_read}
 use Rattle.aps_ready.specs.declared.entrant.Entrant.{Entrant}
 use Rattle.aps_ready.specs.Entrant.{IsFirst, vacant}
@@ -13,4 +13,4 @@ returns-else-self-eq0 c =
     let some : 0 < width = omega (arith, c.if-self-eq0.false) in
     subst (λ (row : List Entrant). IsFirst row first) c.self.view_is
     (first_is width nodes first some c.self.invariant
-      (get_or_read nodes 1 first (omega (arith, c.self.invariant.both, some)) c.index.ensures vacant))
+    (get_or_read nodes 1 first (omega (arith, c.self.invariant.both, some)) c.index.ensures vacant))

@@ -1,4 +1,4 @@
-use Rattle.std.proofs.Common.{◌*◌, ◌-◌, ap, ◌∙◌, drop, replicate, arith}
+use Rattle.std.proofs.Common.{◌*◌, ap, ◌∙◌, drop, replicate, arith}
 use Rattle.std.proofs.lemmas.List.{drop-replicate}
 use Rattle.aps_ready.specs.Entrant.{vacant}
 use Rattle.aps_ready.proofs.bracket.Bracket.new.Goals as goal

@@ -1,4 +1,4 @@
-use Rattle.std.proofs.Common.{◌≡◌, ℕ, ◌+◌, Bool, true, false, cond, nat_eq, ap, ◌∙◌, arith}
+use Rattle.std.proofs.Common.{◌+◌, Bool, cond, nat_eq, ap, ◌∙◌}
 use Rattle.aps_model.specs.declared.merit.PartFacts.{PartFacts}
 use Rattle.aps_levels.specs.Bits.{has}
 use Rattle.aps_ready.specs.Gates.{is_open_first, is_open_second}

@@ -1,5 +1,4 @@
-use Rattle.std.proofs.Common.{◌≡◌, ℕ, [], ◌∷◌, ◌++◌, cond, nat_eq, set, ap, ◌∙◌}
-use Rattle.aps_model.specs.declared.merit.PartFacts.{PartFacts}
+use Rattle.std.proofs.Common.{ℕ, [], ◌∷◌, ◌++◌, cond, nat_eq, set, ap, ◌∙◌}
 use Rattle.aps_model.specs.Budget.{part_at}
 use Rattle.aps_ready.proofs.GateLaws.{gates_same, set_in_list, added_to_list}
 use Rattle.aps_ready.proofs.gates.Gates.set.Goals as goal

@@ -1,4 +1,4 @@
-use Rattle.std.proofs.Common.{rules, get_or, ◌≡◌, ℕ, ◌<◌, ◌≤◌, Bool, true, false, ◌&&◌, List, length, sym, ap, ◌∙◌, subst, arith}
+use Rattle.std.proofs.Common.{rules, get_or, ◌≡◌, ℕ, ◌<◌, ◌≤◌, true, ◌&&◌, List, length, sym, ap, ◌∙◌, subst, arith}
 use Rattle.std.proofs.lemmas.List.{get_or_read}
 use Rattle.aps_levels.specs.declared.bits.Bits64.{Bits64}
 use Rattle.aps_levels.specs.Bits.{has}
@@ -23,9 +23,9 @@ returns-then-not-is_empty-clause-some c =
     let level = c.in-Some.ensures.some in
     subst (λ (tops : List ℕ). AreLeast tops c.args.set c.meet-found.result) c.self.view_is
     (are_least c.self.inside.tops.items c.self.inside.at_level.items c.self.inside.levels c.loop-from.left c.self.inside.occupied c.args.set c.meet-found.result c.loop-from.from c.in-Some.level some.0
-      c.self.invariant c.loop-from.invariant level.below level.earlier
-      (met c.self.inside.at_level.items c.index.result.now c.meet-found.result c.args.set c.in-Some.level c.self.invariant.each level.below c.index.ensures c.meet-found.ensures)
-      some.1 some.2)
+    c.self.invariant c.loop-from.invariant level.below level.earlier
+    (met c.self.inside.at_level.items c.index.result.now c.meet-found.result c.args.set c.in-Some.level c.self.invariant.each level.below c.index.ensures c.meet-found.ensures)
+    some.1 some.2)
 
 pub loop-from-preserved : goal.loop-from-preserved
 loop-from-preserved c =

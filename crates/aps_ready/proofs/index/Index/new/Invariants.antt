@@ -1,4 +1,4 @@
-use Rattle.std.proofs.Common.{◌≡◌, ℕ, ◌<◌, length, replicate, false}
+use Rattle.std.proofs.Common.{◌≡◌, ℕ, length, replicate, false}
 use Rattle.aps_levels.specs.Bits.{has}
 use Rattle.aps_ready.specs.Index.{bits_at}
 use Rattle.aps_ready.proofs.index.Index.new.Given as goal

@@ -1,4 +1,4 @@
-use Rattle.std.proofs.Common.{◌≡◌, ◌<◌, length, arith}
+use Rattle.std.proofs.Common.{◌<◌, length, arith}
 use Rattle.std.proofs.lemmas.List.{get_or_read}
 use Rattle.aps_ready.proofs.IndexLaws.{index_set}
 use Rattle.aps_ready.proofs.index.Index.set.Goals as goal

@@ -1,4 +1,4 @@
-use Rattle.std.proofs.Common.{◌≡◌, ◌≢◌, List, Option, Some, None, ℕ, length, get_or, sym, ◌∙◌, ap, subst, arith}
+use Rattle.std.proofs.Common.{◌≢◌, List, Option, Some, None, ℕ, length, get_or, sym, ◌∙◌, ap, subst, arith}
 use Rattle.std.specs.Option.{option_map}
 use Rattle.std.proofs.lemmas.List.{length-map}
 use Rattle.aps_model.specs.declared.merit.Contender.{Contender}
@@ -17,29 +17,29 @@ pub at-requires : goal.at-requires
 at-requires c =
     let row = c.self.inside.row.items in
     let wins = look_wins c.args.free c.args.parts.now row c.self.inside.brackets.items c.deref.result.now c.self.inside.index
-        c.args.gates c.likely.result c.best_among-best.result c.self.invariant.0 c.self.invariant.1 c.self.invariant.2 c.deref.ensures.value
-        c.requires.gates c.likely.ensures c.best_among-best.ensures in
+    c.args.gates c.likely.result c.best_among-best.result c.self.invariant.0 c.self.invariant.1 c.self.invariant.2 c.deref.ensures.value
+    c.requires.gates c.likely.ensures c.best_among-best.ensures in
     thread_small row c.best_among-best.result c.self.invariant.0.few c.self.invariant.1 (wins.sits c.if-best-lt64.true) c.if-best-lt64.true
 
 pub returns-then-best-lt64-clause-greatest : goal.returns-then-best-lt64-clause-greatest
 returns-then-best-lt64-clause-greatest c =
     let found = best_is_greatest c.args.free c.args.parts.now c.self.inside.row.items c.best_among-best.result c.self.invariant.1 (winner c)
-        c.if-best-lt64.true in
+    c.if-best-lt64.true in
     sym (ap (λ (row : List (Option Contender)). option_map (λ (d : Contender). d.thread) (greatest c.args.free c.args.parts.now (members row)))
-        (sym c.self.view_is)
-      ∙ ap (option_map (λ (d : Contender). d.thread)) found
-      ∙ ap (λ (x : ℕ). Some x) (sym c.at.ensures))
+    (sym c.self.view_is)
+    ∙ ap (option_map (λ (d : Contender). d.thread)) found
+    ∙ ap (λ (x : ℕ). Some x) (sym c.at.ensures))
 
 pub returns-else-best-lt64-clause-greatest : goal.returns-else-best-lt64-clause-greatest
 returns-else-best-lt64-clause-greatest c =
     let row = c.self.inside.row.items in
     let wins = look_wins c.args.free c.args.parts.now row c.self.inside.brackets.items c.deref.result.now c.self.inside.index
-        c.args.gates c.likely.result c.best_among-best.result c.self.invariant.0 c.self.invariant.1 c.self.invariant.2 c.deref.ensures.value
-        c.requires.gates c.likely.ensures c.best_among-best.ensures in
+    c.args.gates c.likely.result c.best_among-best.result c.self.invariant.0 c.self.invariant.1 c.self.invariant.2 c.deref.ensures.value
+    c.requires.gates c.likely.ensures c.best_among-best.ensures in
     let none = none_is_greatest c.args.free c.args.parts.now row c.best_among-best.result wins (λ g. omega (arith, g, c.if-best-lt64.false)) in
     sym (ap (λ (row : List (Option Contender)). option_map (λ (d : Contender). d.thread) (greatest c.args.free c.args.parts.now (members row)))
-        (sym c.self.view_is)
-      ∙ ap (option_map (λ (d : Contender). d.thread)) none)
+    (sym c.self.view_is)
+    ∙ ap (option_map (λ (d : Contender). d.thread)) none)
 
 -- whoever is found sits in the place of the thread
 place_of : (c : goal.After-at) → Place c.self.inside.row.items c.at.result

@@ -1,4 +1,4 @@
-use Rattle.std.proofs.Common.{◌≡◌, ◌≢◌, ℕ, ◌<◌, ◌∙◌, Some, None, ap, sym, arith, length, slice_index_or}
+use Rattle.std.proofs.Common.{◌≡◌, ℕ, ◌<◌, ◌∙◌, Some, None, ap, sym, arith, length, slice_index_or}
 use Rattle.std.proofs.lemmas.List.{get_or_read}
 use Rattle.std.specs.Option.{option_map}
 use Rattle.aps_ready.specs.declared.entrant.Entrant.{Entrant}
@@ -31,14 +31,15 @@ pub invariant_of-self : goal.invariant_of-self
 invariant_of-self c =
     let row = c.self.inside.row.items in
     let x = c.index-3.result in
-    let is = c.entrant_of-entrant.ensures.same in
-    (c.seat.ensures.drawn,
+    let is = c.entrant_of-entrant.ensures.same in (
+      c.seat.ensures.drawn,
       rw (c.seat.ensures.row) (queued_set row x c.entrant_of-entrant.result c.self.invariant.1 (within c) (λ g. record {
         level = rw is (omega arith);
         thread = ap (λ (e : Entrant). e.thread) is ∙ sym c.index-3.ensures.same;
         stamp = λ y below ne h same. ne (c.self.invariant.1.stamps y x below (within c) h (present c) (same ∙ ap (λ (e : Entrant). e.stamp) is ∙ stamp_is c));
       })),
-      c.seat.ensures.topped)
+      c.seat.ensures.topped,
+    )
 
 pub returns : goal.returns
 returns c =
@@ -49,6 +50,6 @@ returns c =
     seats_set row c.args.self.now c.seat.new.row.items c.args.x x e.result _
     c.self.view_is c.seat.ensures.row c.index-3.ensures.same
     (ap seat_of e.ensures.same ∙ seen c.args.x c.args.facts _ e.ensures.partition e.ensures.priority
-      ∙ ap (λ (s : ℕ). Some (record { thread = c.args.x; facts = c.args.facts; stamp = s })) (stamp_is c)
-      ∙ changed_seat (entrant_at row x) c.args.x c.args.facts (present c) thread
-      ∙ ap (option_map (with_facts c.args.facts)) (seen_before c))
+    ∙ ap (λ (s : ℕ). Some (record { thread = c.args.x; facts = c.args.facts; stamp = s })) (stamp_is c)
+    ∙ changed_seat (entrant_at row x) c.args.x c.args.facts (present c) thread
+    ∙ ap (option_map (with_facts c.args.facts)) (seen_before c))

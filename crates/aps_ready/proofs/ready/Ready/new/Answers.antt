@@ -1,5 +1,4 @@
-use Rattle.std.proofs.Common.{◌≡◌, ◌∙◌, ap, map, replicate, arith, List}
-use Rattle.aps_ready.specs.declared.entrant.Entrant.{Entrant}
+use Rattle.std.proofs.Common.{◌≡◌, ◌∙◌, ap, map, replicate, arith}
 use Rattle.aps_ready.specs.Ready.{seat_of}
 use Rattle.aps_ready.proofs.Drawn.{drawn_replicate}
 use Rattle.aps_ready.proofs.Topped.{topped_replicate}

@@ -1,8 +1,7 @@
-use Rattle.std.proofs.Common.{◌≡◌, ◌<◌, ◌∙◌, Some, ap, subst, sym, arith, length}
+use Rattle.std.proofs.Common.{◌<◌, ◌∙◌, ap, sym, arith, length}
 use Rattle.aps_ready.specs.declared.entrant.Entrant.{Entrant}
-use Rattle.aps_ready.specs.Ready.{seat_of, IsQueued}
+use Rattle.aps_ready.specs.Ready.{seat_of}
 use Rattle.aps_ready.proofs.Queued.{seats_set, seen, queued_set, free_stamp, place_in_row}
-use Rattle.aps_ready.specs.Entrant.{entrant_of}
 use Rattle.aps_ready.proofs.ready.Ready.put.Goals as goal
 
 within : (c : goal.After-seat) → c.index.result < length c.self.inside.row.items
@@ -11,14 +10,15 @@ within c = place_in_row c.self.inside.row.items c.args.self.now c.args.x c.index
 pub invariant_of-self : goal.invariant_of-self
 invariant_of-self c =
     let row = c.self.inside.row.items in
-    let is = c.entrant_of-entrant.ensures.same in
-    (c.seat.ensures.drawn,
+    let is = c.entrant_of-entrant.ensures.same in (
+      c.seat.ensures.drawn,
       rw (c.seat.ensures.row) (queued_set row c.index.result c.entrant_of-entrant.result c.self.invariant.1 (within c) (λ g. record {
         level = rw is (omega arith);
         thread = ap (λ (e : Entrant). e.thread) is ∙ sym c.index.ensures.same;
         stamp = λ y below ne h. rw is (free_stamp row c.args.self.now c.args.stamp y c.self.view_is c.requires.stamp below h);
       })),
-      c.seat.ensures.topped)
+      c.seat.ensures.topped,
+    )
 
 pub returns : goal.returns
 returns c =

@@ -1,5 +1,4 @@
-use Rattle.std.proofs.Common.{◌≡◌, None, ap}
-use Rattle.aps_ready.specs.declared.entrant.Entrant.{Entrant}
+use Rattle.std.proofs.Common.{None, ap}
 use Rattle.aps_ready.specs.Ready.{seat_of}
 use Rattle.aps_ready.proofs.Queued.{seats_set}
 use Rattle.aps_ready.proofs.ready.Ready.take.Goals as goal
