@@ -17,7 +17,7 @@ use Rattle.aps_window.specs.Window.{Window, advanced, billed, billed_on, opened,
 use Rattle.aps_window.specs.WindowView.{Keeps, window_of}
 use Rattle.aps_window.proofs.Moves.{advanced_is, map_moved_min}
 use Rattle.aps_window.proofs.Stands.{IsWhole, total_stands}
-use Rattle.aps_window.proofs.Totals.{account_small, account_total, account_within, billed_are_slots, is_account, length-moved, moved_are_slots}
+use Rattle.aps_window.proofs.Totals.{account_total, billed_are_slots, is_account, length-moved, moved_are_slots}
 
 pub whole_of : (inside : Inside) (window : Window) → Keeps inside → window_of inside ≡ window → IsWhole window
 whole_of inside window keeps view =
@@ -25,7 +25,8 @@ whole_of inside window keeps view =
     let whole : IsWhole (window_of inside) = record {
       count = length-map accounts slots_in ∙ keeps.count;
       full = All-map (λ (slots : List Slot). length slots ≡ 400) slots_in accounts
-        (All-weaker (IsAccount inside.span) (λ (a : Account). length (slots_in a) ≡ 400) (λ a h. h.full) accounts keeps.accounts);
+          (All-weaker (IsAccount inside.span) (λ (a : Account). length (slots_in a)
+          ≡ 400) (λ a h. h.full) accounts keeps.accounts);
     } in
     subst IsWhole view whole
 
@@ -45,7 +46,8 @@ slots_at inside q account keeps few e =
     get_or-map slots_in inside.accounts.items q account [] (omega (arith, keeps.count)) ∙ ap slots_in (sym e)
 
 -- what the account of a partition answers
-pub total_at : (inside : Inside) (window : Window) (p q : ℕ) (account : Account) → Keeps inside → window_of inside ≡ window → q ≡ p → q ≤ 31
+pub total_at : (inside : Inside) (window : Window) (p q : ℕ) (account : Account) → Keeps inside
+    → window_of inside ≡ window → q ≡ p → q ≤ 31
     → account ≡ get_or inside.accounts.items q account → account.total ≡ total_of window p
 total_at inside window p q account keeps view same few e =
     account_total inside.span account (account_at inside q account keeps few e)
@@ -53,50 +55,63 @@ total_at inside window p q account keeps view same few e =
     ∙ (λ i. total_of (view i) (same i))
 
 pub used_stands : (inside : Inside) (window : Window) (p q : ℕ) (account : Account) (bills : List Bill)
-    → Keeps inside → window_of inside ≡ window → q ≡ p → q ≤ 31 → account ≡ get_or inside.accounts.items q account → StandsFor window bills
+    → Keeps inside → window_of inside ≡ window → q ≡ p → q ≤ 31 → account ≡ get_or inside.accounts.items q account
+    → StandsFor window bills
     → account.total.billed ≡ bills_used bills p (window.tick + 1 - window.span) (window.tick + 1)
 used_stands inside window p q account bills keeps view same few e stands =
     ap (λ (s : Slot). s.billed) (total_at inside window p q account keeps view same few e)
-    ∙ (total_stands window bills p (whole_of inside window keeps view) (omega arith) (span_of inside window keeps view) stands).0
+    ∙ (total_stands window bills p (whole_of inside window keeps view) (omega arith)
+    (span_of inside window keeps view) stands).0
 
 pub critical_stands : (inside : Inside) (window : Window) (p q : ℕ) (account : Account) (bills : List Bill)
-    → Keeps inside → window_of inside ≡ window → q ≡ p → q ≤ 31 → account ≡ get_or inside.accounts.items q account → StandsFor window bills
+    → Keeps inside → window_of inside ≡ window → q ≡ p → q ≤ 31 → account ≡ get_or inside.accounts.items q account
+    → StandsFor window bills
     → account.total.critical ≡ bills_critical bills p (window.tick + 1 - window.span) (window.tick + 1)
 critical_stands inside window p q account bills keeps view same few e stands =
     ap (λ (s : Slot). s.critical) (total_at inside window p q account keeps view same few e)
-    ∙ (total_stands window bills p (whole_of inside window keeps view) (omega arith) (span_of inside window keeps view) stands).1
+    ∙ (total_stands window bills p (whole_of inside window keeps view) (omega arith)
+    (span_of inside window keeps view) stands).1
 
 -- a bill
-pub fits_at : (inside : Inside) (window : Window) (p q tick ns : ℕ) (account : Account) → Keeps inside → window_of inside ≡ window → q ≡ p → q ≤ 31
+pub fits_at : (inside : Inside) (window : Window) (p q tick ns : ℕ) (account : Account) → Keeps inside
+    → window_of inside ≡ window → q ≡ p → q ≤ 31
     → account ≡ get_or inside.accounts.items q account → billed_on window p tick + ns ≤ 160000000
     → (slot_at account.ring.items (inside.tick - tick)).billed + ns ≤ 160000000
 fits_at inside window p q tick ns account keeps view same few e fits =
     let there : billed_on window p tick ≡ (slot_at account.ring.items (inside.tick - tick)).billed =
     (λ i. billed_on (sym view i) (sym same i) tick)
-    ∙ ap (λ (slots : List Slot). (slot_at slots (inside.tick - tick)).billed) (slots_at inside q account keeps few e) in
+    ∙ ap (λ (slots : List Slot). (slot_at slots (inside.tick - tick)).billed)
+    (slots_at inside q account keeps few e) in
     omega (arith, there, fits)
 
-pub billed_keeps : (inside after : Inside) (q age ns : ℕ) (critical : Bool) (account next : Account) → Keeps inside → q ≤ 31
-    → account ≡ get_or inside.accounts.items q account → age < 400 → (slot_at account.ring.items age).billed + ns ≤ 160000000
+pub billed_keeps : (inside after : Inside) (q age ns : ℕ) (critical : Bool) (account next : Account) → Keeps inside
+    → q ≤ 31
+    → account ≡ get_or inside.accounts.items q account → age < 400
+    → (slot_at account.ring.items age).billed + ns ≤ 160000000
     → next ≡ account_of inside.span (slots_billed account.ring.items age ns critical)
-    → after.tick ≡ inside.tick → after.span ≡ inside.span → after.accounts.items ≡ set inside.accounts.items q next → Keeps after
+    → after.tick ≡ inside.tick → after.span ≡ inside.span → after.accounts.items ≡ set inside.accounts.items q next
+    → Keeps after
 billed_keeps inside after q age ns critical account next keeps few e kept fits is tick span accounts =
     let was = account_at inside q account keeps few e in
     let slots = slots_billed account.ring.items age ns critical in
     let full : length slots ≡ 400 = length-set account.ring.items age _ ∙ was.full in
     let stays : IsAccount inside.span next = subst (IsAccount inside.span) (sym is)
-    (is_account inside.span slots full (billed_are_slots account.ring.items age ns critical was.small (omega (arith, was.full)) fits)) in
+    (is_account inside.span slots full (billed_are_slots account.ring.items age ns critical was.small (omega (
+      arith,
+      was.full,
+    )) fits)) in
     record {
       count = ap (λ (l : List Account). length l) accounts ∙ length-set inside.accounts.items q next ∙ keeps.count;
       least = omega (arith, span, keeps.least);
       most = omega (arith, span, keeps.most);
       tick = omega (arith, tick, keeps.tick);
       accounts = subst (λ (n : ℕ). All (IsAccount n) after.accounts.items) (sym span)
-        (subst (All (IsAccount inside.span)) (sym accounts)
-        (All-set (IsAccount inside.span) inside.accounts.items q next stays keeps.accounts));
+          (subst (All (IsAccount inside.span)) (sym accounts)
+          (All-set (IsAccount inside.span) inside.accounts.items q next stays keeps.accounts));
     }
 
-pub billed_view : (inside after : Inside) (window : Window) (p q tick ns : ℕ) (critical : Bool) (account next : Account) → Keeps inside
+pub billed_view : (inside after : Inside) (window : Window) (p q tick ns : ℕ) (critical : Bool)
+    (account next : Account) → Keeps inside
     → window_of inside ≡ window → q ≡ p → q ≤ 31 → account ≡ get_or inside.accounts.items q account
     → next ≡ account_of inside.span (slots_billed account.ring.items (inside.tick - tick) ns critical)
     → after.tick ≡ inside.tick → after.span ≡ inside.span → after.accounts.items ≡ set inside.accounts.items q next
@@ -104,13 +119,16 @@ pub billed_view : (inside after : Inside) (window : Window) (p q tick ns : ℕ) 
 billed_view inside after window p q tick ns critical account next keeps view same few e is at span accounts =
     let items = inside.accounts.items in
     let mine : slots_in next ≡ slots_billed (slots_of (window_of inside) q) (inside.tick - tick) ns critical =
-    ap slots_in is ∙ ap (λ (slots : List Slot). slots_billed slots (inside.tick - tick) ns critical) (sym (slots_at inside q account keeps few e)) in
-    let slots : map slots_in after.accounts.items ≡ set (map slots_in items) q (slots_billed (slots_of (window_of inside) q) (inside.tick - tick) ns critical) =
+    ap slots_in is ∙ ap (λ (slots : List Slot). slots_billed slots (inside.tick - tick) ns critical) (sym
+    (slots_at inside q account keeps few e)) in
+    let slots : map slots_in after.accounts.items
+    ≡ set (map slots_in items) q (slots_billed (slots_of (window_of inside) q) (inside.tick - tick) ns critical) =
     ap (map slots_in) accounts ∙ map-set slots_in items q next ∙ ap (set (map slots_in items) q) mine in
     (λ i. record { tick = at i; span = span i; slots = slots i }) ∙ (λ i. billed (view i) (same i) tick ns critical)
 
 -- all accounts, one after another
-pub all_done : (f : Account → Account) (xs ys : List Account) (i : ℕ) → length xs ≤ i → ys ≡ map f (take i xs) ++ drop i xs → ys ≡ map f xs
+pub all_done : (f : Account → Account) (xs ys : List Account) (i : ℕ) → length xs ≤ i
+    → ys ≡ map f (take i xs) ++ drop i xs → ys ≡ map f xs
 all_done f xs ys i done e =
     e ∙ (λ j. map f (take_all i xs done j) ++ drop_all i xs done j) ∙ append-nil (map f xs)
 
@@ -123,22 +141,30 @@ same_keeps inside after keeps tick least most f accounts stays = record {
   most = most;
   tick = tick;
   accounts = subst (All (IsAccount after.span)) (sym accounts)
-    (All-map (IsAccount after.span) f inside.accounts.items
-    (All-weaker (IsAccount inside.span) (λ (a : Account). IsAccount after.span (f a)) stays inside.accounts.items keeps.accounts));
+      (All-map (IsAccount after.span) f inside.accounts.items
+      (All-weaker (IsAccount inside.span) (λ (a : Account). IsAccount after.span
+      (f a)) stays inside.accounts.items keeps.accounts));
 }
 
 pub moved_keeps : (inside after : Inside) (ticks moves : ℕ) → Keeps inside → inside.tick + ticks ≤ 100000000
     → after.tick ≡ inside.tick + ticks → after.span ≡ inside.span
     → after.accounts.items ≡ map (account_moved moves inside.span) inside.accounts.items → Keeps after
 moved_keeps inside after ticks moves keeps early tick span accounts =
-    same_keeps inside after keeps (omega (arith, tick, early)) (omega (arith, span, keeps.least)) (omega (arith, span, keeps.most))
+    same_keeps inside after keeps (omega (arith, tick, early)) (omega (arith, span, keeps.least)) (omega (
+      arith,
+      span,
+      keeps.most,
+    ))
     (account_moved moves inside.span) accounts
     (λ a is. subst (λ (n : ℕ). IsAccount n (account_moved moves inside.span a)) (sym span)
-    (is_account inside.span (slots_moved moves a.ring.items) (length-moved moves a.ring.items ∙ is.full) (moved_are_slots moves a.ring.items is.small)))
+    (is_account inside.span (slots_moved moves a.ring.items) (length-moved moves a.ring.items
+    ∙ is.full) (moved_are_slots moves a.ring.items is.small)))
 
-pub moved_view : (inside after : Inside) (window : Window) (ticks moves : ℕ) → Keeps inside → window_of inside ≡ window → moves ≡ min ticks 400
+pub moved_view : (inside after : Inside) (window : Window) (ticks moves : ℕ) → Keeps inside
+    → window_of inside ≡ window → moves ≡ min ticks 400
     → after.tick ≡ inside.tick + ticks → after.span ≡ inside.span
-    → after.accounts.items ≡ map (account_moved moves inside.span) inside.accounts.items → window_of after ≡ advanced ticks window
+    → after.accounts.items ≡ map (account_moved moves inside.span) inside.accounts.items
+    → window_of after ≡ advanced ticks window
 moved_view inside after window ticks moves keeps view least tick span accounts =
     let items = inside.accounts.items in
     let slots : map slots_in after.accounts.items ≡ map (slots_moved ticks) (map slots_in items) =
@@ -155,9 +181,14 @@ pub resized_keeps : (inside after : Inside) (span : ℕ) → Keeps inside → 8 
     → after.tick ≡ inside.tick → after.span ≡ span
     → after.accounts.items ≡ map (account_resized span) inside.accounts.items → Keeps after
 resized_keeps inside after span keeps least most tick same accounts =
-    same_keeps inside after keeps (omega (arith, tick, keeps.tick)) (omega (arith, same, least)) (omega (arith, same, most))
+    same_keeps inside after keeps (omega (arith, tick, keeps.tick)) (omega (arith, same, least)) (omega (
+      arith,
+      same,
+      most,
+    ))
     (account_resized span) accounts
-    (λ a is. subst (λ (n : ℕ). IsAccount n (account_resized span a)) (sym same) (is_account span a.ring.items is.full is.small))
+    (λ a is. subst (λ (n : ℕ). IsAccount n (account_resized span a)) (sym same)
+    (is_account span a.ring.items is.full is.small))
 
 pub resized_view : (inside after : Inside) (window : Window) (span : ℕ) → window_of inside ≡ window
     → after.tick ≡ inside.tick → after.span ≡ span
@@ -196,15 +227,17 @@ opened_keeps after n tick least most count accounts =
       most = most;
       tick = omega (arith, tick);
       accounts = subst (All (IsAccount after.span)) (sym accounts)
-        (All-replicate (IsAccount after.span) n first (first_account after.span most));
+          (All-replicate (IsAccount after.span) n first (first_account after.span most));
     }
 
-map_first : (n : ℕ) → map slots_in (replicate n (record { ring = buffer no_slots 400; total = no_slot })) ≡ replicate n no_slots
+map_first : (n : ℕ) → map slots_in (replicate n (record { ring = buffer no_slots 400; total = no_slot }))
+    ≡ replicate n no_slots
 map_first zero = refl
 map_first (suc n) = ap (λ (rest : List (List Slot)). no_slots ∷ rest) (map_first n)
 
 pub opened_view : (after : Inside) (span n : ℕ) → after.tick ≡ 0 → after.span ≡ span → n ≡ 32
-    → after.accounts.items ≡ replicate n (record { ring = buffer no_slots 400; total = no_slot }) → window_of after ≡ opened span
+    → after.accounts.items ≡ replicate n (record { ring = buffer no_slots 400; total = no_slot })
+    → window_of after ≡ opened span
 opened_view after span n tick same count accounts =
     let slots : map slots_in after.accounts.items ≡ replicate 32 no_slots =
     ap (map slots_in) accounts ∙ map_first n ∙ ap (λ (m : ℕ). replicate m no_slots) count in

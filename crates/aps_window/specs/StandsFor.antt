@@ -10,6 +10,6 @@ use Rattle.aps_window.specs.Window.{Window, slots_of}
 pub record StandsFor (window : Window) (bills : List Bill) : Type 0 where
   pub past : All (λ bill. bill.tick ≤ window.tick) bills
   pub used : (p age : ℕ) → p < 32 → age < 400
-    → (slot_at (slots_of window p) age).billed ≡ bills_used bills p (window.tick - age) (window.tick + 1 - age)
+      → (slot_at (slots_of window p) age).billed ≡ bills_used bills p (window.tick - age) (window.tick + 1 - age)
   pub critical : (p age : ℕ) → p < 32 → age < 400
-    → (slot_at (slots_of window p) age).critical ≡ bills_critical bills p (window.tick - age) (window.tick + 1 - age)
+      → (slot_at (slots_of window p) age).critical ≡ bills_critical bills p (window.tick - age) (window.tick + 1 - age)

@@ -61,7 +61,7 @@ impl Window {
         requires fits { billed_on self.old p tick + ns ≤ 160000000 }
         ensures same { self.new ≡ billed self.old p tick ns critical }
         ensures stands { (bills : List Bill) → StandsFor self.old bills
-          → StandsFor self.new (record { partition = p; tick = tick; ns = ns; critical = critical } ∷ bills) }
+            → StandsFor self.new (record { partition = p; tick = tick; ns = ns; critical = critical } ∷ bills) }
     {
         self.bill_at(p, tick, ns, critical);
     }
@@ -74,7 +74,7 @@ impl Window {
         requires fits { billed_on self.old p tick + ns ≤ 160000000 }
         ensures same { self.new ≡ billed self.old p tick ns critical }
         ensures stands { (bills : List Bill) → StandsFor self.old bills
-          → StandsFor self.new (record { partition = p; tick = tick; ns = ns; critical = critical } ∷ bills) }
+            → StandsFor self.new (record { partition = p; tick = tick; ns = ns; critical = critical } ∷ bills) }
     {
         let age = (self.tick - tick) as usize;
         let account = &mut self.accounts[p.index()];
@@ -124,7 +124,7 @@ impl Window {
     pub fn used(&self, p: PartitionId) -> u64
         ensures same { result ≡ (total_of self.now p).billed }
         ensures stands { (bills : List Bill) → StandsFor self.now bills
-          → result ≡ bills_used bills p (self.now.tick + 1 - self.now.span) (self.now.tick + 1) }
+            → result ≡ bills_used bills p (self.now.tick + 1 - self.now.span) (self.now.tick + 1) }
         ensures small { result ≤ 64000000000 }
     {
         self.accounts[p.index()].total.billed
@@ -134,7 +134,7 @@ impl Window {
     pub fn critical_used(&self, p: PartitionId) -> u64
         ensures same { result ≡ (total_of self.now p).critical }
         ensures stands { (bills : List Bill) → StandsFor self.now bills
-          → result ≡ bills_critical bills p (self.now.tick + 1 - self.now.span) (self.now.tick + 1) }
+            → result ≡ bills_critical bills p (self.now.tick + 1 - self.now.span) (self.now.tick + 1) }
         ensures within { result ≤ (total_of self.now p).billed }
     {
         self.accounts[p.index()].total.critical

@@ -1,5 +1,5 @@
-use Rattle.std.proofs.Common.{◌≡◌, length, subst, sym, ◌∙◌}
-use Rattle.aps_window.specs.Account.{IsAccount, account_of}
+use Rattle.std.proofs.Common.{subst, sym, ◌∙◌}
+use Rattle.aps_window.specs.Account.{IsAccount}
 use Rattle.aps_window.specs.Slots.{slots_moved}
 use Rattle.aps_window.proofs.Totals.{is_account, length-moved, moved_are_slots}
 use Rattle.aps_window.proofs.account.Account.advance.Goals as goal

@@ -1,4 +1,4 @@
-use Rattle.std.proofs.Common.{◌≡◌, ◌≤◌, ◌<◌, length, refl, sym, ap, ◌∙◌, arith}
+use Rattle.std.proofs.Common.{◌≡◌, ◌<◌, length, refl, sym, ap, ◌∙◌, arith}
 use Rattle.aps_window.specs.declared.account.Account.{Account}
 use Rattle.aps_window.specs.Slots.{slot_billed, slots_billed, slots_total}
 use Rattle.aps_window.proofs.Totals.{account_small, account_total, account_within, total_billed}
@@ -17,7 +17,8 @@ returns-then-age-span c =
     let inside : c.args.age < length slots = omega (arith, c.requires.account.full, c.requires.kept) in
     let total : c.bill.new.self ≡ slots_total c.args.span (slots_billed slots c.args.age c.args.ns c.args.critical) =
     c.bill.ensures
-    ∙ ap (λ total. slot_billed total c.args.ns c.args.critical) (account_total c.args.span c.args.self.now c.requires.account)
+    ∙ ap (λ total. slot_billed total c.args.ns c.args.critical)
+    (account_total c.args.span c.args.self.now c.requires.account)
     ∙ sym (total_billed c.args.span c.args.age slots c.args.ns c.args.critical c.if-age-span.true inside) in
     let same = ap (λ (a : Account). a.ring.capacity) c.requires.account.same in
     rw (total, c.bill_slot.ensures, same) refl

@@ -1,7 +1,5 @@
-use Rattle.std.proofs.Common.{◌≡◌, ◌+◌, ◌<◌, ◌≤◌, ℕ, length, map, refl, sym, ap, ◌∙◌, subst, arith, set}
+use Rattle.std.proofs.Common.{◌≡◌, ◌+◌, ℕ, sym, ap, ◌∙◌, subst, arith, set}
 use Rattle.std.proofs.lemmas.List.Edits.{map_over_more}
-use Rattle.aps_window.specs.declared.account.Account.{Account}
-use Rattle.aps_window.specs.declared.window.Window.TheInside.{Inside}
 use Rattle.aps_window.specs.Account.{account_moved}
 use Rattle.aps_window.specs.StandsFor.{StandsFor}
 use Rattle.aps_window.specs.Window.{Window}
@@ -21,28 +19,45 @@ loop-p-preserved c =
       tick = c.loop-p.invariant.tick;
       span = c.loop-p.invariant.span;
       accounts = ap (set now c.loop-p.p) next
-        ∙ map_over_more (account_moved c.min-moves.result inside.span) items now c.loop-p.p account (omega (arith, c.self.invariant.count, c.loop-p-test.true))
-        c.loop-p.invariant.accounts c.index_mut-account.ensures.value;
+          ∙ map_over_more (account_moved c.min-moves.result inside.span) items now c.loop-p.p account (omega (
+            arith,
+            c.self.invariant.count,
+            c.loop-p-test.true,
+          ))
+          c.loop-p.invariant.accounts c.index_mut-account.ensures.value;
     }
 
 pub invariant_of-self : goal.invariant_of-self
 invariant_of-self c =
     let tick : c.self.inside.tick ≡ c.args.self.now.tick = ap (λ (w : Window). w.tick) c.self.view_is in
-    moved_keeps c.self.inside (record { tick = c.loop-p.self-inside.tick + c.args.ticks; span = c.loop-p.self-inside.span; accounts = c.loop-p.self-inside.accounts })
+    moved_keeps c.self.inside (record {
+      tick = c.loop-p.self-inside.tick + c.args.ticks;
+      span =
+          c.loop-p.self-inside.span;
+      accounts = c.loop-p.self-inside.accounts;
+    })
     c.args.ticks c.min-moves.result c.self.invariant (omega (arith, tick, c.requires))
-    (ap (λ (n : ℕ). n + c.args.ticks) c.loop-p.invariant.tick) c.loop-p.invariant.span 
-    (all_done (account_moved c.min-moves.result c.self.inside.span) c.self.inside.accounts.items c.loop-p.self-inside.accounts.items c.loop-p.p
+    (ap (λ (n : ℕ). n + c.args.ticks) c.loop-p.invariant.tick) c.loop-p.invariant.span
+    (all_done (account_moved c.min-moves.result c.self.inside.span) c.self.inside.accounts.items
+    c.loop-p.self-inside.accounts.items c.loop-p.p
     (omega (arith, c.self.invariant.count, c.loop-p-test.false)) c.loop-p.invariant.accounts)
 
 pub returns-clause-same : goal.returns-clause-same
 returns-clause-same c =
-    moved_view c.self.inside (record { tick = c.loop-p.self-inside.tick + c.args.ticks; span = c.loop-p.self-inside.span; accounts = c.loop-p.self-inside.accounts })
+    moved_view c.self.inside (record {
+      tick = c.loop-p.self-inside.tick + c.args.ticks;
+      span =
+          c.loop-p.self-inside.span;
+      accounts = c.loop-p.self-inside.accounts;
+    })
     c.args.self.now c.args.ticks c.min-moves.result c.self.invariant c.self.view_is c.min-moves.ensures
-    (ap (λ (n : ℕ). n + c.args.ticks) c.loop-p.invariant.tick) c.loop-p.invariant.span 
-    (all_done (account_moved c.min-moves.result c.self.inside.span) c.self.inside.accounts.items c.loop-p.self-inside.accounts.items c.loop-p.p
+    (ap (λ (n : ℕ). n + c.args.ticks) c.loop-p.invariant.tick) c.loop-p.invariant.span
+    (all_done (account_moved c.min-moves.result c.self.inside.span) c.self.inside.accounts.items
+    c.loop-p.self-inside.accounts.items c.loop-p.p
     (omega (arith, c.self.invariant.count, c.loop-p-test.false)) c.loop-p.invariant.accounts)
 
 pub returns-clause-stands : goal.returns-clause-stands
 returns-clause-stands c = λ bills stands.
     subst (λ (w : Window). StandsFor w bills) (sym (returns-clause-same c))
-    (advanced_stands c.args.ticks c.args.self.now bills (whole_of c.self.inside c.args.self.now c.self.invariant c.self.view_is) stands)
+    (advanced_stands c.args.ticks c.args.self.now bills
+    (whole_of c.self.inside c.args.self.now c.self.invariant c.self.view_is) stands)

@@ -7,5 +7,6 @@ invariant-loop-p l = record {
   tick : l.self-inside.tick ≡ l.initial.self-inside.tick;
   span : l.self-inside.span ≡ l.initial.self-inside.span;
   accounts : l.self-inside.accounts.items
-    ≡ map (account_moved l.moves l.initial.self-inside.span) (take l.p l.initial.self-inside.accounts.items) ++ drop l.p l.initial.self-inside.accounts.items;
+      ≡ map (account_moved l.moves l.initial.self-inside.span)
+      (take l.p l.initial.self-inside.accounts.items) ++ drop l.p l.initial.self-inside.accounts.items;
 }

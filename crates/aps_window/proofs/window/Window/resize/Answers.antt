@@ -1,7 +1,5 @@
-use Rattle.std.proofs.Common.{◌≡◌, ◌<◌, ◌≤◌, length, map, refl, sym, ap, ◌∙◌, subst, arith, set}
+use Rattle.std.proofs.Common.{refl, sym, ap, ◌∙◌, subst, arith, set}
 use Rattle.std.proofs.lemmas.List.Edits.{map_over_more}
-use Rattle.aps_window.specs.declared.account.Account.{Account}
-use Rattle.aps_window.specs.declared.window.Window.TheInside.{Inside}
 use Rattle.aps_window.specs.Account.{account_resized}
 use Rattle.aps_window.specs.StandsFor.{StandsFor}
 use Rattle.aps_window.specs.Window.{Window}
@@ -18,24 +16,41 @@ loop-p-preserved c =
       tick = c.loop-p.invariant.tick;
       span = c.loop-p.invariant.span;
       accounts = ap (set now c.loop-p.p) c.resize.ensures
-        ∙ map_over_more (account_resized c.args.window) items now c.loop-p.p account (omega (arith, c.self.invariant.count, c.loop-p-test.true))
-        c.loop-p.invariant.accounts c.index_mut-account.ensures.value;
+          ∙ map_over_more (account_resized c.args.window) items now c.loop-p.p account (omega (
+            arith,
+            c.self.invariant.count,
+            c.loop-p-test.true,
+          ))
+          c.loop-p.invariant.accounts c.index_mut-account.ensures.value;
     }
 
 pub invariant_of-self : goal.invariant_of-self
 invariant_of-self c =
-    resized_keeps c.self.inside (record { tick = c.loop-p.self-inside.tick; span = c.args.window; accounts = c.loop-p.self-inside.accounts })
-    c.args.window c.self.invariant c.requires.least c.requires.most c.loop-p.invariant.tick refl 
-    (all_done (account_resized c.args.window) c.self.inside.accounts.items c.loop-p.self-inside.accounts.items c.loop-p.p
+    resized_keeps c.self.inside (record {
+      tick = c.loop-p.self-inside.tick;
+      span = c.args.window;
+      accounts =
+          c.loop-p.self-inside.accounts;
+    })
+    c.args.window c.self.invariant c.requires.least c.requires.most c.loop-p.invariant.tick refl
+    (all_done (account_resized c.args.window) c.self.inside.accounts.items c.loop-p.self-inside.accounts.items
+    c.loop-p.p
     (omega (arith, c.self.invariant.count, c.loop-p-test.false)) c.loop-p.invariant.accounts)
 
 pub returns-clause-same : goal.returns-clause-same
 returns-clause-same c =
-    resized_view c.self.inside (record { tick = c.loop-p.self-inside.tick; span = c.args.window; accounts = c.loop-p.self-inside.accounts })
-    c.args.self.now c.args.window c.self.view_is c.loop-p.invariant.tick refl 
-    (all_done (account_resized c.args.window) c.self.inside.accounts.items c.loop-p.self-inside.accounts.items c.loop-p.p
+    resized_view c.self.inside (record {
+      tick = c.loop-p.self-inside.tick;
+      span = c.args.window;
+      accounts =
+          c.loop-p.self-inside.accounts;
+    })
+    c.args.self.now c.args.window c.self.view_is c.loop-p.invariant.tick refl
+    (all_done (account_resized c.args.window) c.self.inside.accounts.items c.loop-p.self-inside.accounts.items
+    c.loop-p.p
     (omega (arith, c.self.invariant.count, c.loop-p-test.false)) c.loop-p.invariant.accounts)
 
 pub returns-clause-stands : goal.returns-clause-stands
 returns-clause-stands c = λ bills stands.
-    subst (λ (w : Window). StandsFor w bills) (sym (returns-clause-same c)) (resized_stands c.args.window c.args.self.now bills stands)
+    subst (λ (w : Window). StandsFor w bills) (sym (returns-clause-same c))
+    (resized_stands c.args.window c.args.self.now bills stands)
