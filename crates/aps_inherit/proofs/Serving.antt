@@ -50,6 +50,15 @@ servers-free [] z free = refl
 servers-free (t ∷ older) z free =
     ap (λ b. b || has (servers older) z) (test_ne t.server z (λ e. free.0 (sym e))) ∙ servers-free older z free.2
 
+-- a thread that serves nobody and that nobody serves is in no triple
+pub IsFree-none : (ts : List Triple) (z : ℕ) → triple_of ts z ≡ None → server_of ts z ≡ None → IsFree ts z
+IsFree-none [] z a b = tt
+IsFree-none (t ∷ older) z a b =
+    let no_server : t.server ≢ z = λ e. none_some t (sym a ∙ triple_of-here t older z e) in
+    let no_client : t.client ≢ z = λ e. none_some t.server (sym b ∙ server_of-here t older z e) in
+    (λ e. no_server (sym e), λ e. no_client (sym e),
+      IsFree-none older z (sym (triple_of-past t older z no_server) ∙ a) (sym (server_of-past t older z no_client) ∙ b))
+
 -- it is no server's client
 pub client_met : (ts : List Triple) (z x : ℕ) (t : Triple) → IsFree ts z → triple_of ts x ≡ Some t → z ≢ t.client
 client_met [] z x t free h = absurd (none_some t h)

@@ -5,3 +5,4 @@ pub mod Table
 pub mod Values
 pub mod Opening
 pub mod Chains
+pub mod Own

@@ -1,10 +1,11 @@
 //! What inheritance goes by: each thread's own values, who serves whom, and what waits at each channel.
-ghost use Rattle.std.specs.Prelude.{◌≡◌, ◌≢◌, ◌≤◌, ◌∷◌, None, length, slice_index_or, slice_set, IfOk};
+ghost use Rattle.std.specs.Prelude.{◌≡◌, ◌≢◌, ◌≤◌, ◌∷◌, None, length, slice_set, IfOk};
 ghost use Rattle.aps_model.specs.Inherit.{IsFree, inheritance_of, top_at, triple_of, without_server};
 ghost use Rattle.aps_model.specs.Opening.{opening};
 ghost use Rattle.aps_model.specs.SchedulerState.{no_facts};
 ghost use Rattle.aps_inherit.specs.Order.{after_in, first_of};
 ghost use Rattle.aps_inherit.specs.Opening.{no_tops, own_values};
+ghost use Rattle.aps_inherit.specs.Own.{own_of, with_own};
 ghost use Rattle.aps_inherit.specs.Serving.{AreChains, server_of, servers};
 ghost use Rattle.aps_inherit.specs.Values.{serves_by};
 
@@ -45,7 +46,7 @@ impl Content {
 
     /// The thread's own values.
     pub fn own(&self, x: ThreadId) -> Facts
-        ensures { result ≡ slice_index_or self.now.own x no_facts }
+        ensures { result ≡ own_of self.now x }
     {
         match self.own.get(x.index()) {
             Some(own) => *own,
@@ -105,7 +106,7 @@ impl Content {
 
     /// The thread's own values are these from now on.
     pub fn set_own(&mut self, x: ThreadId, own: Facts)
-        ensures { self.new ≡ record self.old { own = slice_set self.old.own x own } }
+        ensures { self.new ≡ with_own self.old x own }
     {
         let index = x.index();
         if index < self.own.len() {

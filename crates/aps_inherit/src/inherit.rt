@@ -1,9 +1,11 @@
 //! Inherited values, kept beside each thread.
-ghost use Rattle.std.specs.Prelude.{◌≡◌, ◌≢◌, ◌∷◌, None, slice_index_or, slice_set, IfOk};
+ghost use Rattle.std.specs.Prelude.{◌≡◌, ◌≢◌, ◌∷◌, None, slice_set, IfOk};
 ghost use Rattle.aps_model.specs.Inherit.{IsFree, client_of, inheritance_of, inherited, without_server};
 ghost use Rattle.aps_model.specs.Opening.{opening};
-ghost use Rattle.aps_model.specs.SchedulerState.{no_facts};
-ghost use Rattle.aps_inherit.specs.Serving.{AreChains, server_of};
+ghost use Rattle.aps_inherit.specs.Order.{after_in, first_of};
+ghost use Rattle.aps_inherit.specs.Own.{own_of, with_own};
+ghost use Rattle.aps_inherit.specs.Serving.{AreChains, server_of, servers};
+ghost use Rattle.aps_inherit.specs.Values.{serves_by};
 
 use crate::content::Content;
 use crate::kept::Kept;
@@ -54,7 +56,7 @@ impl Inherit {
 
     /// The thread's own values.
     pub fn own(&self, x: ThreadId) -> Facts
-        ensures { result ≡ slice_index_or self.now.own x no_facts }
+        ensures { result ≡ own_of self.now x }
     {
         self.content.own(x)
     }
@@ -75,6 +77,28 @@ impl Inherit {
         ensures chains { AreChains self.now.triples }
     {
         self.content.server_of(x)
+    }
+
+    /// Whether the thread serves by the channel.
+    pub fn serves_by(&self, x: ThreadId, c: ChannelId) -> bool
+        ensures { result ≡ serves_by self.now c x }
+    {
+        self.content.serves_by(x, c)
+    }
+
+    /// The server of the newest triple. There is none exactly where nobody serves.
+    pub fn newest_server(&self) -> Option<ThreadId>
+        ensures { result ≡ first_of (servers self.now.triples) }
+    {
+        self.content.newest()
+    }
+
+    /// The server of the next older triple than this server's. There is none where its triple is the oldest one, or
+    /// where it serves nobody.
+    pub fn older_server(&self, server: ThreadId) -> Option<ThreadId>
+        ensures { result ≡ after_in (servers self.now.triples) server }
+    {
+        self.content.older(server)
     }
 
     /// The server works for the client from now on, whose message came by the channel. Conditions: the server serves
@@ -99,7 +123,7 @@ impl Inherit {
 
     /// The thread's own partition is this from now on.
     pub fn join(&mut self, x: ThreadId, p: PartitionId)
-        ensures { self.new ≡ record self.old { own = slice_set self.old.own x (record (slice_index_or self.old.own x no_facts) { partition = p }) } }
+        ensures { self.new ≡ with_own self.old x (record (own_of self.old x) { partition = p }) }
     {
         let own = self.own(x);
         self.set_own(x, Facts { partition: p, ..own });
@@ -107,7 +131,7 @@ impl Inherit {
 
     /// The thread's own priority is this from now on.
     pub fn set_priority(&mut self, x: ThreadId, priority: u8)
-        ensures { self.new ≡ record self.old { own = slice_set self.old.own x (record (slice_index_or self.old.own x no_facts) { priority = priority }) } }
+        ensures { self.new ≡ with_own self.old x (record (own_of self.old x) { priority = priority }) }
     {
         let own = self.own(x);
         self.set_own(x, Facts { priority, ..own });
@@ -115,7 +139,7 @@ impl Inherit {
 
     /// The thread's own critical mark is this from now on.
     pub fn mark(&mut self, x: ThreadId, on: bool)
-        ensures { self.new ≡ record self.old { own = slice_set self.old.own x (record (slice_index_or self.old.own x no_facts) { critical = on }) } }
+        ensures { self.new ≡ with_own self.old x (record (own_of self.old x) { critical = on }) }
     {
         let own = self.own(x);
         self.set_own(x, Facts { critical: on, ..own });
@@ -123,7 +147,7 @@ impl Inherit {
 
     /// The thread's own values are these from now on.
     fn set_own(&mut self, x: ThreadId, own: Facts)
-        ensures { self.new ≡ record self.old { own = slice_set self.old.own x own } }
+        ensures { self.new ≡ with_own self.old x own }
     {
         self.content.set_own(x, own);
         self.kept.settle(&self.content, x);

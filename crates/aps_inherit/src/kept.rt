@@ -1,8 +1,8 @@
 //! The values kept beside each thread, and how they follow a change.
-ghost use Rattle.std.specs.Prelude.{◌≡◌, ◌<◌, ◌≤◌, ◌↔◌, ℕ, Bool, None, Some, length, slice_index_or, slice_set, if◌then◌else◌, IsTrue, IfOk};
+ghost use Rattle.std.specs.Prelude.{◌≡◌, ◌<◌, ◌≤◌, ◌↔◌, ℕ, Bool, None, Some, length, slice_set, if◌then◌else◌, IsTrue, IfOk};
 ghost use Rattle.aps_model.specs.Inherit.{raised};
-ghost use Rattle.aps_model.specs.SchedulerState.{no_facts};
-ghost use Rattle.aps_inherit.specs.Values.{AreRightBut, kept_at, nobody, of_channel, or_at, serves_by, values_by};
+ghost use Rattle.aps_inherit.specs.Own.{own_of};
+ghost use Rattle.aps_inherit.specs.Values.{Mends, kept_at, nobody, of_channel, or_at, serves_by, values_by};
 
 use crate::content::Content;
 use crate::order::MOST_THREADS;
@@ -31,7 +31,7 @@ impl Kept {
     /// Each thread's own values.
     pub fn new(alloc: Global, content: &Content) -> Result<Kept, NoMemory>
         requires { length content.now.own ≤ 1024 }
-        ensures { IfOk result (λ kept. (x : ℕ) → kept_at kept x ≡ slice_index_or content.now.own x no_facts) }
+        ensures { IfOk result (λ kept. (x : ℕ) → kept_at kept x ≡ own_of content.now x) }
     {
         let mut values = Vec::with_capacity(alloc, MOST_THREADS)?;
         for x in 0..MOST_THREADS {
@@ -68,7 +68,7 @@ impl Kept {
     /// Computes the values of the thread anew, and then those of the servers above it, up to the first that stay the
     /// same. Whoever's values were right before, but for this thread's, has right ones then, and so has this thread.
     pub fn settle(&mut self, content: &Content, from: ThreadId)
-        ensures { (late : ℕ → Bool) → AreRightBut (or_at late (Some from)) content.now self.old → AreRightBut late content.now self.new }
+        ensures { (late : ℕ → Bool) → Mends content.now self.old self.new (or_at late (Some from)) late }
     {
         let mut next = Some(from);
         while let Some(x) = next {
@@ -82,7 +82,7 @@ impl Kept {
 
     /// Computes the values of all servers by the channel anew, and of those above them.
     pub fn settle_channel(&mut self, content: &Content, c: ChannelId)
-        ensures { AreRightBut (serves_by content.now c) content.now self.old → AreRightBut nobody content.now self.new }
+        ensures { Mends content.now self.old self.new (serves_by content.now c) nobody }
     {
         let mut next = content.newest();
         while let Some(server) = next {
@@ -94,7 +94,7 @@ impl Kept {
     /// Computes the values of the server anew, and of those above it, if it serves by the channel. Whoever's values were
     /// right before, but for this server's where it serves by the channel, has right ones then, and so has this server.
     fn settle_if_by(&mut self, content: &Content, server: ThreadId, c: ChannelId)
-        ensures { (late : ℕ → Bool) → AreRightBut (of_channel content.now c (or_at late (Some server))) content.now self.old → AreRightBut (of_channel content.now c late) content.now self.new }
+        ensures { let i = content.now in (late : ℕ → Bool) → Mends i self.old self.new (of_channel i c (or_at late (Some server))) (of_channel i c late) }
     {
         if content.serves_by(server, c) {
             self.settle(content, server);
