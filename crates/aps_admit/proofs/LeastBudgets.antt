@@ -1,6 +1,6 @@
 -- Least budgets, and what they have to do with allowances.
-use Rattle.std.proofs.Common.{◌≡◌, ℕ, ◌+◌, ◌-◌, ◌*◌, ◌/◌, ◌<◌, ◌≤◌, inl, inr, arith, subst, ap}
-use Rattle.std.proofs.Math.Nat.{mul-le-mul_right, mul_comm, div-mul-le_self, lt_of_mul-lt-mul_right, mul-lt-mul_of_pos_right}
+use Rattle.std.proofs.Common.{◌≡◌, ℕ, ◌+◌, ◌-◌, ◌*◌, ◌/◌, ◌<◌, ◌≤◌, inl, inr, arith}
+use Rattle.std.proofs.Math.Nat.{mul-le-mul_right, mul_comm, div-mul-le_self, lt_of_mul-lt-mul_right}
 use Rattle.std.proofs.lemmas.Bool.{cases_order}
 use Rattle.std.proofs.lemmas.Grind.{div_ceil_times}
 use Rattle.std.proofs.lemmas.Nat.{mul-le, le-div}

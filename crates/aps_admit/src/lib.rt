@@ -15,6 +15,5 @@ pub use admission::{Admission, Granted, Grants};
 pub use budgets::admit;
 pub use text::print;
 
-
 #[cfg(test)]
 mod tests;

@@ -62,8 +62,7 @@ fn answer_to(alloc: Global, shape: &Shape, needs: &[u64]) -> Result<String, NoMe
 #[test]
 fn two_processors(rt: HostRuntime) -> Result<(), Fail> {
     let text = answer_to(rt.alloc(), &SHAPE, &[30_000_000, 50_000_000])?;
-    assert_eq!(
-        rt;
+    assert_eq!(rt;
         text.as_str(),
         "admit budgets 1\nbudget A 17 allowance 34000000 below 32000000\nbudget B 27 allowance 54000000 below 52000000\nsum 44\n"
     );
@@ -77,8 +76,7 @@ fn thousandths(rt: HostRuntime) -> Result<(), Fail> {
         ..SHAPE
     };
     let text = answer_to(rt.alloc(), &shape, &[30_000_000, 50_000_000])?;
-    assert_eq!(
-        rt;
+    assert_eq!(rt;
         text.as_str(),
         "admit budgets 1\nbudget A 170 allowance 34000000 below 33800000\nbudget B 270 allowance 54000000 below 53800000\nsum 440\n"
     );
@@ -88,8 +86,7 @@ fn thousandths(rt: HostRuntime) -> Result<(), Fail> {
 #[test]
 fn one_more_takes_a_part_more(rt: HostRuntime) -> Result<(), Fail> {
     let text = answer_to(rt.alloc(), &SHAPE, &[30_000_001, 50_000_000])?;
-    assert_eq!(
-        rt;
+    assert_eq!(rt;
         text.as_str(),
         "admit budgets 1\nbudget A 18 allowance 36000000 below 34000000\nbudget B 27 allowance 54000000 below 52000000\nsum 45\n"
     );
@@ -113,8 +110,7 @@ fn nobody_asks(rt: HostRuntime) -> Result<(), Fail> {
 #[test]
 fn need_of_nothing_takes_the_slack(rt: HostRuntime) -> Result<(), Fail> {
     let text = answer_to(rt.alloc(), &SHAPE, &[0])?;
-    assert_eq!(
-        rt;
+    assert_eq!(rt;
         text.as_str(),
         "admit budgets 1\nbudget A 1 allowance 2000000 below 0\nsum 1\n"
     );

@@ -1,5 +1,5 @@
 -- The demands that are read have their ranges, and each its own name.
-use Rattle.std.proofs.Common.{◌≡◌, ◌≢◌, ℕ, suc, ◌+◌, ◌≤◌, ◌++◌, Bool, true, false, ◌||◌, List, [], ◌∷◌, length, map, None, Ok, refl, subst, ◌∙◌, arith, add-one, ap, length-append, All}
+use Rattle.std.proofs.Common.{◌≡◌, ◌≢◌, ℕ, suc, ◌+◌, ◌≤◌, Bool, true, false, ◌||◌, List, [], ◌∷◌, length, map, None, Ok, refl, subst, ◌∙◌, arith, add-one, ap, length-append, All}
 use Rattle.std.proofs.lemmas.List.{map-append}
 use Rattle.std.proofs.lemmas.List.Elements.{All-append, All-nil, All-from_recursion}
 use Rattle.std.proofs.lemmas.Map.Keys.{IsDistinct-push}

@@ -18,13 +18,7 @@ use std::marker::Model;
 use toml::value::Array;
 use toml::{Table, Value};
 
-const TOP_KEYS: [Key; 5] = [
-    Key::Version,
-    Key::Cpus,
-    Key::Tick,
-    Key::Window,
-    Key::Demand,
-];
+const TOP_KEYS: [Key; 5] = [Key::Version, Key::Cpus, Key::Tick, Key::Window, Key::Demand];
 
 const DEMAND_KEYS: [Key; 2] = [Key::Name, Key::Need];
 
@@ -189,5 +183,7 @@ fn is_taken(demands: &[Demand], name: &Name) -> bool
 fn is_among(demands: &[Demand], name: &Name) -> bool
     ensures { result ≡ spec.is_among demands.now name.now }
 {
-    demands.iter().any(|demand| name.text() == demand.name.text())
+    demands
+        .iter()
+        .any(|demand| name.text() == demand.name.text())
 }
