@@ -40,8 +40,8 @@ left_at_start s x within =
     let first = each_first s.shape 0 0 s.threads x within in
     let row = get_or s.threads x no_thread_row in
     let op : first_op row ≡ op_of (start_tasks s) x =
-        ap (λ (p : List Op). get_or p 0 Exit) (sym (ap (λ p. p.program) (get_or-map plan_of s.threads x no_thread_row)))
-        ∙ ap (op_at (start_tasks s) x) (sym first.place) in
+    ap (λ (p : List Op). get_or p 0 Exit) (sym (ap (λ p. p.program) (get_or-map plan_of s.threads x no_thread_row)))
+    ∙ ap (op_at (start_tasks s) x) (sym first.place) in
     subst (λ (o : Op). IsLeft o (task_at (start_tasks s) x).left) op
     (subst (IsLeft (first_op row)) (sym first.left) (duration_left s.shape (first_op row)))
 

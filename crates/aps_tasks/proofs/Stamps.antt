@@ -118,7 +118,7 @@ stamps_at_start shape rows few =
     }
   where
     by : (x : ℕ) → ((0 ≤ stamp_in (map task_of (start_threads shape 0 0 rows)) x) × (stamp_in (map task_of (start_threads shape 0 0 rows)) x < start_stamps 0 rows))
-            ⊎ (stamp_in (map task_of (start_threads shape 0 0 rows)) x ≡ 2 ^ 63 + (0 + x))
+        ⊎ (stamp_in (map task_of (start_threads shape 0 0 rows)) x ≡ 2 ^ 63 + (0 + x))
         → (stamp_in (map task_of (start_threads shape 0 0 rows)) x < start_stamps 0 rows) ⊎ (stamp_in (map task_of (start_threads shape 0 0 rows)) x ≡ 2 ^ 63 + x)
     by x (inl a) = inl a.1
     by x (inr a) = inr (omega (arith, a))

@@ -3,3 +3,5 @@ pub mod Calls
 pub mod Kept
 pub mod Start
 pub mod TasksView
+pub mod Worked
+pub mod Tied

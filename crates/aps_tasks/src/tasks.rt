@@ -7,7 +7,9 @@ ghost use Rattle.aps_tasks.specs.Kept.{IsLeft, IsShort, IsTasks};
 ghost use Rattle.aps_tasks.specs.Start.{start_tasks};
 ghost use Rattle.aps_tasks.specs.Tasks.{op_at, op_of, plan_at, task_at, with_stamped, with_state, with_task};
 
-use crate::operation::{duration, is_over, is_slice_over, left_after, place_after, sleep_end, state_in};
+use crate::operation::{
+    duration, is_over, is_slice_over, left_after, place_after, sleep_end, state_in,
+};
 use crate::plan::Plan;
 use crate::start::{copy_plans, start_tasks};
 use crate::task::{Task, no_task};

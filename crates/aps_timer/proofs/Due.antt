@@ -47,7 +47,7 @@ first_out row now x is =
         → is_earlier (is.until, x) q ≡ true
     later within y q due (inl e) =
         let none : due_in (set row x None) now y ≡ None =
-            ap (due_in (set row x None) now) e ∙ ap (due_by now x) (get_or-set_same row x None None within) in
+        ap (due_in (set row x None) now) e ∙ ap (due_by now x) (get_or-set_same row x None None within) in
         let never : None ≡ Some q = sym none ∙ due in
         absurd cc
     later within y q due (inr other) =

@@ -26,7 +26,7 @@ none_before (suc fuel) width nodes played i small some within = elim (cases_eq i
       let half : above < width = omega (arith, within) in
       let here = played.inner above positive half in
       let up : goes_before (sleeper_at nodes above) (sleeper_at nodes 1) ≡ false =
-          none_before fuel width nodes played above (omega (arith, small, ne, some)) positive (omega (arith, within)) in
+      none_before fuel width nodes played above (omega (arith, small, ne, some)) positive (omega (arith, within)) in
       let a = sleeper_at nodes (2 * above) in
       let b = sleeper_at nodes (2 * above + 1) in
       let from : goes_before (sleeper_at nodes i) (sleeper_at nodes above) ≡ false = elim (halves i) [
@@ -49,7 +49,7 @@ among_places (suc fuel) width nodes played i big some within = elim (below_or_no
   | inr high ↦
       let place = i - width in
       let same : get_or (leaves width nodes) place None ≡ sleeper_at nodes i =
-          get_or-drop width nodes place None ∙ ap (sleeper_at nodes) (omega (arith, high)) in
+      get_or-drop width nodes place None ∙ ap (sleeper_at nodes) (omega (arith, high)) in
       subst (Contains (leaves width nodes)) same
       (Contains-get_or (leaves width nodes) place None (omega (arith, length-drop width nodes, played.both, high, within)))
   | inl low ↦ elim (first_is_one (sleeper_at nodes (2 * i)) (sleeper_at nodes (2 * i + 1))) [
@@ -76,5 +76,5 @@ first_of_all width nodes first played is k d within =
     let inside : width + k < 2 * width = omega (arith, within, length-drop width nodes, played.both) in
     let some : 0 < width + k = omega (arith, inside) in
     let read : get_or (leaves width nodes) k d ≡ sleeper_at nodes (width + k) =
-        get_or_default (leaves width nodes) k d None within ∙ get_or-drop width nodes k None in
+    get_or_default (leaves width nodes) k d None within ∙ get_or-drop width nodes k None in
     rw (read, is) (none_before (width + k) width nodes played (width + k) (omega arith) some inside)

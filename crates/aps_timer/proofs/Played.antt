@@ -28,9 +28,11 @@ placed_but width place sleeper nodes within played = record {
       let apart : i ≢ width + place = λ e. omega (arith, e) in
       let left : 2 * i ≢ width + place = λ e. other (omega (arith, e)) in
       let right : 2 * i + 1 ≢ width + place = λ e. other (omega (arith, e)) in
-      rw (get_or-set_other nodes (width + place) i sleeper None apart,
-          get_or-set_other nodes (width + place) (2 * i) sleeper None left,
-          get_or-set_other nodes (width + place) (2 * i + 1) sleeper None right) (played.inner i some below);
+      rw (
+        get_or-set_other nodes (width + place) i sleeper None apart,
+        get_or-set_other nodes (width + place) (2 * i) sleeper None left,
+        get_or-set_other nodes (width + place) (2 * i + 1) sleeper None right,
+      ) (played.inner i some below);
 }
 
 -- the wrong node is set: the node above may be wrong
@@ -44,12 +46,12 @@ replayed_but width at nodes positive within played =
           let left : 2 * i ≢ at = λ e. other (omega (arith, e)) in
           let right : 2 * i + 1 ≢ at = λ e. other (omega (arith, e)) in
           let here : sleeper_at (replayed nodes at) i ≡ first_below nodes i =
-              elim (cases_eq i at) [
-                | inl e ↦
-                    subst (λ (j : ℕ). sleeper_at (replayed nodes at) j ≡ first_below nodes j) (sym e)
-                    (get_or-set_same nodes at first None (omega (arith, played.both)))
-                | inr ne ↦ get_or-set_other nodes at i first None ne ∙ played.inner i some below ne
-              ] in
+          elim (cases_eq i at) [
+            | inl e ↦
+                subst (λ (j : ℕ). sleeper_at (replayed nodes at) j ≡ first_below nodes j) (sym e)
+                (get_or-set_same nodes at first None (omega (arith, played.both)))
+            | inr ne ↦ get_or-set_other nodes at i first None ne ∙ played.inner i some below ne
+          ] in
           rw (get_or-set_other nodes at (2 * i) first None left, get_or-set_other nodes at (2 * i + 1) first None right) here;
     }
 

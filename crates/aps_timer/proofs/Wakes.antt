@@ -27,4 +27,4 @@ wakes s now =
     let g : ℕ → Option (ℕ × ℕ) = λ x. wakes_at now x (thread_at s x).state in
     ap (gathered f) (length-map s.threads of)
     ∙ gathered_same f g (length s.threads) (λ x.
-        ap (due_by now x) (get_or-map of s.threads x no_thread) ∙ due_wakes now x (thread_at s x).state)
+    ap (due_by now x) (get_or-map of s.threads x no_thread) ∙ due_wakes now x (thread_at s x).state)

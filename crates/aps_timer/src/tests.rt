@@ -28,8 +28,14 @@ fn sleepers_wake_by_moment_and_then_by_number(rt: HostRuntime) -> Result<(), Fai
     timer.sleep(thread(3), 1_000_001);
     timer.sleep(thread(1), 500);
     timer.sleep(thread(2), 500);
-    assert_eq!(rt; wake(&mut timer, 1_000_000), [Some(thread(1)), Some(thread(2)), None, None]);
-    assert_eq!(rt; wake(&mut timer, 2_000_000), [Some(thread(3)), None, None, None]);
+    assert_eq!(rt;
+        wake(&mut timer, 1_000_000),
+        [Some(thread(1)), Some(thread(2)), None, None]
+    );
+    assert_eq!(rt;
+        wake(&mut timer, 2_000_000),
+        [Some(thread(3)), None, None, None]
+    );
     Ok(())
 }
 
