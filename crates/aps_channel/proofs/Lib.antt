@@ -1,0 +1,4 @@
+pub mod Counts
+pub mod Chains
+pub mod Writes
+pub mod Ranks
