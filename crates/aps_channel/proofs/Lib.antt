@@ -2,3 +2,8 @@ pub mod Counts
 pub mod Chains
 pub mod Writes
 pub mod Ranks
+pub mod First
+pub mod Queues
+pub mod Seen
+pub mod Served
+pub mod Joined

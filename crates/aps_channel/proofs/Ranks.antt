@@ -2,13 +2,13 @@
 use Rattle.std.proofs.Common.{◌≡◌, ◌≢◌, ℕ, ◌+◌, ◌<◌, ◌≤◌, List, [], ◌∷◌, ◌++◌, length, map, refl, sym, ◌∙◌, ap, subst, Bool, true, false, cond, nat_eq, Option, Some, None, IfSome, slice_set, get_or, replicate, zero, suc, arith, inl, inr}
 use Rattle.std.proofs.Math.ListN.{length-set}
 use Rattle.std.proofs.lemmas.List.{get_or-map, get_or-replicate, get_or-set_same, get_or-set_other, get_or_past, get_or_read, length-map, length-replicate, same_lists}
-use Rattle.std.proofs.lemmas.Bool.{cases_eq}
+use Rattle.std.proofs.lemmas.Bool.{cases_eq, cases_lt}
 use Rattle.aps_laws.specs.Waits.{one_if, times}
 use Rattle.aps_laws.proofs.WaitFacts.{test_eq, test_ne}
 use Rattle.aps_laws.proofs.WaitMoves.{times-append}
 use Rattle.aps_channel.specs.declared.links.Ends.{Ends}
 use Rattle.aps_channel.specs.declared.links.Link.{Link}
-use Rattle.aps_channel.specs.Lines.{IsInNone, Lines, first_of, line_at, with_line, without}
+use Rattle.aps_channel.specs.Lines.{AreApart, IsInNone, Lines, first_of, line_at, with_line, without}
 use Rattle.aps_channel.specs.Links.{AreLines, IsLine, IsLinked, end_removed, ends_at, ends_pushed, ends_removed, is_at, last_or, line_of, lines_of, link_at, links_pushed, links_removed, no_ends, no_link, one_or, walk}
 use Rattle.aps_channel.proofs.Chains.{IsPushed, IsUnlinked, first_without, last-pushed, last_in, last_without, linked_pushed, linked_same, linked_without, unlinked, walk_linked}
 use Rattle.aps_channel.proofs.Counts.{few_distinct, times-without, zero_test}
@@ -411,3 +411,40 @@ sides_have_links links ends l q x s are is lt some read =
       before = if_some l.before (length links) (λ w at. before_within links ends q x are lt' some' w (ap (λ (g : Link). g.before) (sym at_x) ∙ at));
       after = if_some l.after (length links) (λ w at. after_within links ends q x are lt' some' w (ap (λ (g : Link). g.after) (sym at_x) ∙ at));
     }
+
+first_within : (links : List Link) (ends : List Ends) (q : ℕ) → AreLines links ends → q < length ends → HasLink (ends_at ends q).first (length links)
+first_within links ends q are lt w at =
+    let is = are.each q lt in
+    is.within w (in_list (line_at (lines_of links ends) q) (sym is.first ∙ at))
+  where
+    some_same : (a b : ℕ) → Some a ≡ Some b → a ≡ b
+    some_same a b e = cc
+
+    in_list : (ys : List ℕ) → first_of ys ≡ Some w → 1 ≤ times w ys
+    in_list [] b = absurd cc
+    in_list (z ∷ zs) b = omega (arith, ap one_if (test_eq z w (some_same z w b)))
+
+pub first_below : (links : List Link) (ends : List Ends) (e : Ends) (q : ℕ) (s : Lines) → AreLines links ends → seen links ends ≡ s → q < length s.lines → e ≡ get_or ends q e
+    → IfSome e.first (λ x. x < s.numbers)
+first_below links ends e q s are is lt read =
+    let lt' = line_below links ends s q is lt in
+    subst (λ (t : Lines). IfSome e.first (λ x. x < t.numbers)) is
+    (if_some e.first (length links) (λ w at. first_within links ends q are lt' w (ap (λ (g : Ends). g.first) (sym (get_or_read ends q e lt' read no_ends)) ∙ at)))
+
+pub apart_seen : (links : List Link) (ends : List Ends) (s : Lines) → AreLines links ends → seen links ends ≡ s → AreApart s.lines
+apart_seen links ends s are is = subst (λ (t : Lines). AreApart t.lines) is (record { once = once; apart = apart })
+  where
+    once : (q x : ℕ) → times x (line_at (lines_of links ends) q) ≤ 1
+    once q x = elim (cases_lt q (length ends)) [
+      | inl lt ↦ (are.each q lt).once x
+      | inr ge ↦ omega (arith, none_past links ends q x ge)
+    ]
+
+    apart : (q r x : ℕ) → q ≢ r → 1 ≤ times x (line_at (lines_of links ends) q) → times x (line_at (lines_of links ends) r) ≡ 0
+    apart q r x ne l = elim (cases_lt r (length ends)) [
+      | inl ltr ↦ elim (cases_lt q (length ends)) [
+          | inl ltq ↦ are.apart q r x ltq ltr ne l
+          | inr ge ↦ absurd (let z = none_past links ends q x ge in omega (arith, z, l))
+        ]
+      | inr ge ↦ none_past links ends r x ge
+    ]

@@ -1,7 +1,7 @@
 //! Lines of numbers: who stands behind whom.
-ghost use Rattle.std.specs.Prelude.{◌≡◌, ◌<◌, ◌≤◌, ◌++◌, [], ◌∷◌, length, replicate, IfOk};
+ghost use Rattle.std.specs.Prelude.{◌≡◌, ◌<◌, ◌≤◌, ◌++◌, [], ◌∷◌, length, replicate, IfOk, IfSome};
 ghost use Rattle.aps_laws.specs.Waits.{times};
-ghost use Rattle.aps_channel.specs.Lines.{IsInNone, line_at, with_line, without, first_of};
+ghost use Rattle.aps_channel.specs.Lines.{AreApart, IsInNone, line_at, with_line, without, first_of};
 
 use crate::links::{Ends, Link, close_gap, link_behind};
 use aps_model::NoMemory;
@@ -50,7 +50,9 @@ impl Lines {
     /// Who stands first in the line. There is nobody exactly where the line is empty.
     pub fn first(&self, line: usize) -> Option<u16>
         requires { line < length self.now.lines }
-        ensures { result ≡ first_of (line_at self.now.lines line) }
+        ensures same { result ≡ first_of (line_at self.now.lines line) }
+        ensures within { IfSome result (λ x. x < self.now.numbers) }
+        ensures apart { AreApart self.now.lines }
     {
         self.ends[line].first
     }
