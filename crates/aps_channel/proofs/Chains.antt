@@ -138,9 +138,10 @@ linked_without links links' x before (y ∷ ys) u h some once outer = elim (case
       (linked_behind links links' y before ys (subst (λ k. IsUnlinked links links' k) (sym e) u) h once outer)
   | inr ne ↦
       let in_rest : 1 ≤ times x ys = omega (arith, some, ap one_if (test_ne y x ne)) in
-      subst (λ t. IsLinked links' before (cond t ys (y ∷ without x ys))) (sym (test_ne y x ne))
-      (link_kept links links' x y before ys u h in_rest once,
-      linked_without links links' x (Some y) ys u h.1 in_rest (λ w. let o = once w in omega (arith, o)) (λ w l. zero_test (nat_eq y w) (let o = once w in omega (arith, o, l))))
+      subst (λ t. IsLinked links' before (cond t ys (y ∷ without x ys))) (sym (test_ne y x ne)) (
+        link_kept links links' x y before ys u h in_rest once,
+        linked_without links links' x (Some y) ys u h.1 in_rest (λ w. let o = once w in omega (arith, o)) (λ w l. zero_test (nat_eq y w) (let o = once w in omega (arith, o, l))),
+      )
 ]
 
 -- ---- the ends of the chain that is left

@@ -154,12 +154,13 @@ sent_blocked w w' r s v c c' x p are is e lt first moved =
     let calm' : IsCalm (changed v c new v.triples) =
     calm_changed v c new v.triples lt calm (inr none) (λ y l. calm.unheld c y l) (λ d y ne l. calm.unheld d y l) in
     let seen =
-    parts_changed w r s v c ms (line_at r.lines c) v.triples are is lt (subst (λ (k : ChannelNow). IsCalm (changed v c k v.triples)) (sym new_is) calm') in
-    (subst (λ (a : Waiting). AreSeenChannels a r s (with_channel v c new)) (sym moved)
-    (subst (λ (l : Lines). AreSeenChannels (with_messages w c ms) l s (with_channel v c new)) (line_same r c)
-    (subst (λ (t : Serving). AreSeenChannels (with_messages w c ms) (with_line r c (line_at r.lines c)) t (with_channel v c new)) (same_triples s v.triples (triples_here w r s v is))
-    (subst (λ (k : ChannelNow). AreSeenChannels (with_messages w c ms) (with_line r c (line_at r.lines c)) (record s { triples = v.triples }) (changed v c k v.triples)) new_is seen))),
-    none)
+    parts_changed w r s v c ms (line_at r.lines c) v.triples are is lt (subst (λ (k : ChannelNow). IsCalm (changed v c k v.triples)) (sym new_is) calm') in (
+      subst (λ (a : Waiting). AreSeenChannels a r s (with_channel v c new)) (sym moved)
+          (subst (λ (l : Lines). AreSeenChannels (with_messages w c ms) l s (with_channel v c new)) (line_same r c)
+          (subst (λ (t : Serving). AreSeenChannels (with_messages w c ms) (with_line r c (line_at r.lines c)) t (with_channel v c new)) (same_triples s v.triples (triples_here w r s v is))
+          (subst (λ (k : ChannelNow). AreSeenChannels (with_messages w c ms) (with_line r c (line_at r.lines c)) (record s { triples = v.triples }) (changed v c k v.triples)) new_is seen))),
+      none,
+    )
 
 -- the first of a line stands before the rest
 record IsFront (f : ℕ) (line : List ℕ) : Type 0 where
@@ -284,12 +285,13 @@ received_blocked w w' r r' s v c c' x x' are is ec ex lt first unheld moved push
     let seen =
     parts_changed w r s v c (messages_at w c) line v.triples are is lt (subst (λ (k : ChannelNow). IsCalm (changed v c k v.triples)) (sym new_is) calm') in
     let r_is : with_line r c line ≡ r' =
-    ap (λ k. with_line r c (line_at r.lines c ++ k ∷ [])) (sym ex) ∙ ap (λ k. with_line r k (line_at r.lines k ++ x' ∷ [])) (sym ec) ∙ sym pushed in
-    (subst (λ (a : Waiting). AreSeenChannels a r' s (with_channel v c new)) (sym moved)
-    (subst (λ (l : Lines). AreSeenChannels (with_messages w c (messages_at w c)) l s (with_channel v c new)) r_is
-    (subst (λ (t : Serving). AreSeenChannels (with_messages w c (messages_at w c)) (with_line r c line) t (with_channel v c new)) (same_triples s v.triples (triples_here w r s v is))
-    (subst (λ (k : ChannelNow). AreSeenChannels (with_messages w c (messages_at w c)) (with_line r c line) (record s { triples = v.triples }) (changed v c k v.triples)) new_is seen))),
-    ap first_sender none)
+    ap (λ k. with_line r c (line_at r.lines c ++ k ∷ [])) (sym ex) ∙ ap (λ k. with_line r k (line_at r.lines k ++ x' ∷ [])) (sym ec) ∙ sym pushed in (
+      subst (λ (a : Waiting). AreSeenChannels a r' s (with_channel v c new)) (sym moved)
+          (subst (λ (l : Lines). AreSeenChannels (with_messages w c (messages_at w c)) l s (with_channel v c new)) r_is
+          (subst (λ (t : Serving). AreSeenChannels (with_messages w c (messages_at w c)) (with_line r c line) t (with_channel v c new)) (same_triples s v.triples (triples_here w r s v is))
+          (subst (λ (k : ChannelNow). AreSeenChannels (with_messages w c (messages_at w c)) (with_line r c line) (record s { triples = v.triples }) (changed v c k v.triples)) new_is seen))),
+      ap first_sender none,
+    )
 
 pub received_got : (w w' : Waiting) (r : Lines) (s s' : Serving) (v : Channels) (c x m : ℕ) → AreChannels w r s → channels_of w r s ≡ v → c < length v.channels
     → Some m ≡ first_sender (messages_at w c) → IsIdle v x → w' ≡ with_messages w c (without_sender m (messages_at w c))
@@ -316,12 +318,13 @@ received_got w w' r s s' v c x m are is lt first idle moved begun =
     let seen =
     parts_changed w r s v c ms (line_at r.lines c) ts are is lt (subst (λ (k : ChannelNow). IsCalm (changed v c k ts)) (sym new_is) calm') in
     let s_is : ◌≡◌ {A = Serving} (record s { triples = ts }) s' =
-    ap (λ (us : List Triple). let k : Serving = record s { triples = (record { server = x; client = m; channel = c }) ∷ us } in k) (triples_here w r s v is) ∙ sym begun in
-    (subst (λ (a : Waiting). AreSeenChannels a r s' (changed v c new ts)) (sym moved)
-    (subst (λ (l : Lines). AreSeenChannels (with_messages w c ms) l s' (changed v c new ts)) (line_same r c)
-    (subst (λ (t : Serving). AreSeenChannels (with_messages w c ms) (with_line r c (line_at r.lines c)) t (changed v c new ts)) s_is
-    (subst (λ (k : ChannelNow). AreSeenChannels (with_messages w c ms) (with_line r c (line_at r.lines c)) (record s { triples = ts }) (changed v c k ts)) new_is seen))),
-    next)
+    ap (λ (us : List Triple). let k : Serving = record s { triples = (record { server = x; client = m; channel = c }) ∷ us } in k) (triples_here w r s v is) ∙ sym begun in (
+      subst (λ (a : Waiting). AreSeenChannels a r s' (changed v c new ts)) (sym moved)
+          (subst (λ (l : Lines). AreSeenChannels (with_messages w c ms) l s' (changed v c new ts)) (line_same r c)
+          (subst (λ (t : Serving). AreSeenChannels (with_messages w c ms) (with_line r c (line_at r.lines c)) t (changed v c new ts)) s_is
+          (subst (λ (k : ChannelNow). AreSeenChannels (with_messages w c ms) (with_line r c (line_at r.lines c)) (record s { triples = ts }) (changed v c k ts)) new_is seen))),
+      next,
+    )
   where
     nobody : {n : ℕ} → None ≡ Some n → ⊥
     nobody {n} e = cc

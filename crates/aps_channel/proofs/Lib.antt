@@ -7,3 +7,4 @@ pub mod Queues
 pub mod Seen
 pub mod Served
 pub mod Joined
+pub mod Conversation

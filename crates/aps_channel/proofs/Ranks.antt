@@ -195,9 +195,9 @@ before_in links x w before (y ∷ ys) h some at outer = elim (cases_eq y x) [
       let b : before ≡ Some w = sym (ap (λ (l : Link). l.before) (subst (λ k. link_at links k ≡ record { before = before; after = first_of ys }) e h.0)) ∙ at in
       absurd (outer w b refl)
   | inr ne ↦ elim (cases_eq y w) [
-      | inl s ↦ omega (arith, ap one_if (test_eq y w s))
-      | inr d ↦ let rest = before_in links x w (Some y) ys h.1 (omega (arith, some, ap one_if (test_ne y x ne))) at (λ v b s. d (some_same y v b ∙ s)) in omega (arith, rest)
-    ]
+    | inl s ↦ omega (arith, ap one_if (test_eq y w s))
+    | inr d ↦ let rest = before_in links x w (Some y) ys h.1 (omega (arith, some, ap one_if (test_ne y x ne))) at (λ v b s. d (some_same y v b ∙ s)) in omega (arith, rest)
+  ]
 ]
   where
     some_same : (a b : ℕ) → Some a ≡ Some b → a ≡ b
@@ -443,8 +443,8 @@ apart_seen links ends s are is = subst (λ (t : Lines). AreApart t.lines) is (re
     apart : (q r x : ℕ) → q ≢ r → 1 ≤ times x (line_at (lines_of links ends) q) → times x (line_at (lines_of links ends) r) ≡ 0
     apart q r x ne l = elim (cases_lt r (length ends)) [
       | inl ltr ↦ elim (cases_lt q (length ends)) [
-          | inl ltq ↦ are.apart q r x ltq ltr ne l
-          | inr ge ↦ absurd (let z = none_past links ends q x ge in omega (arith, z, l))
-        ]
+        | inl ltq ↦ are.apart q r x ltq ltr ne l
+        | inr ge ↦ absurd (let z = none_past links ends q x ge in omega (arith, z, l))
+      ]
       | inr ge ↦ none_past links ends r x ge
     ]

@@ -130,7 +130,7 @@ serves_none servers held s x x' are is e none q = elim (cases_lt q 1) [
     here = elim (cases_eq (times x' (line_at servers.lines 0)) 0) [
       | inl z ↦ z
       | inr nz ↦ absurd (clash (sym (client_there held x' (reverse (line_at servers.lines 0)) (let t = times-reverse x' (line_at servers.lines 0) in omega (arith, t, nz)))
-        ∙ subst (λ k. client_of (triples_of held (line_at servers.lines 0)) k ≡ None) (sym e) (subst (λ (t : Serving). client_of t.triples x ≡ None) (sym is) none)))
+          ∙ subst (λ k. client_of (triples_of held (line_at servers.lines 0)) k ≡ None) (sym e) (subst (λ (t : Serving). client_of t.triples x ≡ None) (sym is) none)))
     ]
       where
         clash : {n : ℕ} → Some n ≡ None → ⊥

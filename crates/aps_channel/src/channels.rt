@@ -5,16 +5,13 @@ ghost use Rattle.aps_model.specs.SchedulerState.{no_channel};
 ghost use Rattle.aps_channel.specs.Channels.{IsCalm, IsIdle, channel_at, received, received_from, replied, sent};
 ghost use Rattle.aps_channel.specs.Waiting.{first_sender};
 
-use crate::lines::Lines;
+use crate::lines::{Lines, MOST_THREADS};
 use crate::outcome::{Received, Replied, Sent};
 use crate::serving::Serving;
 use crate::waiting::Waiting;
 use aps_model::{ChannelId, NoMemory, ThreadId};
 use std::alloc::Global;
 use std::marker::Model;
-
-/// How many threads there are at most, since the greatest number of a thread is 1,023.
-const MOST_THREADS: u16 = 1024;
 
 /// The channels of a run: who waits at each, and which server works for which client. Contracts see the messages and the
 /// receivers of each channel in order of arrival, the triples of server, client and channel with the newest first, and how

@@ -7,6 +7,8 @@ mod lines;
 mod links;
 mod outcome;
 mod serving;
+#[cfg(test)]
+mod tests;
 mod waiting;
 
 pub use channels::Channels;

@@ -8,6 +8,9 @@ use aps_model::NoMemory;
 use std::alloc::Global;
 use std::marker::Model;
 
+/// How many threads there are at most, since the greatest number of a thread is 1,023.
+pub const MOST_THREADS: u16 = 1024;
+
 /// Many lines of numbers, each in order of arrival. A number stands in at most one line, and once. Contracts see the
 /// lines, and below which number all numbers are. Room for all is taken when they are made; every other call takes a few
 /// steps, however long the lines are.

@@ -2,16 +2,13 @@
 ghost use Rattle.std.specs.Prelude.{◌≡◌, ◌<◌, [], ◌∷◌, min, replicate, IfOk, IsSome, None};
 ghost use Rattle.aps_model.specs.Inherit.{client_of, without_server};
 
-use crate::lines::Lines;
+use crate::lines::{Lines, MOST_THREADS};
 use aps_model::{ChannelId, NoMemory, ThreadId};
 use std::alloc::Global;
 use std::marker::Model;
 
 /// The line in which the servers stand.
 const SERVERS: usize = 0;
-
-/// How many threads there are at most, since the greatest number of a thread is 1,023.
-const MOST_THREADS: u16 = 1024;
 
 /// What a server holds: the number of its client, and of the channel by which the client's message came.
 #[derive(Clone, Copy, Debug, PartialEq, Eq)]

@@ -5,7 +5,7 @@ ghost use Rattle.aps_levels.specs.Levels.{has_level};
 ghost use Rattle.aps_model.specs.Inherit.{top_of};
 ghost use Rattle.aps_channel.specs.Waiting.{first_sender, messages_at, with_messages, without_of};
 
-use crate::lines::Lines;
+use crate::lines::{Lines, MOST_THREADS};
 use aps_levels::Levels;
 use aps_model::{ChannelId, NoMemory, ThreadId};
 use std::alloc::Global;
@@ -14,9 +14,6 @@ use std::marker::Model;
 /// How many levels a channel has. The level of a priority is the greatest priority less it, so that the least level in
 /// use is the greatest priority that waits.
 const LEVELS: usize = 256;
-
-/// How many threads there are at most, since the greatest number of a thread is 1,023.
-const MOST_THREADS: u16 = 1024;
 
 /// The greatest priority.
 const GREATEST: u8 = 255;

@@ -19,4 +19,3 @@ invariant_of-result c =
 pub returns : goal.returns
 returns c =
     (made c).same
-

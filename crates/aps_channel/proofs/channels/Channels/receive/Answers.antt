@@ -31,4 +31,3 @@ returns-in-None-clause-answer c =
 pub returns-in-None-clause-state : goal.returns-in-None-clause-state
 returns-in-None-clause-state c =
     c.take_message.ensures.state ∙ sym (ap (λ o. (received c.args.self.now c.args.c c.args.by o).state) (ap (λ ts. client_of ts c.args.by) (triples_here c.self.inside.waiting c.self.inside.receivers c.self.inside.serving c.args.self.now c.self.view_is) ∙ sym c.in-None.ensures))
-

@@ -43,4 +43,3 @@ returns-in-Some-clause-state c =
 pub returns-in-Some-clause-calm : goal.returns-in-Some-clause-calm
 returns-in-Some-clause-calm c =
     (replied_freed c.self.inside.waiting c.self.inside.receivers c.self.inside.serving c.end.new.self c.args.self.now c.args.by c.self.invariant c.self.view_is c.end.ensures).are.calm
-

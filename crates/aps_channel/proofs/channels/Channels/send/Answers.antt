@@ -71,4 +71,3 @@ returns-in-Some-clause-state c =
 pub returns-in-Some-clause-calm : goal.returns-in-Some-clause-calm
 returns-in-Some-clause-calm c =
     (sent_delivered c.self.inside.waiting c.self.inside.receivers c.remove.new.self c.self.inside.serving c.begin.new.self c.args.self.now c.args.c c.index-line.result c.args.from c.in-Some.first c.at-server.result c.self.invariant c.self.view_is c.index-line.ensures.same c.at-server.ensures c.requires.channel c.in-Some.ensures.same c.in-Some.ensures.apart c.remove.ensures c.begin.ensures).seen.are.calm
-

@@ -59,4 +59,3 @@ returns-in-Some-clause-state c =
 pub returns-in-Some-clause-calm : goal.returns-in-Some-clause-calm
 returns-in-Some-clause-calm c =
     (received_got c.self.inside.waiting c.take_first.new.self c.self.inside.receivers c.self.inside.serving c.begin.new.self c.args.self.now c.args.c c.args.by c.in-Some.client c.self.invariant c.self.view_is c.requires.channel c.in-Some.ensures.sender c.requires.idle c.in-Some.ensures.left c.begin.ensures).0.are.calm
-

@@ -14,4 +14,3 @@ returns-clause-top c =
 pub returns-clause-calm : goal.returns-clause-calm
 returns-clause-calm c =
     calm_seen c.self.inside.waiting c.self.inside.receivers c.self.inside.serving c.args.self.now c.self.invariant c.self.view_is
-
