@@ -1,0 +1,10 @@
+pub mod Counts
+pub mod Chains
+pub mod Writes
+pub mod Ranks
+pub mod First
+pub mod Queues
+pub mod Seen
+pub mod Served
+pub mod Joined
+pub mod Conversation

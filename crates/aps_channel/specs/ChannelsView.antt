@@ -1,0 +1,26 @@
+-- The channels, by the messages, the receivers and the triples that make them up.
+use Rattle.std.specs.Prelude.{◌≡◌, ◌⊎◌, ℕ, ◌≤◌, List, [], ◌∷◌, length, None}
+use Rattle.aps_laws.specs.Waits.{times}
+use Rattle.aps_model.specs.Inherit.{client_of}
+use Rattle.aps_model.specs.SchedulerState.{ChannelNow, Message}
+use Rattle.aps_channel.specs.Channels.{Channels, IsCalm}
+use Rattle.aps_channel.specs.Lines.{Lines, line_at}
+use Rattle.aps_channel.specs.Serving.{Serving}
+use Rattle.aps_channel.specs.Waiting.{Waiting, messages_at}
+
+-- each channel's messages and receivers, beside each other
+abbrev pub joined : List (List Message) → List (List ℕ) → List ChannelNow
+joined [] lines = []
+joined (ms ∷ messages) [] = []
+joined (ms ∷ messages) (line ∷ lines) = (record { messages = ms; receivers = line }) ∷ joined messages lines
+
+abbrev pub channels_of : Waiting → Lines → Serving → Channels
+channels_of w r s = record { channels = joined w.messages r.lines; triples = s.triples; threads = w.threads }
+
+-- there are as many lines as channels, of as many threads, and all is calm
+pub record AreChannels (w : Waiting) (r : Lines) (s : Serving) : Type 0 where
+  pub size : length w.messages ≡ length r.lines
+  pub threads : r.numbers ≡ w.threads
+  pub servers : s.threads ≡ w.threads
+  pub few : w.threads ≤ 1024
+  pub calm : IsCalm (channels_of w r s)

@@ -1,0 +1,7 @@
+pub mod Channels
+pub mod ChannelsView
+pub mod Lines
+pub mod Links
+pub mod Queues
+pub mod Serving
+pub mod Waiting

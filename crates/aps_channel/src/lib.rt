@@ -1,0 +1,15 @@
+//! Messages between threads: who waits at which channel, and which server works for which client. The scheduler sends,
+//! receives and replies through `Channels`; no call after `new` takes memory, and none walks along what waits.
+#![tactic(auto)]
+
+mod channels;
+mod lines;
+mod links;
+mod outcome;
+mod serving;
+#[cfg(test)]
+mod tests;
+mod waiting;
+
+pub use channels::Channels;
+pub use outcome::{Received, Replied, Sent};
