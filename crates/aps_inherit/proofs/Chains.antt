@@ -1,5 +1,5 @@
 -- Links that stand for a list, as a number comes into it and as one goes.
-use Rattle.std.proofs.Common.{◌≡◌, ◌≢◌, ℕ, zero, suc, ◌+◌, ◌<◌, ◌≤◌, List, [], ◌∷◌, length, sym, ◌∙◌, ap, refl, Bool, true, false, cond, nat_eq, ◌||◌, ◌⊎◌, arith, inl, inr, Option, Some, None, is_some, replicate, slice_index_or, slice_set, length-set}
+use Rattle.std.proofs.Common.{◌≡◌, ◌≢◌, ℕ, zero, suc, ◌+◌, ◌<◌, ◌≤◌, List, [], ◌∷◌, length, sym, ◌∙◌, ap, refl, Bool, true, false, cond, nat_eq, ◌||◌, ◌⊎◌, arith, inl, inr, Option, Some, None, is_some, replicate, slice_set, length-set}
 use Rattle.std.specs.List.{count_by}
 use Rattle.std.proofs.lemmas.List.{get_or-set_same, get_or-set_other, get_or-replicate, get_or_past, length-replicate, set_past}
 use Rattle.std.proofs.lemmas.List.Sums.{sum_by-set, count_by-le-length}
@@ -53,7 +53,8 @@ chain-linked (suc most) links before (x ∷ xs) places apart few =
     ap (λ (o : Option ℕ). x ∷ chain most links o) here ∙ ap (λ l. x ∷ l) (chain-linked most links (Some x) xs later apart.1 (omega arith))
   where
     here : after_link (link_at links x) ≡ first_of xs
-    here = ap after_link (places x (has-here x x xs refl) ∙ ap (λ b. cond b (Some (record { before = before; after = first_of xs })) (link_in (Some x) xs x)) (test_eq x x refl))
+    here = ap after_link (places x (has-here x x xs refl) ∙ ap
+        (λ b. cond b (Some (record { before = before; after = first_of xs })) (link_in (Some x) xs x)) (test_eq x x refl))
 
     later : (y : ℕ) → has xs y ≡ true → link_at links y ≡ link_in (Some x) xs y
     later y there =
@@ -64,7 +65,8 @@ chain-linked (suc most) links before (x ∷ xs) places apart few =
 pub listed-linked : (links : List (Option Link)) (first : Option ℕ) (xs : List ℕ) → IsLinked links first xs → listed links first ≡ xs
 listed-linked links first xs h =
     ap (λ (o : Option ℕ). listed links o) h.begins
-    ∙ chain-linked (length links) links None xs (λ y _. h.places y) h.apart (omega (arith, h.count, count_by-le-length {X = Option Link} is_some links))
+    ∙ chain-linked (length links) links None xs (λ y _. h.places y) h.apart
+    (omega (arith, h.count, count_by-le-length {X = Option Link} is_some links))
 
 pub IsLinked-listed : (links : List (Option Link)) (first : Option ℕ) (xs : List ℕ) → IsLinked links first xs
     → IsLinked links first (listed links first)
@@ -104,11 +106,13 @@ first_is : (xs : List ℕ) (a : ℕ) → first_of xs ≡ Some a → has xs a ≡
 first_is [] a e = cc
 first_is (x ∷ xs) a e = has-here x a xs (some_same x a e)
 
-after_is : (before : Option ℕ) (xs : List ℕ) (y a : ℕ) (link : Link) → link_in before xs y ≡ Some link → link.after ≡ Some a → has xs a ≡ true
+after_is : (before : Option ℕ) (xs : List ℕ) (y a : ℕ) (link : Link) → link_in before xs y ≡ Some link → link.after ≡ Some a
+    → has xs a ≡ true
 after_is before [] y a link e n = cc
 after_is before (x ∷ xs) y a link e n = elim (cases_eq x y) [
   | inl is ↦
-      let link_is : link ≡ record { before = before; after = first_of xs } = some_same link (record { before = before; after = first_of xs }) (sym e ∙ link_in-here before x y xs is) in
+      let link_is : link ≡ record { before = before; after = first_of xs } =
+      some_same link (record { before = before; after = first_of xs }) (sym e ∙ link_in-here before x y xs is) in
       more (first_is xs a (sym (ap (λ (l : Link). l.after) link_is) ∙ n))
   | inr ne ↦ more (after_is (Some x) xs y a link (sym (link_in-past before x y xs ne) ∙ e) n)
 ]
@@ -121,11 +125,13 @@ after_is before (x ∷ xs) y a link e n = elim (cases_eq x y) [
     more h = either (nat_eq x a) (has xs a) h
 
 -- what stands before a number that isn't the first is there
-before_is : (first : ℕ) (xs : List ℕ) (y b : ℕ) (link : Link) → link_in (Some first) xs y ≡ Some link → link.before ≡ Some b → has (first ∷ xs) b ≡ true
+before_is : (first : ℕ) (xs : List ℕ) (y b : ℕ) (link : Link) → link_in (Some first) xs y ≡ Some link → link.before ≡ Some b
+    → has (first ∷ xs) b ≡ true
 before_is first [] y b link e n = cc
 before_is first (x ∷ xs) y b link e n = elim (cases_eq x y) [
   | inl is ↦
-      let link_is : link ≡ record { before = Some first; after = first_of xs } = some_same link (record { before = Some first; after = first_of xs }) (sym e ∙ link_in-here (Some first) x y xs is) in
+      let link_is : link ≡ record { before = Some first; after = first_of xs } =
+      some_same link (record { before = Some first; after = first_of xs }) (sym e ∙ link_in-here (Some first) x y xs is) in
       has-here first b (x ∷ xs) (some_same first b (sym (ap (λ (l : Link). l.before) link_is) ∙ n))
   | inr ne ↦ either (nat_eq first b) (has (x ∷ xs) b) (before_is x xs y b link (sym (link_in-past (Some first) x y xs ne) ∙ e) n)
 ]
@@ -143,9 +149,11 @@ link_at-write links put none x y = elim (cases_lt x (length links)) [
   | inr past ↦ ap (λ l. link_at l y) (set_past links x (put (link_at links x)) past) ∙ outside past (cases_eq x y)
 ]
   where
-    same : ((x ≡ y) ⊎ (x ≢ y)) → cond (nat_eq x y) (put (link_at links x)) (link_at links y) ≡ cond (nat_eq x y) (put (link_at links y)) (link_at links y)
+    same : ((x ≡ y) ⊎ (x ≢ y)) → cond (nat_eq x y) (put (link_at links x)) (link_at links y)
+        ≡ cond (nat_eq x y) (put (link_at links y)) (link_at links y)
     same (inl e) = ap (λ n. cond (nat_eq x y) (put (link_at links n)) (link_at links y)) e
-    same (inr ne) = ap (λ b. cond b (put (link_at links x)) (link_at links y)) (test_ne x y ne) ∙ sym (ap (λ b. cond b (put (link_at links y)) (link_at links y)) (test_ne x y ne))
+    same (inr ne) = ap (λ b. cond b (put (link_at links x)) (link_at links y)) (test_ne x y ne)
+        ∙ sym (ap (λ b. cond b (put (link_at links y)) (link_at links y)) (test_ne x y ne))
 
     outside : length links ≤ x → ((x ≡ y) ⊎ (x ≢ y)) → link_at links y ≡ cond (nat_eq x y) (put (link_at links y)) (link_at links y)
     outside past (inl e) =
@@ -186,7 +194,8 @@ at-with_after : (links : List (Option Link)) (x after : Option ℕ) (y : ℕ)
 at-with_after links None after y = refl
 at-with_after links (Some x) after y = link_at-write links (λ o. put_after o after) refl x y
 
-count-with_before : (links : List (Option Link)) (x before : Option ℕ) → count_by is_some (with_before links x before) ≡ count_by is_some links
+count-with_before : (links : List (Option Link)) (x before : Option ℕ)
+    → count_by is_some (with_before links x before) ≡ count_by is_some links
 count-with_before links None before = refl
 count-with_before links (Some x) before = count-write links (λ o. put_before o before) (put_before-there before) x
 
@@ -209,7 +218,9 @@ second_is : (x : ℕ) (xs : List ℕ) (y : ℕ)
 second_is x [] y = refl
 second_is x (z ∷ zs) y = by (nat_eq z y)
   where
-    by : (b : Bool) → cond b (put_before (cond b (Some (record { before = None; after = first_of zs })) (link_in (Some z) zs y)) (Some x)) (cond b (Some (record { before = None; after = first_of zs })) (link_in (Some z) zs y))
+    by : (b : Bool) → cond b
+        (put_before (cond b (Some (record { before = None; after = first_of zs })) (link_in (Some z) zs y)) (Some x))
+        (cond b (Some (record { before = None; after = first_of zs })) (link_in (Some z) zs y))
         ≡ cond b (Some (record { before = Some x; after = first_of zs })) (link_in (Some z) zs y)
     by true = refl
     by false = refl
@@ -258,7 +269,8 @@ IsLinked-first links first xs x h new lt = record {
     added : (a b k n : ℕ) → a + n ≡ b + 1 → n ≡ 0 → b ≡ k → suc k ≡ a
     added a b k n e none same = omega arith
 
-    counted : count_by is_some (slice_set moved x link) + cond (is_some (link_at moved x)) 1 0 ≡ count_by is_some moved + cond (is_some link) 1 0
+    counted : count_by is_some (slice_set moved x link) + cond (is_some (link_at moved x)) 1 0
+        ≡ count_by is_some moved + cond (is_some link) 1 0
     counted = count-set moved x link inside_moved
 
 -- ---- a number goes
@@ -282,13 +294,15 @@ mended-none p y = by (is_at p.before y) (is_at p.after y)
 mended-tests : (p : Link) (y : ℕ) (o : Option Link) (s t : Bool) → is_at p.before y ≡ s → is_at p.after y ≡ t
     → mended p y o ≡ cond s (put_after (cond t (put_before o p.before) o) p.after) (cond t (put_before o p.before) o)
 mended-tests p y o s t e f =
-    ap (λ b. cond b (put_after (cond (is_at p.after y) (put_before o p.before) o) p.after) (cond (is_at p.after y) (put_before o p.before) o)) e
+    ap (λ b. cond b (put_after (cond (is_at p.after y) (put_before o p.before) o) p.after)
+    (cond (is_at p.after y) (put_before o p.before) o)) e
     ∙ ap (λ b. cond s (put_after (cond b (put_before o p.before) o) p.after) (cond b (put_before o p.before) o)) f
 
 mended-there : (p : Link) (y : ℕ) (o : Option Link) → is_some (mended p y o) ≡ is_some o
 mended-there p y o = by (is_at p.before y) (is_at p.after y) o
   where
-    by : (s t : Bool) (o : Option Link) → is_some (cond s (put_after (cond t (put_before o p.before) o) p.after) (cond t (put_before o p.before) o)) ≡ is_some o
+    by : (s t : Bool) (o : Option Link)
+        → is_some (cond s (put_after (cond t (put_before o p.before) o) p.after) (cond t (put_before o p.before) o)) ≡ is_some o
     by true true None = refl
     by true false None = refl
     by false true None = refl
@@ -310,7 +324,7 @@ first_goes before z (u ∷ us) y free = elim (cases_eq u y) [
   | inl is ↦
       link_in-here before u y us is
       ∙ sym (mended-tests q y (Some (record { before = Some z; after = first_of us })) false true
-        (is_not_at before y (λ b e f. has_ne (u ∷ us) u b (has-here u u us refl) (free b e) (is ∙ sym f))) (test_eq u y is))
+      (is_not_at before y (λ b e f. has_ne (u ∷ us) u b (has-here u u us refl) (free b e) (is ∙ sym f))) (test_eq u y is))
       ∙ ap (λ o. mended q y o) (sym (link_in-here (Some z) u y us is))
   | inr ne ↦
       link_in-past before u y us ne
@@ -328,18 +342,21 @@ first_goes before z (u ∷ us) y free = elim (cases_eq u y) [
     beyond None e f = unmended (link_in (Some u) us y) false refl (ap (λ o. is_at o y) (sym e)) f
     beyond (Some b) e f = elim (cases_eq b y) [
       | inl is ↦
-          let gone : link_in (Some u) us y ≡ None = link_in-absent (Some u) us y (ap (has us) (sym is) ∙ tail_has_not u b us (free b (sym e))) in
+          let gone : link_in (Some u) us y ≡ None =
+          link_in-absent (Some u) us y (ap (has us) (sym is) ∙ tail_has_not u b us (free b (sym e))) in
           gone ∙ sym (mended-none q y) ∙ ap (λ o. mended q y o) (sym gone)
       | inr ne ↦ unmended (link_in (Some u) us y) false refl (ap (λ o. is_at o y) (sym e) ∙ test_ne b y ne) f
     ]
 
 -- one behind the first goes
 later_goes : (before : Option ℕ) (z : ℕ) (zs : List ℕ) (x : ℕ) (p : Link) → has zs z ≡ false → link_in (Some z) zs x ≡ Some p
-    → let o : Option Link = Some (record { before = before; after = first_of (without zs x) }) in o ≡ mended p z (Some (record { before = before; after = first_of zs }))
+    → let o : Option Link = Some (record { before = before; after = first_of (without zs x) }) in o
+    ≡ mended p z (Some (record { before = before; after = first_of zs }))
 later_goes before z [] x p new e = cc
 later_goes before z (u ∷ us) x p new e = elim (cases_eq u x) [
   | inl is ↦
-      let p_is : p ≡ record { before = Some z; after = first_of us } = some_same p (record { before = Some z; after = first_of us }) (sym e ∙ link_in-here (Some z) u x us is) in
+      let p_is : p ≡ record { before = Some z; after = first_of us } =
+      some_same p (record { before = Some z; after = first_of us }) (sym e ∙ link_in-here (Some z) u x us is) in
       let at_z : is_at p.before z ≡ true = ap (λ (l : Link). is_at l.before z) p_is ∙ test_eq z z refl in
       ap (λ l. Some (record { before = before; after = first_of l })) (without-here u x us is)
       ∙ ap (λ (l : Link). Some (record { before = before; after = l.after })) (sym p_is)
@@ -359,7 +376,8 @@ link_in-without : (before : Option ℕ) (xs : List ℕ) (x : ℕ) (p : Link) →
 link_in-without before [] x p apart free e y ne = cc
 link_in-without before (z ∷ zs) x p apart free e y ne = elim (cases_eq z x) [
   | inl is ↦
-      let p_is : p ≡ record { before = before; after = first_of zs } = some_same p (record { before = before; after = first_of zs }) (sym e ∙ link_in-here before z x zs is) in
+      let p_is : p ≡ record { before = before; after = first_of zs } =
+      some_same p (record { before = before; after = first_of zs }) (sym e ∙ link_in-here before z x zs is) in
       ap (λ l. link_in before l y) (without-here z x zs is)
       ∙ first_goes before z zs y (λ b f. tail_has_not z b zs (free b f))
       ∙ ap (λ (q : Link). mended q y (link_in (Some z) zs y)) (sym p_is)
@@ -385,7 +403,8 @@ link_in-without before (z ∷ zs) x p apart free e y ne = elim (cases_eq z x) [
 before_some : (first : ℕ) (xs : List ℕ) (y : ℕ) (link : Link) → link_in (Some first) xs y ≡ Some link → is_some link.before ≡ true
 before_some first [] y link e = cc
 before_some first (x ∷ xs) y link e = elim (cases_eq x y) [
-  | inl is ↦ ap (λ (l : Link). is_some l.before) (some_same link (record { before = Some first; after = first_of xs }) (sym e ∙ link_in-here (Some first) x y xs is))
+  | inl is ↦ ap (λ (l : Link). is_some l.before)
+      (some_same link (record { before = Some first; after = first_of xs }) (sym e ∙ link_in-here (Some first) x y xs is))
   | inr ne ↦ before_some x xs y link (sym (link_in-past (Some first) x y xs ne) ∙ e)
 ]
 
@@ -393,7 +412,8 @@ next_first-without : (xs : List ℕ) (x : ℕ) (p : Link) → link_in None xs x 
 next_first-without [] x p e = cc
 next_first-without (z ∷ zs) x p e = elim (cases_eq z x) [
   | inl is ↦
-      let p_is : p ≡ record { before = None; after = first_of zs } = some_same p (record { before = None; after = first_of zs }) (sym e ∙ link_in-here None z x zs is) in
+      let p_is : p ≡ record { before = None; after = first_of zs } =
+      some_same p (record { before = None; after = first_of zs }) (sym e ∙ link_in-here None z x zs is) in
       ap (next_first (Some z)) p_is ∙ ap first_of (sym (without-here z x zs is))
   | inr past ↦
       ap (λ b. cond b (Some z) p.after) (before_some z zs x p (sym (link_in-past None z x zs past) ∙ e))
@@ -408,7 +428,8 @@ IsLinked-without links first xs x p h e = record {
   places = λ y. link_at-set moved x y None inside_moved ∙ by y (cases_eq x y);
   apart = AreApart-without xs x h.apart;
   count =
-      gone (count_by is_some (slice_set moved x None)) (count_by is_some moved) (length xs) (length (without xs x)) (one (is_some (link_at moved x)))
+      gone (count_by is_some (slice_set moved x None)) (count_by is_some moved) (length xs) (length (without xs x))
+      (one (is_some (link_at moved x)))
       (count-set moved x None inside_moved) was_there (kept_count ∙ sym h.count) (length-without xs x (has-linked None xs x p linked));
   size = length-set moved x None ∙ kept_length ∙ h.size;
 }
@@ -461,7 +482,8 @@ pub after_in-link : (before : Option ℕ) (xs : List ℕ) (y : ℕ) → after_li
 after_in-link before [] y = refl
 after_in-link before (x ∷ xs) y = by (nat_eq x y) ∙ ap (λ (o : Option ℕ). cond (nat_eq x y) (first_of xs) o) (after_in-link (Some x) xs y)
   where
-    by : (b : Bool) → after_link (cond b (Some (record { before = before; after = first_of xs })) (link_in (Some x) xs y)) ≡ cond b (first_of xs) (after_link (link_in (Some x) xs y))
+    by : (b : Bool) → after_link (cond b (Some (record { before = before; after = first_of xs })) (link_in (Some x) xs y))
+        ≡ cond b (first_of xs) (after_link (link_in (Some x) xs y))
     by true = refl
     by false = refl
 
@@ -478,7 +500,8 @@ IsLinked-none links n e few = record {
   where
     nothing : (y : ℕ) → ((y < n) ⊎ (n ≤ y)) → link_at links y ≡ None
     nothing y (inl lt) = ap (λ l. link_at l y) e ∙ get_or-replicate n y None None lt
-    nothing y (inr past) = ap (λ l. link_at l y) e ∙ get_or_past (replicate n None) y None (omega (arith, length-replicate {A = Option Link} n None))
+    nothing y (inr past) = ap (λ l. link_at l y) e ∙ get_or_past (replicate n None) y None
+        (omega (arith, length-replicate {A = Option Link} n None))
 
 -- ---- what the calls leave, from what their callees say
 

@@ -22,7 +22,8 @@ tops-start : (names : List (List ℕ))
 tops-start [] = refl
 tops-start (name ∷ names) = ap (λ (l : List (Option ℕ)). None ∷ l) (tops-start names)
 
-pub inheritance_of-opening : (scenario : Scenario) (rows : List ThreadRow) (count : ℕ) (own : List Facts) (triples : List Triple) (tops : List (Option ℕ))
+pub inheritance_of-opening : (scenario : Scenario) (rows : List ThreadRow) (count : ℕ) (own : List Facts) (triples : List Triple)
+    (tops : List (Option ℕ))
     → rows ≡ scenario.threads → count ≡ length scenario.channels → own ≡ own_values rows → triples ≡ [] → tops ≡ no_tops count
     → let start : Inheritance = record { own = own; triples = triples; tops = tops } in start ≡ inheritance_of (opening scenario)
 inheritance_of-opening scenario rows count own triples tops e1 e2 e3 e4 e5 =

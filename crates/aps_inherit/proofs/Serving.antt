@@ -1,5 +1,5 @@
 -- Triples in chains: who is found by server and by client, as a triple comes and as one goes.
-use Rattle.std.proofs.Common.{◌≡◌, ◌≢◌, ℕ, suc, ◌+◌, ◌<◌, ◌≤◌, List, [], ◌∷◌, map, length, sym, ◌∙◌, ap, refl, Bool, true, false, cond, nat_eq, ◌||◌, ◌⊎◌, arith, inl, inr, Option, Some, None}
+use Rattle.std.proofs.Common.{◌≡◌, ◌≢◌, ℕ, suc, ◌<◌, ◌≤◌, List, [], ◌∷◌, length, sym, ◌∙◌, ap, refl, Bool, true, false, cond, nat_eq, ◌||◌, ◌⊎◌, arith, inl, inr, Option, Some, None}
 use Rattle.std.proofs.lemmas.Bool.{cases_eq}
 use Rattle.aps_model.specs.SchedulerState.{Triple}
 use Rattle.aps_model.specs.Inherit.{IsFree, IsMade, triple_of, without_server}
@@ -55,9 +55,11 @@ pub IsFree-none : (ts : List Triple) (z : ℕ) → triple_of ts z ≡ None → s
 IsFree-none [] z a b = tt
 IsFree-none (t ∷ older) z a b =
     let no_server : t.server ≢ z = λ e. none_some t (sym a ∙ triple_of-here t older z e) in
-    let no_client : t.client ≢ z = λ e. none_some t.server (sym b ∙ server_of-here t older z e) in
-    (λ e. no_server (sym e), λ e. no_client (sym e),
-      IsFree-none older z (sym (triple_of-past t older z no_server) ∙ a) (sym (server_of-past t older z no_client) ∙ b))
+    let no_client : t.client ≢ z = λ e. none_some t.server (sym b ∙ server_of-here t older z e) in (
+      λ e. no_server (sym e),
+      λ e. no_client (sym e),
+      IsFree-none older z (sym (triple_of-past t older z no_server) ∙ a) (sym (server_of-past t older z no_client) ∙ b),
+    )
 
 -- it is no server's client
 pub client_met : (ts : List Triple) (z x : ℕ) (t : Triple) → IsFree ts z → triple_of ts x ≡ Some t → z ≢ t.client
@@ -109,7 +111,8 @@ triple_of-server (first ∷ older) y x made h =
       | inl e ↦ (first, triple_of-here first older x (some_same first.server x (sym (server_of-here first older y e) ∙ h)), e)
       | inr ne ↦
           let found = triple_of-server older y x made.2 (sym (server_of-past first older y ne) ∙ h) in
-          let other : first.server ≢ x = λ e. none_some found.0 (sym (triple_of-free older first.server made.0) ∙ ap (triple_of older) e ∙ found.1) in
+          let other : first.server ≢ x =
+          λ e. none_some found.0 (sym (triple_of-free older first.server made.0) ∙ ap (triple_of older) e ∙ found.1) in
           (found.0, triple_of-past first older x other ∙ found.1, found.2)
     ]
 
@@ -199,21 +202,23 @@ triple_of-without_same (t ∷ older) x made = elim (cases_eq t.server x) as (λ 
 
 pub triple_of-without_other : (ts : List Triple) (x y : ℕ) → x ≢ y → triple_of (without_server ts x) y ≡ triple_of ts y
 triple_of-without_other [] x y ne = refl
-triple_of-without_other (t ∷ older) x y ne = elim (cases_eq t.server x) as (λ _. triple_of (without_server (t ∷ older) x) y ≡ triple_of (t ∷ older) y) [
-  | inl e ↦
-      ap (λ l. triple_of l y) (without_server-here t older x e)
-      ∙ sym (triple_of-past t older y (λ f. ne (sym e ∙ f)))
-  | inr past ↦
-      ap (λ l. triple_of l y) (without_server-past t older x past)
-      ∙ ap (λ (o : Option Triple). cond (nat_eq t.server y) (Some t) o) (triple_of-without_other older x y ne)
-]
+triple_of-without_other (t ∷ older) x y ne = elim (cases_eq t.server x) as
+    (λ _. triple_of (without_server (t ∷ older) x) y ≡ triple_of (t ∷ older) y) [
+      | inl e ↦
+          ap (λ l. triple_of l y) (without_server-here t older x e)
+          ∙ sym (triple_of-past t older y (λ f. ne (sym e ∙ f)))
+      | inr past ↦
+          ap (λ l. triple_of l y) (without_server-past t older x past)
+          ∙ ap (λ (o : Option Triple). cond (nat_eq t.server y) (Some t) o) (triple_of-without_other older x y ne)
+    ]
 
 -- the client of the triple that goes has no server then, and every other thread has its own
 pub server_of-without : (ts : List Triple) (x y : ℕ) (t : Triple) → AreServedOnce ts → triple_of ts x ≡ Some t
     → server_of (without_server ts x) y ≡ cond (nat_eq t.client y) None (server_of ts y)
 server_of-without [] x y t once h = absurd (none_some t h)
 server_of-without (first ∷ older) x y t once h =
-    elim (cases_eq first.server x) as (λ _. server_of (without_server (first ∷ older) x) y ≡ cond (nat_eq t.client y) None (server_of (first ∷ older) y)) [
+    elim (cases_eq first.server x) as
+    (λ _. server_of (without_server (first ∷ older) x) y ≡ cond (nat_eq t.client y) None (server_of (first ∷ older) y)) [
       | inl e ↦
           let same : t ≡ first = some_same t first (sym h ∙ triple_of-here first older x e) in
           ap (λ l. server_of l y) (without_server-here first older x e)
@@ -229,31 +234,35 @@ server_of-without (first ∷ older) x y t once h =
     ]
   where
     goes : ((first.client ≡ y) ⊎ (first.client ≢ y)) → server_of older y ≡ cond (nat_eq first.client y) None (server_of (first ∷ older) y)
-    goes (inl e) = ap (server_of older) (sym e) ∙ once.0 ∙ sym (ap (λ b. cond b None (server_of (first ∷ older) y)) (test_eq first.client y e))
-    goes (inr ne) = sym (server_of-past first older y ne) ∙ sym (ap (λ b. cond b None (server_of (first ∷ older) y)) (test_ne first.client y ne))
+    goes (inl e) = ap (server_of older) (sym e) ∙ once.0 ∙ sym
+        (ap (λ b. cond b None (server_of (first ∷ older) y)) (test_eq first.client y e))
+    goes (inr ne) = sym (server_of-past first older y ne) ∙ sym
+        (ap (λ b. cond b None (server_of (first ∷ older) y)) (test_ne first.client y ne))
 
     swapped : first.client ≢ t.client → ((first.client ≡ y) ⊎ (first.client ≢ y))
         → cond (nat_eq first.client y) (Some first.server) (cond (nat_eq t.client y) None (server_of older y))
         ≡ cond (nat_eq t.client y) None (cond (nat_eq first.client y) (Some first.server) (server_of older y))
     swapped apart (inl e) =
         ap (λ b. cond b (Some first.server) (cond (nat_eq t.client y) None (server_of older y))) (test_eq first.client y e)
-        ∙ sym (ap (λ b. cond b None (cond (nat_eq first.client y) (Some first.server) (server_of older y))) (test_ne t.client y (λ f. apart (e ∙ sym f)))
-          ∙ ap (λ b. cond b (Some first.server) (server_of older y)) (test_eq first.client y e))
+        ∙ sym (ap (λ b. cond b None (cond (nat_eq first.client y) (Some first.server) (server_of older y)))
+        (test_ne t.client y (λ f. apart (e ∙ sym f)))
+        ∙ ap (λ b. cond b (Some first.server) (server_of older y)) (test_eq first.client y e))
     swapped apart (inr ne) =
         ap (λ b. cond b (Some first.server) (cond (nat_eq t.client y) None (server_of older y))) (test_ne first.client y ne)
         ∙ sym (ap (λ b. cond (nat_eq t.client y) None (cond b (Some first.server) (server_of older y))) (test_ne first.client y ne))
 
 pub servers-without : (ts : List Triple) (x : ℕ) → without (servers ts) x ≡ servers (without_server ts x)
 servers-without [] x = refl
-servers-without (t ∷ older) x = elim (cases_eq t.server x) as (λ _. without (servers (t ∷ older)) x ≡ servers (without_server (t ∷ older) x)) [
-  | inl e ↦
-      ap (λ b. cond b (servers older) (t.server ∷ without (servers older) x)) (test_eq t.server x e)
-      ∙ ap servers (sym (without_server-here t older x e))
-  | inr ne ↦
-      ap (λ b. cond b (servers older) (t.server ∷ without (servers older) x)) (test_ne t.server x ne)
-      ∙ ap (λ l. t.server ∷ l) (servers-without older x)
-      ∙ ap servers (sym (without_server-past t older x ne))
-]
+servers-without (t ∷ older) x = elim (cases_eq t.server x) as
+    (λ _. without (servers (t ∷ older)) x ≡ servers (without_server (t ∷ older) x)) [
+      | inl e ↦
+          ap (λ b. cond b (servers older) (t.server ∷ without (servers older) x)) (test_eq t.server x e)
+          ∙ ap servers (sym (without_server-here t older x e))
+      | inr ne ↦
+          ap (λ b. cond b (servers older) (t.server ∷ without (servers older) x)) (test_ne t.server x ne)
+          ∙ ap (λ l. t.server ∷ l) (servers-without older x)
+          ∙ ap servers (sym (without_server-past t older x ne))
+    ]
 
 pub without_server-absent : (ts : List Triple) (x : ℕ) → triple_of ts x ≡ None → ts ≡ without_server ts x
 without_server-absent [] x h = refl

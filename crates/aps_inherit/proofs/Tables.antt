@@ -1,16 +1,16 @@
 -- The order and the rows that stand for triples, as a triple comes and as one goes.
-use Rattle.std.proofs.Common.{◌≡◌, ◌≢◌, ℕ, ◌<◌, ◌≤◌, List, [], ◌∷◌, map, length, sym, ◌∙◌, ap, refl, Bool, true, false, cond, nat_eq, ◌||◌, ◌⊎◌, arith, inl, inr, Option, Some, None, unwrap_or, replicate, slice_index_or, slice_set}
-use Rattle.std.proofs.lemmas.Bool.{cases_eq, cases_lt}
-use Rattle.std.proofs.lemmas.List.{get_or-set_same, get_or-set_other, get_or-replicate, get_or_past, length-replicate, length-set}
+use Rattle.std.proofs.Common.{◌≡◌, ◌≢◌, ℕ, ◌<◌, ◌≤◌, List, [], ◌∷◌, length, sym, ◌∙◌, ap, refl, Bool, true, false, cond, nat_eq, ◌||◌, ◌⊎◌, arith, inl, inr, Option, Some, None, unwrap_or, slice_index_or, slice_set}
+use Rattle.std.proofs.lemmas.Bool.{cases_eq}
+use Rattle.std.proofs.lemmas.List.{get_or-set_same, get_or-set_other, length-set}
 use Rattle.aps_model.specs.SchedulerState.{Triple}
-use Rattle.aps_model.specs.Inherit.{IsFree, IsMade, triple_of, without_server}
+use Rattle.aps_model.specs.Inherit.{IsFree, triple_of, without_server}
 use Rattle.aps_inherit.specs.Order.{AreApart, has, without}
-use Rattle.aps_inherit.specs.Serving.{AreChains, AreServedOnce, server_of, servers}
+use Rattle.aps_inherit.specs.Serving.{server_of, servers}
 use Rattle.aps_inherit.specs.Table.{IsTable, no_triple, tabled}
-use Rattle.aps_inherit.proofs.Ordering.{has_ne, head_ne, tail_has_not, test_eq, test_ne}
-use Rattle.aps_inherit.proofs.Serving.{AreApart-servers, AreChains-without, server_of-without, servers-without, triple_of-free, triple_of-here, triple_of-past, triple_of-without_other, triple_of-without_same}
+use Rattle.aps_inherit.proofs.Ordering.{has_ne, test_eq, test_ne}
+use Rattle.aps_inherit.proofs.Serving.{AreApart-servers, AreChains-without, server_of-without, servers-without, triple_of-here, triple_of-past, triple_of-without_other, triple_of-without_same}
 
-pub row-set : {A : Type 0} (rows : List (Option A)) (x y : ℕ) (v : Option A) → x < length rows
+row-set : {A : Type 0} (rows : List (Option A)) (x y : ℕ) (v : Option A) → x < length rows
     → slice_index_or (slice_set rows x v) y None ≡ cond (nat_eq x y) v (slice_index_or rows y None)
 row-set rows x y v inside = elim (cases_eq x y) [
   | inl e ↦
@@ -20,12 +20,6 @@ row-set rows x y v inside = elim (cases_eq x y) [
   | inr ne ↦
       get_or-set_other rows x y v None (λ e. ne (sym e))
       ∙ sym (ap (λ b. cond b v (slice_index_or rows y None)) (test_ne x y ne))
-]
-
-pub row-none : {A : Type 0} (rows : List (Option A)) (n x : ℕ) → rows ≡ replicate n None → slice_index_or rows x None ≡ None
-row-none {A = A} rows n x e = elim (cases_lt x n) [
-  | inl lt ↦ ap (λ l. slice_index_or l x None) e ∙ get_or-replicate n x None None lt
-  | inr past ↦ ap (λ l. slice_index_or l x None) e ∙ get_or_past (replicate n None) x None (omega (arith, length-replicate {A = Option A} n None))
 ]
 
 -- ---- the triples that rows stand for
@@ -39,7 +33,8 @@ tabled-rows by_server (t ∷ older) rows apart =
     ∙ ap (λ l. t ∷ l) (tabled-rows by_server older later apart.1)
   where
     here : slice_index_or by_server t.server None ≡ Some t
-    here = rows t.server (ap (λ b. b || has (servers older) t.server) (test_eq t.server t.server refl)) ∙ triple_of-here t older t.server refl
+    here = rows t.server (ap (λ b. b || has (servers older) t.server) (test_eq t.server t.server refl))
+        ∙ triple_of-here t older t.server refl
 
     more : (b c : Bool) → c ≡ true → (b || c) ≡ true
     more true c h = refl
@@ -58,17 +53,6 @@ tabled-table order by_server by_client ts h =
 pub IsTable-tabled : (order : List ℕ) (by_server : List (Option Triple)) (by_client : List (Option ℕ)) (ts : List Triple)
     → IsTable order by_server by_client ts → IsTable order by_server by_client (tabled by_server order)
 IsTable-tabled order by_server by_client ts h = rw (tabled-table order by_server by_client ts h) h
-
-pub IsTable-none : (order : List ℕ) (by_server : List (Option Triple)) (by_client : List (Option ℕ)) (n : ℕ)
-    → order ≡ [] → by_server ≡ replicate n None → by_client ≡ replicate n None → n ≡ 1024 → IsTable order by_server by_client []
-IsTable-none order by_server by_client n e1 e2 e3 few = record {
-  ordered = e1;
-  rows = λ x. row-none by_server n x e2;
-  above = λ x. row-none by_client n x e3;
-  chains = record { made = tt; once = tt };
-  rows_size = ap length e2 ∙ length-replicate n None ∙ few;
-  above_size = ap length e3 ∙ length-replicate n None ∙ few;
-}
 
 -- ---- a triple comes
 
@@ -98,7 +82,8 @@ IsTable-add order order' by_server by_client ts t server server_place client_pla
 
 -- ---- a triple goes
 
-pub IsTable-without : (order order' : List ℕ) (by_server : List (Option Triple)) (by_client : List (Option ℕ)) (ts : List Triple) (x : ℕ) (t : Triple)
+pub IsTable-without : (order order' : List ℕ) (by_server : List (Option Triple)) (by_client : List (Option ℕ)) (ts : List Triple)
+    (x : ℕ) (t : Triple)
     (server_place client_place : ℕ)
     → IsTable order by_server by_client (tabled by_server order) → tabled by_server order ≡ ts
     → triple_of ts x ≡ Some t → order' ≡ without order x

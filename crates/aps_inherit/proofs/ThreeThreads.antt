@@ -18,7 +18,17 @@ use Rattle.aps_model.specs.Scenario.{Scenario}
 use Rattle.aps_model.specs.Valid.{IsScenario, IsThreadRow, IsCommand, joinable}
 
 abbrev pub shape : Shape
-shape = record { parts = 100; cpus = 1; tick = 1000000; window = 10; ticks = 2; call_ns = 1000; free = Priority; limit = false; bankruptcy = Basic }
+shape = record {
+  parts = 100;
+  cpus = 1;
+  tick = 1000000;
+  window = 10;
+  ticks = 2;
+  call_ns = 1000;
+  free = Priority;
+  limit = false;
+  bankruptcy = Basic;
+}
 
 abbrev pub whole : List ℕ → PartitionRow
 whole name = record { name = name; parent = 0; budget = 100; critical = 0; max = 100 }
@@ -27,7 +37,13 @@ abbrev pub endless : List ℕ → ℕ → ThreadRow
 endless name priority = record { name = name; partition = 0; priority = priority; policy = Fifo; critical = false; program = Forever ∷ [] }
 
 abbrev pub of_rows : List PartitionRow → List (List ℕ) → List ThreadRow → List CommandRow → Scenario
-of_rows rows channels threads commands = record { shape = shape; partitions = rows; channels = channels; threads = threads; commands = commands }
+of_rows rows channels threads commands = record {
+  shape = shape;
+  partitions = rows;
+  channels = channels;
+  threads = threads;
+  commands = commands;
+}
 
 abbrev rows : List PartitionRow
 rows = whole (codes "System") ∷ []
@@ -66,19 +82,50 @@ three_threads_valid = record {
     parents = λ i some below. absurd (omega (arith, some, below));
     names = (tt, tt);
     funded = record {
-      each = All-from_recursion (IsFundedRow 100) rows (record { name = record { some = omega arith; few = omega arith; bytes = refl }; budget = omega arith; max = omega arith; critical = omega arith }, tt);
+      each = All-from_recursion (IsFundedRow 100) rows (
+        record {
+          name = record { some = omega arith; few = omega arith; bytes = refl };
+          budget = omega arith;
+          max = omega arith;
+          critical = omega arith;
+        },
+        tt,
+      );
       budgets = refl;
     };
     subtrees = only_zero _ (omega arith);
   };
   few_channels = omega arith;
-  channels = All-from_recursion IsName channels (record { some = omega arith; few = omega arith; bytes = refl }, (record { some = omega arith; few = omega arith; bytes = refl }, tt));
+  channels = All-from_recursion IsName channels (
+    record { some = omega arith; few = omega arith; bytes = refl },
+    (record { some = omega arith; few = omega arith; bytes = refl }, tt),
+  );
   channel_names = ((refl, tt), (tt, tt));
   few_threads = omega arith;
   threads = All-from_recursion (IsThreadRow 1 2 names) threads (
-    record { name = record { some = omega arith; few = omega arith; bytes = refl }; partition = omega arith; priority = record { some = omega arith; few = omega arith }; program = forever },
-    (record { name = record { some = omega arith; few = omega arith; bytes = refl }; partition = omega arith; priority = record { some = omega arith; few = omega arith }; program = forever },
-    (record { name = record { some = omega arith; few = omega arith; bytes = refl }; partition = omega arith; priority = record { some = omega arith; few = omega arith }; program = forever }, tt)),
+    record {
+      name = record { some = omega arith; few = omega arith; bytes = refl };
+      partition = omega arith;
+      priority = record { some = omega arith; few = omega arith };
+      program = forever;
+    },
+    (
+      record {
+        name = record { some = omega arith; few = omega arith; bytes = refl };
+        partition = omega arith;
+        priority = record { some = omega arith; few = omega arith };
+        program = forever;
+      },
+      (
+        record {
+          name = record { some = omega arith; few = omega arith; bytes = refl };
+          partition = omega arith;
+          priority = record { some = omega arith; few = omega arith };
+          program = forever;
+        },
+        tt,
+      ),
+    ),
   );
   thread_names = ((refl, (refl, tt)), ((refl, tt), (tt, tt)));
   few_commands = omega arith;
@@ -91,7 +138,8 @@ three_threads_valid = record {
     forever : IsProgram 2 names (Forever ∷ [])
     forever = record { each = All-from_recursion (IsOp 2 names) (Forever ∷ []) (tt, tt); few = omega arith; ends = refl }
 
-pub parts_valid : (system c d x y z : List ℕ) (row : PartitionRow) (p q r : ThreadRow) (partitions : List PartitionRow) (names : List (List ℕ)) (list : List ThreadRow)
+pub parts_valid : (system c d x y z : List ℕ) (row : PartitionRow) (p q r : ThreadRow) (partitions : List PartitionRow)
+    (names : List (List ℕ)) (list : List ThreadRow)
     (commands : List CommandRow)
     → system ≡ codes "System" → c ≡ codes "c" → d ≡ codes "d" → x ≡ codes "x" → y ≡ codes "y" → z ≡ codes "z"
     → row ≡ whole system → p ≡ endless x 10 → q ≡ endless y 11 → r ≡ endless z 12

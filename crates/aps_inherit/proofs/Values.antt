@@ -1,5 +1,5 @@
 -- Kept values that are right are the inherited ones, and which become wrong as the rest changes.
-use Rattle.std.proofs.Common.{◌≡◌, ◌≢◌, ℕ, zero, suc, ◌+◌, ◌-◌, ◌<◌, ◌≤◌, List, [], ◌∷◌, length, sym, ◌∙◌, ap, refl, Bool, true, false, cond, nat_eq, ◌||◌, ◌&&◌, ◌⊎◌, arith, inl, inr, Option, Some, None, subst, unwrap_or, slice_index_or, slice_set}
+use Rattle.std.proofs.Common.{◌≡◌, ◌≢◌, ℕ, zero, suc, ◌-◌, ◌<◌, List, [], ◌∷◌, length, sym, ◌∙◌, ap, refl, Bool, true, false, cond, nat_eq, ◌||◌, ◌&&◌, ◌⊎◌, arith, inl, inr, Option, Some, None, subst, unwrap_or, slice_index_or, slice_set}
 use Rattle.std.proofs.lemmas.Bool.{cases_eq, or_parts}
 use Rattle.std.proofs.lemmas.List.{get_or-set_same, get_or-set_other}
 use Rattle.aps_model.specs.declared.state.Facts.{Facts}
@@ -19,7 +19,8 @@ client_in (Some t) = Some t.client
 
 -- ---- right values are the inherited ones
 
-by_triple : (i : Inheritance) (kept : List Facts) (x : ℕ) (o : Option Triple) → triple_of i.triples x ≡ o → values_by i kept x ≡ values_with i kept x o
+by_triple : (i : Inheritance) (kept : List Facts) (x : ℕ) (o : Option Triple) → triple_of i.triples x ≡ o
+    → values_by i kept x ≡ values_with i kept x o
 by_triple i kept x o e = ap (values_with i kept x) e
 
 kept_below : (i : Inheritance) (kept : List Facts) → IsMade i.triples → AreRightBut nobody i kept
@@ -28,7 +29,8 @@ kept_below i kept made right zero x low = absurd (omega arith)
 kept_below i kept made right (suc n) x low =
     by (triple_of i.triples x) refl (λ z z_low. kept_below i kept made right n z z_low)
   where
-    by : (o : Option Triple) → triple_of i.triples x ≡ o → ((z : ℕ) → height i.triples z < n → kept_at kept z ≡ inherited i z) → kept_at kept x ≡ inherited i x
+    by : (o : Option Triple) → triple_of i.triples x ≡ o → ((z : ℕ) → height i.triples z < n → kept_at kept z ≡ inherited i z)
+        → kept_at kept x ≡ inherited i x
     by None e more = right x refl ∙ by_triple i kept x None e ∙ sym (inherited-own i x e)
     by (Some t) e more =
         right x refl
@@ -36,7 +38,8 @@ kept_below i kept made right (suc n) x low =
         ∙ ap (raised (top_at i.tops t.channel)) (more t.client (omega (arith, height-client i.triples x t made e)))
         ∙ sym (inherited-server i x t made e)
 
-pub kept_inherited : (i : Inheritance) (kept : List Facts) → IsMade i.triples → AreRightBut nobody i kept → (x : ℕ) → kept_at kept x ≡ inherited i x
+pub kept_inherited : (i : Inheritance) (kept : List Facts) → IsMade i.triples → AreRightBut nobody i kept → (x : ℕ)
+    → kept_at kept x ≡ inherited i x
 kept_inherited i kept made right x = kept_below i kept made right (suc (height i.triples x)) x (omega arith)
 
 -- ---- one thread's values are recomputed
@@ -78,12 +81,14 @@ recomputed i kept y late chains inside right x x_right = elim (cases_eq x y) [
     first_part (Some z) h = (or_parts (nat_eq z x) (late x) h).1
 
     own_server : (t : Triple) → triple_of i.triples y ≡ Some t → t.client ≢ y
-    own_server t f g = lower (height i.triples y) (height i.triples t.client) (height-client i.triples y t chains.made f) (ap (height i.triples) g)
+    own_server t f g = lower (height i.triples y) (height i.triples t.client) (height-client i.triples y t chains.made f)
+        (ap (height i.triples) g)
       where
         lower : (a b : ℕ) → b < a → b ≡ a → ⊥
         lower a b lt e = omega arith
 
-    no_server : (t : Triple) → triple_of i.triples x ≡ Some t → t.client ≡ y → (o : Option ℕ) → server_of i.triples y ≡ o → or_at late o x ≡ false → ⊥
+    no_server : (t : Triple) → triple_of i.triples x ≡ Some t → t.client ≡ y → (o : Option ℕ) → server_of i.triples y ≡ o
+        → or_at late o x ≡ false → ⊥
     no_server t f g o e h = found o (sym e ∙ ap (server_of i.triples) (sym g) ∙ server_of-client i.triples x t chains.once f) h
       where
         found : (o : Option ℕ) → o ≡ Some x → or_at late o x ≡ false → ⊥
@@ -136,7 +141,8 @@ steps_left-above ts x chains = by (server_of ts x) refl
     by None e = omega (arith, height-le ts x)
     by (Some y) e =
         let found = triple_of-server ts x y chains.made e in
-        let higher : height ts x < height ts y = subst (λ z. height ts z < height ts y) found.2 (height-client ts y found.0 chains.made found.1) in
+        let higher : height ts x < height ts y =
+        subst (λ z. height ts z < height ts y) found.2 (height-client ts y found.0 chains.made found.1) in
         omega (arith, height-le ts y)
 
 -- after a step up, or where nothing changed and no step is taken
@@ -152,14 +158,15 @@ settled_by i kept x true late chains inside equal right = unchanged i kept x lat
 settled_by i kept x false late chains inside equal right = recomputed i kept x late chains inside right
 
 -- a step of the walk up, from what its callees say
-pub settled_step : (i : Inheritance) (kept kept' : List Facts) (x : ℕ) (values there : Facts) (same : Bool) (now above next : Option ℕ) (late : ℕ → Bool)
+pub settled_step : (i : Inheritance) (kept kept' : List Facts) (x : ℕ) (values there : Facts) (same : Bool)
+    (now above next : Option ℕ) (late : ℕ → Bool)
     → AreChains i.triples → now ≡ Some x → x < length kept → values ≡ values_by i kept x → there ≡ kept_at kept x
     → (same ≡ true → values ≡ there) → above ≡ server_of i.triples x → next ≡ cond same None above → kept' ≡ slice_set kept x values
     → AreRightBut (or_at late now) i kept → AreRightBut (or_at late next) i kept'
 settled_step i kept kept' x values there same now above next late chains e1 inside e2 e3 equal e4 e5 e6 right =
     rw (e6, e5, e4, e2)
     (settled_by i kept x same late chains inside (λ e. sym e2 ∙ equal e ∙ e3)
-      (let P : Option ℕ → Type 0 = λ o. AreRightBut (or_at late o) i kept in subst P e1 right))
+    (let P : Option ℕ → Type 0 = λ o. AreRightBut (or_at late o) i kept in subst P e1 right))
 
 -- ---- what stays right as the rest changes
 
@@ -168,7 +175,8 @@ pub right-add : (i : Inheritance) (kept : List Facts) (t : Triple) → AreRightB
     → AreRightBut (or_at nobody (Some t.server)) (record i { triples = t ∷ i.triples }) kept
 right-add i kept t right x x_right =
     let ne : t.server ≢ x = ne_from_test t.server x (or_parts (nat_eq t.server x) false x_right).0 in
-    right x refl ∙ same (triple_of i.triples x) ∙ ap (values_with (record i { triples = t ∷ i.triples }) kept x) (sym (triple_of-past t i.triples x ne))
+    right x refl ∙ same (triple_of i.triples x) ∙ ap (values_with (record i { triples = t ∷ i.triples }) kept x)
+    (sym (triple_of-past t i.triples x ne))
   where
     same : (o : Option Triple) → values_with i kept x o ≡ values_with (record i { triples = t ∷ i.triples }) kept x o
     same None = refl
@@ -179,7 +187,8 @@ pub right-without : (i : Inheritance) (kept : List Facts) (s : ℕ) → AreRight
     → AreRightBut (or_at nobody (Some s)) (record i { triples = without_server i.triples s }) kept
 right-without i kept s right x x_right =
     let ne : s ≢ x = ne_from_test s x (or_parts (nat_eq s x) false x_right).0 in
-    right x refl ∙ same (triple_of i.triples x) ∙ ap (values_with (record i { triples = without_server i.triples s }) kept x) (sym (triple_of-without_other i.triples s x ne))
+    right x refl ∙ same (triple_of i.triples x) ∙ ap (values_with (record i { triples = without_server i.triples s }) kept x)
+    (sym (triple_of-without_other i.triples s x ne))
   where
     same : (o : Option Triple) → values_with i kept x o ≡ values_with (record i { triples = without_server i.triples s }) kept x o
     same None = refl
@@ -201,7 +210,8 @@ pub right-top : (i : Inheritance) (kept : List Facts) (c : ℕ) (top : Option �
     → let j : Inheritance = record i { tops = slice_set i.tops c top } in AreRightBut (serves_by j c) j kept
 right-top i kept c top right x x_right = right x refl ∙ same (triple_of i.triples x) x_right
   where
-    same : (o : Option Triple) → is_by o c ≡ false → values_with i kept x o ≡ values_with (record i { tops = slice_set i.tops c top }) kept x o
+    same : (o : Option Triple) → is_by o c ≡ false → values_with i kept x o
+        ≡ values_with (record i { tops = slice_set i.tops c top }) kept x o
     same None h = refl
     same (Some u) h =
         ap (λ (o : Option ℕ). raised (unwrap_or o 0) (kept_at kept u.client))
@@ -211,7 +221,8 @@ right-top i kept c top right x x_right = right x refl ∙ same (triple_of i.trip
 pub served_right : (i j : Inheritance) (kept : List Facts) (t : Triple) (server : ℕ) → AreRightBut nobody i kept → t.server ≡ server
     → j ≡ record i { triples = t ∷ i.triples } → AreRightBut (or_at nobody (Some server)) j kept
 served_right i j kept t server right at e =
-    rw e (let P : ℕ → Type 0 = λ n. AreRightBut (or_at nobody (Some n)) (record i { triples = t ∷ i.triples }) kept in subst P at (right-add i kept t right))
+    rw e (let P : ℕ → Type 0 = λ n. AreRightBut (or_at nobody (Some n)) (record i { triples = t ∷ i.triples }) kept in subst P at
+    (right-add i kept t right))
 
 pub ended_right : (i j : Inheritance) (kept : List Facts) (server : ℕ) → AreRightBut nobody i kept
     → j ≡ record i { triples = without_server i.triples server } → AreRightBut (or_at nobody (Some server)) j kept
@@ -259,7 +270,8 @@ pub channel_begins : (i : Inheritance) (kept : List Facts) (c : ℕ) (first : Op
     → AreRightBut (serves_by i c) i kept → AreRightBut (of_channel i c (has (rest_of (servers i.triples) first))) i kept
 channel_begins i kept c first e right = rw (e, rest_of-first (servers i.triples)) (λ x h. right x (by x (has (servers i.triples) x) refl h))
   where
-    by : (x : ℕ) (b : Bool) → has (servers i.triples) x ≡ b → (has (servers i.triples) x && serves_by i c x) ≡ false → serves_by i c x ≡ false
+    by : (x : ℕ) (b : Bool) → has (servers i.triples) x ≡ b → (has (servers i.triples) x && serves_by i c x) ≡ false
+        → serves_by i c x ≡ false
     by x true there h = sym (ap (λ b. b && serves_by i c x) there) ∙ h
     by x false gone h = ap (λ o. is_by o c) (triple_of-has i.triples x gone)
 
@@ -269,7 +281,7 @@ rest_now : (i : Inheritance) (server : ℕ) (now next : Option ℕ) → AreChain
 rest_now i server now next chains e1 there e2 =
     ap (λ (o : Option ℕ). rest_of (servers i.triples) o) e1
     ∙ from_on-next (servers i.triples) server (AreApart-servers i.triples chains.made)
-      (let P : Option ℕ → Type 0 = λ o. IsThere (servers i.triples) o in subst P e1 there)
+    (let P : Option ℕ → Type 0 = λ o. IsThere (servers i.triples) o in subst P e1 there)
     ∙ ap (λ (o : Option ℕ). server ∷ rest_of (servers i.triples) o) (sym e2)
 
 -- the server is done
@@ -281,7 +293,7 @@ pub channel_goes_on : (i : Inheritance) (kept kept' : List Facts) (c server : �
 channel_goes_on i kept kept' c server now next chains e1 there e2 settles right =
     settles (has (rest_of (servers i.triples) next))
     (let P : List ℕ → Type 0 = λ l. AreRightBut (of_channel i c (has l)) i kept in
-      subst P (rest_now i server now next chains e1 there e2) right)
+    subst P (rest_now i server now next chains e1 there e2) right)
 
 pub rest_shrinks : (i : Inheritance) (server : ℕ) (now next : Option ℕ) → AreChains i.triples
     → now ≡ Some server → IsThere (servers i.triples) now → next ≡ after_in (servers i.triples) server
@@ -307,7 +319,8 @@ pub of_channel-settled : (i : Inheritance) (kept kept' : List Facts) (c server :
     → AreRightBut (of_channel i c (or_at late (Some server))) i kept → AreRightBut (of_channel i c late) i kept'
 of_channel-settled i kept kept' c server late settles right = settles (of_channel i c late) (λ x h. right x (by x (cases_eq server x) h))
   where
-    by : (x : ℕ) → ((server ≡ x) ⊎ (server ≢ x)) → (nat_eq server x || (late x && serves_by i c x)) ≡ false → ((nat_eq server x || late x) && serves_by i c x) ≡ false
+    by : (x : ℕ) → ((server ≡ x) ⊎ (server ≢ x)) → (nat_eq server x || (late x && serves_by i c x)) ≡ false
+        → ((nat_eq server x || late x) && serves_by i c x) ≡ false
     by x (inl e) h = absurd (both (sym (ap (λ b. b || (late x && serves_by i c x)) (test_eq server x e)) ∙ h))
       where
         both : true ≡ false → ⊥
@@ -319,7 +332,8 @@ of_channel-settled i kept kept' c server late settles right = settles (of_channe
 
 -- ---- the start
 
-pub right-first : (i : Inheritance) (kept : List Facts) → i.triples ≡ [] → ((x : ℕ) → kept_at kept x ≡ slice_index_or i.own x no_facts) → AreRightBut nobody i kept
+pub right-first : (i : Inheritance) (kept : List Facts) → i.triples ≡ []
+    → ((x : ℕ) → kept_at kept x ≡ slice_index_or i.own x no_facts) → AreRightBut nobody i kept
 right-first i kept none own x h = own x ∙ sym (by_triple i kept x None (ap (λ l. triple_of l x) none))
 
 client_either : (t : Triple) (b : Bool) (p : Option ℕ) (q : Option Triple) → p ≡ client_in q

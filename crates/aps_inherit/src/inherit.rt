@@ -126,7 +126,11 @@ impl Inherit {
         ensures { self.new ≡ with_own self.old x (record (own_of self.old x) { partition = p }) }
     {
         let own = self.own(x);
-        self.set_own(x, Facts { partition: p, ..own });
+        let joined = Facts {
+            partition: p,
+            ..own
+        };
+        self.set_own(x, joined);
     }
 
     /// The thread's own priority is this from now on.
@@ -142,7 +146,11 @@ impl Inherit {
         ensures { self.new ≡ with_own self.old x (record (own_of self.old x) { critical = on }) }
     {
         let own = self.own(x);
-        self.set_own(x, Facts { critical: on, ..own });
+        let marked = Facts {
+            critical: on,
+            ..own
+        };
+        self.set_own(x, marked);
     }
 
     /// The thread's own values are these from now on.

@@ -94,7 +94,8 @@ impl Kept {
     /// Computes the values of the server anew, and of those above it, if it serves by the channel. Whoever's values were
     /// right before, but for this server's where it serves by the channel, has right ones then, and so has this server.
     fn settle_if_by(&mut self, content: &Content, server: ThreadId, c: ChannelId)
-        ensures { let i = content.now in (late : ℕ → Bool) → Mends i self.old self.new (of_channel i c (or_at late (Some server))) (of_channel i c late) }
+        ensures { let i = content.now in (late : ℕ → Bool)
+            → Mends i self.old self.new (of_channel i c (or_at late (Some server))) (of_channel i c late) }
     {
         if content.serves_by(server, c) {
             self.settle(content, server);

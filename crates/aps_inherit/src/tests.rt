@@ -24,7 +24,8 @@ fn row(name: Name) -> PartitionRow
 }
 
 fn thread(alloc: Global, name: Name, priority: u8) -> Result<ThreadRow, NoMemory>
-    ensures { IfOk result (λ t. t ≡ record { name = name; partition = 0; priority = priority; policy = Fifo; critical = false; program = Forever ∷ [] }) }
+    ensures { IfOk result (λ t. t
+        ≡ record { name = name; partition = 0; priority = priority; policy = Fifo; critical = false; program = Forever ∷ [] }) }
 {
     let ops = vec![in alloc; Op::Forever]?;
     Ok(ThreadRow {
@@ -70,7 +71,8 @@ fn begun(alloc: Global) -> Result<Inherit, NoMemory>
 
 /// Thread 2 serves thread 1, which serves thread 0, each by channel 0.
 fn chain(alloc: Global) -> Result<Inherit, NoMemory>
-    ensures { IfOk result (λ inherit. inherit.triples ≡ (record { server = 2; client = 1; channel = 0 }) ∷ (record { server = 1; client = 0; channel = 0 }) ∷ []) }
+    ensures { IfOk result (λ inherit. inherit.triples
+        ≡ (record { server = 2; client = 1; channel = 0 }) ∷ (record { server = 1; client = 0; channel = 0 }) ∷ []) }
 {
     let mut inherit = begun(alloc)?;
     inherit.serve(ThreadId::at(1), ThreadId::at(0), ChannelId::at(0));

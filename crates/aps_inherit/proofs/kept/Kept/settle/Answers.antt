@@ -13,7 +13,7 @@ pub loop-next-smaller : goal.loop-next-smaller
 loop-next-smaller c =
     rw c.in-Some.is
     (steps_left-next c.args.content.now.triples c.in-Some.x c.is_same-same.result c.server_of-above.result c.unless-next.result
-      c.server_of-above.ensures.chains c.server_of-above.ensures.same c.unless-next.ensures)
+    c.server_of-above.ensures.chains c.server_of-above.ensures.same c.unless-next.ensures)
 
 pub returns : goal.returns
 returns c =

@@ -14,8 +14,10 @@ loop-next-preserved c = record {
   chains = c.loop-next.invariant.chains;
   there = is_there-after (servers c.args.content.now.triples) c.in-Some.server c.older-next.result c.older-next.ensures;
   right = λ begun.
-      channel_goes_on c.args.content.now c.loop-next.self c.settle_if_by.new.self c.args.c c.in-Some.server c.loop-next.next c.older-next.result
-      c.loop-next.invariant.chains c.in-Some.is c.loop-next.invariant.there c.older-next.ensures c.settle_if_by.ensures (c.loop-next.invariant.right begun);
+      channel_goes_on c.args.content.now c.loop-next.self c.settle_if_by.new.self c.args.c c.in-Some.server c.loop-next.next
+      c.older-next.result
+      c.loop-next.invariant.chains c.in-Some.is c.loop-next.invariant.there c.older-next.ensures c.settle_if_by.ensures
+      (c.loop-next.invariant.right begun);
 }
 
 pub loop-next-smaller : goal.loop-next-smaller
@@ -25,4 +27,5 @@ loop-next-smaller c =
 
 pub returns : goal.returns
 returns c =
-    λ begun. channel_settled c.args.content.now c.loop-next.self c.args.c c.loop-next.next c.in_default.is (c.loop-next.invariant.right begun)
+    λ begun. channel_settled c.args.content.now c.loop-next.self c.args.c c.loop-next.next c.in_default.is
+    (c.loop-next.invariant.right begun)

@@ -1,4 +1,4 @@
-use Rattle.std.proofs.Common.{sym, ◌∙◌, ap, None}
+use Rattle.std.proofs.Common.{◌∙◌, ap, None}
 use Rattle.aps_inherit.proofs.order.Order.after.Goals as goal
 use Rattle.aps_inherit.specs.Links.{after_link}
 use Rattle.aps_inherit.proofs.Chains.{after_in-link}

@@ -14,11 +14,13 @@ put_first-requires c =
 
 table : (c : goal.After-self-2-1)
     → IsTable c.put_first.new.self (slice_set c.self.inside.by_server.items c.index-2.result (Some c.args.t))
-      (slice_set c.self.inside.by_client.items c.index.result (Some c.server-server.result)) (c.args.t ∷ c.args.self.now)
+    (slice_set c.self.inside.by_client.items c.index.result (Some c.server-server.result)) (c.args.t ∷ c.args.self.now)
 table c =
-    IsTable-add c.self.inside.order c.put_first.new.self c.self.inside.by_server.items c.self.inside.by_client.items c.args.self.now c.args.t
+    IsTable-add c.self.inside.order c.put_first.new.self c.self.inside.by_server.items c.self.inside.by_client.items
+    c.args.self.now c.args.t
     c.server-server.result c.index-2.result c.index.result c.self.invariant c.self.view_is c.requires.free c.requires.alone c.requires.other
-    c.put_first.ensures c.server-server.ensures c.index-2.ensures.same c.index-2.ensures.small (c.index.ensures.same ∙ c.client.ensures) c.index.ensures.small
+    c.put_first.ensures c.server-server.ensures c.index-2.ensures.same c.index-2.ensures.small
+    (c.index.ensures.same ∙ c.client.ensures) c.index.ensures.small
 
 pub invariant_of-self : goal.invariant_of-self
 invariant_of-self c = IsTable-tabled _ _ _ _ (table c)

@@ -10,9 +10,10 @@ returns-in_default c = without_server-absent c.args.self.now c.args.server (sym 
 
 table : (c : goal.After-self-2-1)
     → IsTable c.take_out.new.self (slice_set c.self.inside.by_server.items c.index-2.result None)
-      (slice_set c.self.inside.by_client.items c.index.result None) (without_server c.args.self.now c.args.server)
+    (slice_set c.self.inside.by_client.items c.index.result None) (without_server c.args.self.now c.args.server)
 table c =
-    IsTable-without c.self.inside.order c.take_out.new.self c.self.inside.by_server.items c.self.inside.by_client.items c.args.self.now c.args.server
+    IsTable-without c.self.inside.order c.take_out.new.self c.self.inside.by_server.items c.self.inside.by_client.items
+    c.args.self.now c.args.server
     c.in-Some.t c.index-2.result c.index.result c.self.invariant c.self.view_is (sym c.triple_of.ensures ∙ c.in-Some.is)
     c.take_out.ensures c.index-2.ensures.same c.index-2.ensures.small (c.index.ensures.same ∙ c.client.ensures) c.index.ensures.small
 
