@@ -8,7 +8,7 @@ use Rattle.aps_admit.specs.declared.admission.Admission.{Admission}
 use Rattle.aps_admit.specs.declared.admission.Admission.TheVariants.{Budgets, Needs}
 use Rattle.aps_admit.specs.Least.{IsLeast, allowance, least_budget, total_slack}
 
--- the most that can be asked, which is all time of the widest window
+-- a need is at most all time of the longest window on all processors
 abbrev pub IsNeed : Demand → Type 0
 IsNeed demand = demand.need ≤ 64000000000
 

@@ -9,5 +9,7 @@ ghost use Rattle.aps_admit.specs.Least.{IsLeast, allowance, least_budget};
 pub fn least_budgets_compute()
     ensures least { (shape : Shape) (time : ℕ) → IsShape shape → IsLeast shape time (least_budget shape time) }
     ensures one { (shape : Shape) (time a b : ℕ) → IsLeast shape time a → IsLeast shape time b → a ≡ b }
-    ensures told { (shape : Shape) (time budget : ℕ) → IsShape shape → time ≤ allowance shape budget → allowance shape (budget - 1) < time → IsLeast shape time budget }
+    ensures told { (shape : Shape) (time budget : ℕ) → IsShape shape
+        → time ≤ allowance shape budget → allowance shape (budget - 1) < time
+        → IsLeast shape time budget }
 {}

@@ -58,4 +58,5 @@ pub record IsAdmittedWindow (shape : Shape) (grants : List Granted) (scenario : 
 
 -- in the window from tick a on, the partition of each demand uses at least its need; the root is partition 0
 pub record MeetsNeeds (shape : Shape) (demands : List Demand) (h : List Entry) (a : ℕ) : Type 0 where
-  pub each : (i : ℕ) (demand : Demand) → slice_get demands i ≡ Some demand → demand.need ≤ used shape.tick h (i + 1) a (a + shape.window)
+  pub each : (i : ℕ) (demand : Demand) → slice_get demands i ≡ Some demand
+      → demand.need ≤ used shape.tick h (i + 1) a (a + shape.window)

@@ -17,10 +17,20 @@ ghost use Rattle.aps_admit_laws.specs.Admitted.{IsAdmitted, IsAdmittedWindow, Is
 /// uses at least its need in every finished window of steady ticks that holds no critical time, and in which the
 /// scenario's rows and window still stand.
 pub fn needs_are_met()
-    ensures { (shape : Shape) (demands : List Demand) (grants : List Granted) (scenario : Scenario) (order : Order) (h : List Entry) (a : ℕ) → admission shape demands ≡ Budgets grants → IsScenario scenario → IsAdmitted shape grants scenario → IsLegal scenario order h → IsCalmWindow scenario h a → MeetsNeeds shape demands h a }
+    ensures { (shape : Shape) (demands : List Demand) (grants : List Granted)
+        (scenario : Scenario) (order : Order) (h : List Entry) (a : ℕ)
+        → admission shape demands ≡ Budgets grants
+        → IsScenario scenario → IsAdmitted shape grants scenario
+        → IsLegal scenario order h → IsCalmWindow scenario h a
+        → MeetsNeeds shape demands h a }
 {}
 
 /// The same of the rows and the window that stand at the tick, whatever the scenario began with.
 pub fn needs_are_met_by_rows()
-    ensures { (shape : Shape) (demands : List Demand) (grants : List Granted) (scenario : Scenario) (order : Order) (h : List Entry) (a : ℕ) → admission shape demands ≡ Budgets grants → IsScenario scenario → IsLegal scenario order h → IsAdmittedWindow shape grants scenario h a → MeetsNeeds shape demands h a }
+    ensures { (shape : Shape) (demands : List Demand) (grants : List Granted)
+        (scenario : Scenario) (order : Order) (h : List Entry) (a : ℕ)
+        → admission shape demands ≡ Budgets grants
+        → IsScenario scenario → IsLegal scenario order h
+        → IsAdmittedWindow shape grants scenario h a
+        → MeetsNeeds shape demands h a }
 {}
