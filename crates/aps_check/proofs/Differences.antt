@@ -73,7 +73,15 @@ pub alike : (e x : Entry) → e.cpu ≡ x.cpu → e.from ≡ x.from → e.to ≡
     → e.picked ≡ x.picked → e.starved ≡ x.starved → e.flagged ≡ x.flagged → e ≡ x
 alike e x cpu from to ran billed critical did picked starved flagged =
     let same : record {
-      from = e.from; to = e.to; done = e.done; ran = e.ran; picked = e.picked; billed = e.billed;
-      starved = e.starved; flagged = e.flagged; cpu = e.cpu; critical = e.critical;
+      from = e.from;
+      to = e.to;
+      done = e.done;
+      ran = e.ran;
+      picked = e.picked;
+      billed = e.billed;
+      starved = e.starved;
+      flagged = e.flagged;
+      cpu = e.cpu;
+      critical = e.critical;
     } ≡ x = rw (from, to, ran, billed, critical, did, picked, starved, flagged, cpu) refl in
     same

@@ -1,5 +1,5 @@
 -- A journal has one verdict at most.
-use Rattle.std.proofs.Common.{◌≡◌, ℕ, List, [], ◌∷◌, ◌++◌, ◌⊎◌, length, Option, Some, None, refl, sym, ap, subst, ◌∙◌, inl, inr}
+use Rattle.std.proofs.Common.{◌≡◌, ℕ, List, [], ◌∷◌, ◌++◌, ◌⊎◌, length, Option, None, refl, sym, ap, subst, ◌∙◌, inl, inr}
 use Rattle.std.specs.Prelude.{IsSome}
 use Rattle.std.proofs.lemmas.Bool.{false≢true}
 use Rattle.aps_model.specs.declared.entry.End.{End}
@@ -7,11 +7,11 @@ use Rattle.aps_model.specs.declared.entry.Entry.{Entry}
 use Rattle.aps_laws.proofs.Prefixes.{goes_on}
 use Rattle.aps_core.specs.Run.{Setup}
 use Rattle.aps_check.specs.declared.verdict.Rule.{Rule}
-use Rattle.aps_check.specs.declared.verdict.Rule.TheVariants.{Turn, From, To, Ran, Billed, Critical, Done, Picked, Starved, Flagged, After}
+use Rattle.aps_check.specs.declared.verdict.Rule.TheVariants.{Turn, After}
 use Rattle.aps_check.specs.declared.verdict.Verdict.{Verdict}
 use Rattle.aps_check.specs.declared.verdict.Verdict.TheVariants.{Legal, Breaks}
 use Rattle.aps_check.specs.Difference.{Agrees}
-use Rattle.aps_check.specs.Verdict.{BreaksRule, HasTurnAfter, IsAfterEnd, IsFirstBreach, IsLegalJournal, IsOtherStep, IsOutOfTurn, IsRunSoFar, IsVerdict, end_with, step_after}
+use Rattle.aps_check.specs.Verdict.{BreaksRule, IsAfterEnd, IsFirstBreach, IsOtherStep, IsOutOfTurn, IsRunSoFar, IsVerdict, end_with, step_after}
 use Rattle.aps_check.proofs.Differences.{agrees_self, one_difference}
 
 -- ---- the kinds of breach
@@ -102,7 +102,7 @@ two_breaches setup journal place other rule rule' expected expected' a b =
     elim (meet a.before b.before a.later b.later a.entry b.entry (sym a.parts ∙ b.parts)) [
       | inl both ↦
           let there : BreaksRule setup a.before a.entry rule' expected' =
-              subst (λ e. BreaksRule setup a.before e rule' expected') (sym both.1) (subst (λ h. BreaksRule setup h b.entry rule' expected') (sym both.0) b.breaks) in
+          subst (λ e. BreaksRule setup a.before e rule' expected') (sym both.1) (subst (λ h. BreaksRule setup h b.entry rule' expected') (sym both.0) b.breaks) in
           let same = one_breach setup a.before a.entry rule rule' expected expected' a.breaks there in
           let places : place ≡ other = sym a.at_place ∙ ap (λ (h : List Entry). length h) both.0 ∙ b.at_place in
           equal places same.rules same.steps

@@ -1,5 +1,5 @@
 -- What a verdict on a journal says: of the scenario, the order of turns and the limit of a setup.
-use Rattle.std.specs.Prelude.{◌≡◌, ℕ, ◌++◌, List, [], ◌∷◌, length, Option, Some, None, IsSome}
+use Rattle.std.specs.Prelude.{◌≡◌, ℕ, ◌++◌, List, ◌∷◌, length, Option, Some, None, IsSome}
 use Rattle.aps_model.specs.declared.entry.End.{End}
 use Rattle.aps_model.specs.declared.entry.Entry.{Entry}
 use Rattle.aps_model.specs.After.{end_of, state_after}

@@ -127,12 +127,28 @@ fn verdicts_have_their_texts(rt: HostRuntime) -> Result<(), Fail> {
     let reboot = End::Reboot(PartitionId::at(31));
     for (verdict, text) in [
         (Verdict::Legal { end: None }, "check legal open\n"),
-        (Verdict::Legal { end: Some(End::Horizon) }, "check legal horizon\n"),
-        (Verdict::Legal { end: Some(End::Limit) }, "check legal limit\n"),
-        (Verdict::Legal { end: Some(reboot) }, "check legal reboot 31\n"),
+        (
+            Verdict::Legal {
+                end: Some(End::Horizon),
+            },
+            "check legal horizon\n",
+        ),
+        (
+            Verdict::Legal {
+                end: Some(End::Limit),
+            },
+            "check legal limit\n",
+        ),
+        (
+            Verdict::Legal { end: Some(reboot) },
+            "check legal reboot 31\n",
+        ),
         (breaks(1, Rule::Picked, None), "check breaks 1 picked\n"),
         (breaks(0, Rule::Turn, None), "check breaks 0 turn\n"),
-        (breaks(4_000_000, Rule::After, None), "check breaks 4000000 after\n"),
+        (
+            breaks(4_000_000, Rule::After, None),
+            "check breaks 4000000 after\n",
+        ),
     ] {
         let printed = print_verdict(rt.alloc(), &verdict)?;
         assert_eq!(rt; printed.as_str(), text);

@@ -26,9 +26,15 @@ fn add_verdict(out: &mut String, verdict: &Verdict) -> Result<(), NoMemory>
 {
     match verdict {
         Verdict::Legal { end: None } => write!(out, "check legal open\n"),
-        Verdict::Legal { end: Some(End::Horizon) } => write!(out, "check legal horizon\n"),
-        Verdict::Legal { end: Some(End::Limit) } => write!(out, "check legal limit\n"),
-        Verdict::Legal { end: Some(End::Reboot(p)) } => add_reboot(out, *p),
+        Verdict::Legal {
+            end: Some(End::Horizon),
+        } => write!(out, "check legal horizon\n"),
+        Verdict::Legal {
+            end: Some(End::Limit),
+        } => write!(out, "check legal limit\n"),
+        Verdict::Legal {
+            end: Some(End::Reboot(p)),
+        } => add_reboot(out, *p),
         Verdict::Breaks { entry, rule, .. } => add_breach(out, *entry, word(*rule)),
     }
 }

@@ -24,7 +24,9 @@ pub enum Rule {
 pub enum Verdict {
     /// Each entry is the step of a processor that had the turn, made before the run had ended. `end` is how the run has
     /// ended with the last entry, `None` where it goes on.
-    Legal { end: Option<End> },
+    Legal {
+        end: Option<End>,
+    },
     /// The first entry that is no such step, counted from 0, and the rule that it breaks. `expected` is the entry of
     /// the step that its processor makes there, `None` under `After` and `Turn`, where it makes none.
     Breaks {
