@@ -12,8 +12,8 @@ ghost use Rattle.aps_core.specs.Room.{HasRoomToWake, changes_of_a_run, last_plac
 
 use super::Machine;
 use super::channel::MOST_THREADS;
-use crate::due;
 use crate::append::insert_at;
+use crate::due;
 use aps_ctl::Ctl;
 use aps_model::{Entry, Nanos, NoMemory, Scenario, State, ThreadId};
 use std::alloc::Global;
