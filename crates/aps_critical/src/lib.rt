@@ -41,7 +41,7 @@ pub enum Effect {
 pub fn standing(window: &Window, p: PartitionId, budget: u64) -> bool
     ensures same { result ≡ has_standing (total_of window.now p).critical budget }
     ensures stands { (bills : List WindowBill) → StandsFor window.now bills
-      → result ≡ has_standing (bills_critical bills p (window.now.tick + 1 - window.now.span) (window.now.tick + 1)) budget }
+        → result ≡ has_standing (bills_critical bills p (window.now.tick + 1 - window.now.span) (window.now.tick + 1)) budget }
 {
     window.critical_used(p) < budget
 }
@@ -51,7 +51,7 @@ pub fn standing(window: &Window, p: PartitionId, budget: u64) -> bool
 pub fn after_bill(window: &Window, p: PartitionId, budget: u64) -> Bill
     ensures same { result ≡ verdict (total_of window.now p).critical budget }
     ensures stands { (bills : List WindowBill) → StandsFor window.now bills
-      → result ≡ verdict (bills_critical bills p (window.now.tick + 1 - window.now.span) (window.now.tick + 1)) budget }
+        → result ≡ verdict (bills_critical bills p (window.now.tick + 1 - window.now.span) (window.now.tick + 1)) budget }
 {
     let used = window.critical_used(p);
     if used > budget {

@@ -31,9 +31,15 @@ fn policies_differ(rt: HostRuntime) -> Result<(), Fail> {
     assert_eq!(rt; tree.modify(system, None, Some(5), None), Ok(()));
     assert_eq!(rt; apply(Bankruptcy::Basic, &mut tree, system), Effect::Keep);
     assert_eq!(rt; tree.row(system).unwrap().critical, 5);
-    assert_eq!(rt; apply(Bankruptcy::Reboot, &mut tree, system), Effect::Reboot);
+    assert_eq!(rt;
+        apply(Bankruptcy::Reboot, &mut tree, system),
+        Effect::Reboot
+    );
     assert_eq!(rt; tree.row(system).unwrap().critical, 5);
-    assert_eq!(rt; apply(Bankruptcy::Cancel, &mut tree, system), Effect::Cancelled);
+    assert_eq!(rt;
+        apply(Bankruptcy::Cancel, &mut tree, system),
+        Effect::Cancelled
+    );
     assert_eq!(rt; tree.row(system).unwrap().critical, 0);
     Ok(())
 }
