@@ -15,7 +15,8 @@ use Rattle.aps_check.specs.Breach.{IsBreach}
 use Rattle.aps_check.specs.Verdict.{HasTurnAfter, IsFirstBreach, IsLegalJournal}
 
 -- a processor that doesn't exist has no turn
-missing_waits : (run : Run) (c : ℕ) → IsScenario run.setup.scenario → IsLegal run.setup.scenario run.setup.order run.entries → run.setup.scenario.shape.cpus ≤ c
+missing_waits : (run : Run) (c : ℕ) → IsScenario run.setup.scenario → IsLegal run.setup.scenario run.setup.order run.entries
+    → run.setup.scenario.shape.cpus ≤ c
     → ¬ HasTurnAfter run.setup run.entries c
 missing_waits run c valid legal high = λ turn.
     omega (arith, turn.exists, high, (counts_law run.setup.scenario run.setup.order run.entries valid legal).sizes.cpus)
@@ -25,7 +26,8 @@ abbrev pub front : Setup → List Entry → ℕ → Run
 front setup journal i = record { setup = setup; entries = take i journal }
 
 -- what the next entry breaks is the journal's first breach
-pub first_breach : (setup : Setup) (journal : List Entry) (i : ℕ) (e : Entry) (breach : Breach) → i < length journal → get_or journal i e ≡ e → IsBreach (front setup journal i) e breach
+pub first_breach : (setup : Setup) (journal : List Entry) (i : ℕ) (e : Entry) (breach : Breach) → i < length journal
+    → get_or journal i e ≡ e → IsBreach (front setup journal i) e breach
     → IsFirstBreach setup journal breach.place breach.rule breach.expected
 first_breach setup journal i e breach less is b = record {
   before = take i journal;
@@ -41,7 +43,8 @@ first_breach setup journal i e breach less is b = record {
     cut = rw (add-one, drop-cons journal i e) refl
 
 -- where the entry breaks nothing, the run has it too
-pub front_more : (setup : Setup) (journal : List Entry) (i : ℕ) (e : Entry) (run later : Run) → i < length journal → get_or journal i e ≡ e → run ≡ front setup journal i → later ≡ with_entry run e
+pub front_more : (setup : Setup) (journal : List Entry) (i : ℕ) (e : Entry) (run later : Run) → i < length journal
+    → get_or journal i e ≡ e → run ≡ front setup journal i → later ≡ with_entry run e
     → later ≡ front setup journal (i + 1)
 front_more setup journal i e run later less is same goes_on =
     let whole : Setup → List Entry → Run = λ s h. record { setup = s; entries = h } in
@@ -49,8 +52,10 @@ front_more setup journal i e run later less is same goes_on =
     ∙ ap (whole setup) (sym (take_more journal i e less ∙ ap (λ x. take i journal ++ x ∷ []) is))
 
 -- where no entry is left, the journal is the run's
-pub legal_journal : (setup : Setup) (journal : List Entry) (i : ℕ) (run : Run) (end : Option End) → length journal ≤ i → run ≡ front setup journal i
-    → IsLegal run.setup.scenario run.setup.order run.entries → EndsNoSooner run.setup.scenario run.setup.limit run.entries → end ≡ end_of_run run
+pub legal_journal : (setup : Setup) (journal : List Entry) (i : ℕ) (run : Run) (end : Option End) → length journal ≤ i
+    → run ≡ front setup journal i
+    → IsLegal run.setup.scenario run.setup.order run.entries → EndsNoSooner run.setup.scenario run.setup.limit run.entries
+    → end ≡ end_of_run run
     → IsLegalJournal setup journal end
 legal_journal setup journal i run end past same legal no_sooner ended =
     let P : Run → Type 0 = λ r. IsLegalJournal r.setup r.entries end in
@@ -59,8 +64,10 @@ legal_journal setup journal i run end past same legal no_sooner ended =
     subst P (same ∙ ap (whole setup) (take_all i journal past)) own
 
 -- an entry of a processor that doesn't exist is out of turn
-pub missing_breach : (run : Run) (e : Entry) (place : ℕ) → IsScenario run.setup.scenario → IsLegal run.setup.scenario run.setup.order run.entries → EndsNoSooner run.setup.scenario run.setup.limit run.entries
-    → end_of_run run ≡ None → run.setup.scenario.shape.cpus ≤ e.cpu → place ≡ length run.entries → IsBreach run e (record { place = place; rule = Turn; expected = None })
+pub missing_breach : (run : Run) (e : Entry) (place : ℕ) → IsScenario run.setup.scenario
+    → IsLegal run.setup.scenario run.setup.order run.entries → EndsNoSooner run.setup.scenario run.setup.limit run.entries
+    → end_of_run run ≡ None → run.setup.scenario.shape.cpus ≤ e.cpu → place ≡ length run.entries
+    → IsBreach run e (record { place = place; rule = Turn; expected = None })
 missing_breach run e place valid legal no_sooner goes_on high at_place = record {
   place = at_place;
   sound = record { legal = legal; no_sooner = no_sooner };

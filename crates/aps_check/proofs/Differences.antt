@@ -69,7 +69,8 @@ one_difference e x f g a b = elim (cases_order (place_of f) (place_of g)) [
 ]
 
 -- entries that agree in all fields are one entry
-pub alike : (e x : Entry) → e.cpu ≡ x.cpu → e.from ≡ x.from → e.to ≡ x.to → e.ran ≡ x.ran → e.billed ≡ x.billed → e.critical ≡ x.critical → e.done ≡ x.done
+pub alike : (e x : Entry) → e.cpu ≡ x.cpu → e.from ≡ x.from → e.to ≡ x.to → e.ran ≡ x.ran → e.billed ≡ x.billed
+    → e.critical ≡ x.critical → e.done ≡ x.done
     → e.picked ≡ x.picked → e.starved ≡ x.starved → e.flagged ≡ x.flagged → e ≡ x
 alike e x cpu from to ran billed critical did picked starved flagged =
     let same : record {

@@ -21,7 +21,8 @@ record IsKind (setup : Setup) (h : List Entry) (e : Entry) (rule : Rule) (expect
   turn : (rule ≡ Turn) → IsOutOfTurn setup h e expected → C
   field : IsOtherStep setup h e rule expected → C
 
-by_kind : {C : Type 0} (setup : Setup) (h : List Entry) (e : Entry) (rule : Rule) (expected : Option Entry) → IsKind setup h e rule expected C → BreaksRule setup h e rule expected → C
+by_kind : {C : Type 0} (setup : Setup) (h : List Entry) (e : Entry) (rule : Rule) (expected : Option Entry)
+    → IsKind setup h e rule expected C → BreaksRule setup h e rule expected → C
 by_kind setup h e After expected kind b = kind.after refl b
 by_kind setup h e Turn expected kind b = kind.turn refl b
 by_kind setup h e rule expected kind b = kind.field b
@@ -31,7 +32,8 @@ not_both : (end : Option End) → IsSome end → end ≡ None → ⊥
 not_both end some none = let P : Option End → Type 0 = λ o. IsSome o in false≢true (subst P none some)
 
 -- the entries of a run so far break nothing
-breaks_nothing : (setup : Setup) (before later : List Entry) (e : Entry) → IsRunSoFar setup (before ++ e ∷ later) → (rule : Rule) (expected : Option Entry) → BreaksRule setup before e rule expected → ⊥
+breaks_nothing : (setup : Setup) (before later : List Entry) (e : Entry) → IsRunSoFar setup (before ++ e ∷ later)
+    → (rule : Rule) (expected : Option Entry) → BreaksRule setup before e rule expected → ⊥
 breaks_nothing setup before later e sound rule expected b =
     let next = goes_on setup.scenario setup.order before later e sound.legal in
     by_kind setup before e rule expected (record {
@@ -46,7 +48,8 @@ record IsSame (rule other : Rule) (expected another : Option Entry) : Type 0 whe
   rules : rule ≡ other
   steps : expected ≡ another
 
-one_breach : (setup : Setup) (h : List Entry) (e : Entry) (rule other : Rule) (expected another : Option Entry) → BreaksRule setup h e rule expected → BreaksRule setup h e other another → IsSame rule other expected another
+one_breach : (setup : Setup) (h : List Entry) (e : Entry) (rule other : Rule) (expected another : Option Entry)
+    → BreaksRule setup h e rule expected → BreaksRule setup h e other another → IsSame rule other expected another
 one_breach setup h e rule other expected another a b =
     by_kind setup h e rule expected (record {
       after = λ is a. by_kind setup h e other another (record {
@@ -96,7 +99,8 @@ meet (a ∷ xs) (b ∷ ys) us vs x y same =
 -- ---- one verdict
 
 two_breaches : (setup : Setup) (journal : List Entry) (place other : ℕ) (rule rule' : Rule) (expected expected' : Option Entry)
-    → IsFirstBreach setup journal place rule expected → IsFirstBreach setup journal other rule' expected' → Breaks place rule expected ≡ Breaks other rule' expected'
+    → IsFirstBreach setup journal place rule expected → IsFirstBreach setup journal other rule' expected'
+    → Breaks place rule expected ≡ Breaks other rule' expected'
 unfolding Meet
 two_breaches setup journal place other rule rule' expected expected' a b =
     elim (meet a.before b.before a.later b.later a.entry b.entry (sym a.parts ∙ b.parts)) [

@@ -17,8 +17,8 @@ pub fn one_verdict()
 /// The history of each run that has ended, in fixed or free order, is legal in its order and with its limit, with the
 /// end of the run: no verdict says otherwise.
 pub fn ended_runs_are_legal()
-    ensures verdict { (setup : Setup) (h : List Entry) (end : End) → IsLegal setup.scenario setup.order h → EndsNoSooner setup.scenario setup.limit h
-        → end_with setup h ≡ Some end → IsVerdict setup h (Legal (Some end)) }
+    ensures verdict { (setup : Setup) (h : List Entry) (end : End) → IsLegal setup.scenario setup.order h
+        → EndsNoSooner setup.scenario setup.limit h → end_with setup h ≡ Some end → IsVerdict setup h (Legal (Some end)) }
     ensures only { (setup : Setup) (h : List Entry) (end : End) (v : Verdict) → IsLegal setup.scenario setup.order h
         → EndsNoSooner setup.scenario setup.limit h → end_with setup h ≡ Some end → IsVerdict setup h v → v ≡ Legal (Some end) }
 {}

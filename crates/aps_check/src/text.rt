@@ -47,7 +47,8 @@ fn add_reboot(out: &mut String, p: PartitionId) -> Result<(), NoMemory>
 }
 
 fn add_breach(out: &mut String, place: u32, word: &str) -> Result<(), NoMemory>
-    ensures { OnOk result (string_bytes out.new ≡ string_bytes out.old ++ line_of (codes "check" ∷ codes "breaks" ∷ decimal place ∷ word.now ∷ [])) }
+    ensures { OnOk result (string_bytes out.new ≡ string_bytes out.old
+        ++ line_of (codes "check" ∷ codes "breaks" ∷ decimal place ∷ word.now ∷ [])) }
 {
     write!(out, "check breaks {place} {word}\n")
 }

@@ -22,11 +22,13 @@ pub loop-entry-preserved : goal.loop-entry-preserved
 loop-entry-preserved c =
     let setup : Setup = record { scenario = c.args.scenario.now; order = c.args.order; limit = c.args.limit } in
     let less : c.loop-entry.entry-index < length c.args.journal.now = omega arith in
-    front_more setup c.args.journal.now c.loop-entry.entry-index c.entry-item.result c.loop-entry.core c.breach_of.new.core less (sym c.entry-item.is) c.loop-entry.invariant c.in_default.ensures.1
+    front_more setup c.args.journal.now c.loop-entry.entry-index c.entry-item.result c.loop-entry.core c.breach_of.new.core less (sym c.entry-item.is)
+    c.loop-entry.invariant c.in_default.ensures.1
 
 pub returns : goal.returns
 returns c =
     let setup : Setup = record { scenario = c.args.scenario.now; order = c.args.order; limit = c.args.limit } in
     let past : length c.args.journal.now ≤ c.loop-entry.entry-index = omega arith in
-    legal_journal setup c.args.journal.now c.loop-entry.entry-index c.loop-entry.core c.end.result past c.loop-entry.invariant c.history.ensures.legal c.history.ensures.no_sooner
+    legal_journal setup c.args.journal.now c.loop-entry.entry-index c.loop-entry.core c.end.result past c.loop-entry.invariant
+    c.history.ensures.legal c.history.ensures.no_sooner
     (c.end.ensures ∙ ap (λ (h : History). h.end) c.history.ensures.same)
