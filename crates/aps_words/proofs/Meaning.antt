@@ -13,13 +13,14 @@ use Rattle.clap.specs.declared.parser.matches.Found.{Found}
 use Rattle.clap.proofs.OnLiterals.{clap_on_literals}
 use Rattle.clap.proofs.WalkLemmas.{first_value-rows}
 use Rattle.aps_words.specs.declared.command.Command.{Command}
+use Rattle.aps_words.specs.declared.command.Command.TheVariants.{Upgrade}
 use Rattle.aps_words.specs.declared.command.WordsRefusal.{WordsRefusal}
 use Rattle.aps_words.specs.declared.command.WordsRefusal.TheVariants.{Words, NoMemory}
 use Rattle.aps_words.specs.Clap.{app_with}
 use Rattle.aps_words.specs.Options.{Given, value_of, is_known, options, options_after}
 use Rattle.aps_words.specs.Number.{number_in}
 use Rattle.aps_words.specs.Values.{report_of, order_of, limit_of, required_in}
-use Rattle.aps_words.specs.Command.{◌>>=◌, solo, run, gen, solo_options, run_options, gen_options, with_options, command, Says}
+use Rattle.aps_words.specs.Command.{◌>>=◌, solo, run, gen, solo_options, run_options, gen_options, with_options, alone, command, Says}
 use Rattle.aps_words.specs.Plain.{is_plain}
 use Rattle.aps_words.proofs.Uses.{uses}
 use Rattle.aps_words.proofs.ClapRules.{opts}
@@ -196,6 +197,12 @@ gen_is_read = record {
   none = gen_none;
 }
 
+-- words behind a command that has no options are none of its
+unplain_alone : (asked : Command) (words : List Text) → is_plain [] words ≡ false → alone asked words ≡ None
+unfolding is_plain
+unplain_alone asked [] h = absurd (false≢true (sym h))
+unplain_alone asked (word ∷ words) h = refl
+
 pub unplain_none : (ss : List (String Global)) → is_plain [] (map string_bytes (drop 1 ss)) ≡ false → command (map string_bytes ss) ≡ None
 unplain_none [] h = refl
 unplain_none (s ∷ ss) h =
@@ -209,7 +216,10 @@ unplain_none (s ∷ ss) h =
         | inl is ↦ rw (differs, is) threaded
         | inr other ↦ elim (cases_Bool (bytes_eq (string_bytes s) (codes "gen"))) [
           | inl is ↦ rw (differs, other, is) made
-          | inr last ↦ rw (differs, other, last) refl
+          | inr third ↦ elim (cases_Bool (bytes_eq (string_bytes s) (codes "upgrade"))) [
+            | inl is ↦ rw (differs, other, third, is) (unplain_alone Upgrade words h)
+            | inr last ↦ rw (differs, other, third, last) refl
+          ]
         ]
       ]
     ]

@@ -42,6 +42,8 @@ pub enum Command {
         partitions: u8,
         ticks: u32,
     },
+    /// Writes a scenario with its budgets in parts per thousand.
+    Upgrade,
 }
 
 /// Why no command was read.
@@ -66,7 +68,7 @@ impl From<AllocError> for WordsRefusal {
 /// The command that these words are (docs/FORMATS.md, "Command line"): a command word, and then its
 /// options in any order, each at most once, as `--name value` or `--name=value`. Numbers have the
 /// ranges that `Command` names. Without its option the report is the summary, the limit 1,000,000
-/// entries, and the order of `run` the free one; `gen` needs each of its options.
+/// entries, and the order of `run` the free one; `gen` needs each of its options, and `upgrade` has none.
 ///
 /// All other words are refused: another command word or none, `--`, an option that the command
 /// doesn't have, an option twice or without a value, a value that is none of the option's, any
@@ -86,6 +88,19 @@ pub fn command_of(alloc: Global, words: &[String]) -> Result<Command, WordsRefus
         "solo" => solo_of(alloc, words),
         "run" => run_of(alloc, words),
         "gen" => gen_of(alloc, words),
+        "upgrade" => alone(Command::Upgrade, options),
+        _ => Err(WordsRefusal::Words),
+    }
+}
+
+/// A command that has no options, by the words behind its own.
+fn alone(command: Command, options: &[String]) -> Result<Command, WordsRefusal>
+    requires ranges { spec.HasRanges command }
+    ensures same { spec.Says result (spec.alone command (map string_bytes options.now)) }
+    ensures ranges { IfOk result spec.HasRanges }
+{
+    match options {
+        [] => Ok(command),
         _ => Err(WordsRefusal::Words),
     }
 }

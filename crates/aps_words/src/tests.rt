@@ -14,7 +14,7 @@ fn read(alloc: Global, words: &[&str]) -> Result<Result<Command, WordsRefusal>, 
 
 #[test]
 fn these_words_are_no_command(rt: HostRuntime) -> Result<(), Fail> {
-    let lists: [&[&str]; 35] = [
+    let lists: [&[&str]; 38] = [
         &[],
         &[""],
         &["fly"],
@@ -47,6 +47,9 @@ fn these_words_are_no_command(rt: HostRuntime) -> Result<(), Fail> {
         &["solo", "--limit=7", "--limit", "7"],
         &["solo", "--order", "free"],
         &["run", "--order=both"],
+        &["upgrade", ""],
+        &["upgrade", "--"],
+        &["upgrade", "--limit", "7"],
         &["gen", "--seed", "7", "--cpus", "8", "--partitions", "12"],
         &[
             "gen",
@@ -116,5 +119,6 @@ fn these_words_are_commands(rt: HostRuntime) -> Result<(), Fail> {
         "0",
     ];
     assert_eq!(rt; read(alloc, &words)?, Ok(load));
+    assert_eq!(rt; read(alloc, &["upgrade"])?, Ok(Command::Upgrade));
     Ok(())
 }

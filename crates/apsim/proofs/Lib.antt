@@ -1,4 +1,4 @@
 pub mod Said
-pub mod Statuses
-pub mod Generating
 pub mod Caused
+pub mod Due
+pub mod Statuses

@@ -3,12 +3,12 @@ use Rattle.std.specs.Prelude.{ℕ}
 use Rattle.aps_model.specs.declared.entry.End.{End}
 use Rattle.aps_model.specs.declared.entry.End.TheVariants.{Horizon, Limit, Reboot}
 use Rattle.apsim.specs.declared.status.Status.{Status}
-use Rattle.apsim.specs.declared.status.Status.TheVariants.{Done, WordsRefused, ScenarioRefused, Rebooted, ReadFault, WriteFault, Limited, NoMemory, TooLong}
+use Rattle.apsim.specs.declared.status.Status.TheVariants.{Done, WordsRefused, InputRefused, Rebooted, ReadFault, WriteFault, Limited, NoMemory, TooLong}
 
 abbrev pub code : Status → ℕ
 code Done = 0
 code WordsRefused = 1
-code ScenarioRefused = 2
+code InputRefused = 2
 code Rebooted = 3
 code ReadFault = 4
 code WriteFault = 5
@@ -26,7 +26,7 @@ status_of_end (Reboot p) = Rebooted
 abbrev pub or_write_fault : Status → Status
 or_write_fault Done = WriteFault
 or_write_fault WordsRefused = WordsRefused
-or_write_fault ScenarioRefused = ScenarioRefused
+or_write_fault InputRefused = InputRefused
 or_write_fault Rebooted = Rebooted
 or_write_fault ReadFault = ReadFault
 or_write_fault WriteFault = WriteFault

@@ -3,6 +3,8 @@
 
 mod outcome;
 mod printing;
+mod reading;
+mod refusal;
 mod report;
 mod run;
 mod status;

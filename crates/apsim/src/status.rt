@@ -11,8 +11,8 @@ pub enum Status {
     Done,
     /// The words are no command.
     WordsRefused,
-    /// The input is no scenario.
-    ScenarioRefused,
+    /// The input is none that the command takes.
+    InputRefused,
     /// The run ended by a reboot.
     Rebooted,
     /// Reading failed.
@@ -35,7 +35,7 @@ impl Status {
         match self {
             Status::Done => 0,
             Status::WordsRefused => 1,
-            Status::ScenarioRefused => 2,
+            Status::InputRefused => 2,
             Status::Rebooted => 3,
             Status::ReadFault => 4,
             Status::WriteFault => 5,

@@ -1,5 +1,6 @@
 //! Whole calls of the program in memory: what they write, and the statuses.
 mod threads;
+mod upgrade;
 mod worked;
 
 use crate::top::{Ended, calm_top};

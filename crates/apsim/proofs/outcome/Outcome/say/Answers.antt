@@ -18,10 +18,10 @@ returns-in-TooLong g c =
     let is = c.in-TooLong.is in
     said_as _ _ _ _ _ _ (sym (ap text_of is)) (sym (ap status_of is)) c.print-in-TooLong.ensures.prints
 
-pub returns-in-Ok : goal.returns-in-Ok
-returns-in-Ok g c =
-    let is = c.in-ScenarioRefused.is in
-    said_as _ _ _ _ _ _ (c.deref.ensures.value ∙ c.in-Ok.ensures ∙ sym (ap text_of is)) (sym (ap status_of is)) c.print-in-Ok.ensures.prints
+pub returns-in-InputRefused : goal.returns-in-InputRefused
+returns-in-InputRefused g c =
+    let is = c.in-InputRefused.is in
+    said_as _ _ _ _ _ _ (sym (ap text_of is)) (sym (ap status_of is)) c.print_refusal.ensures
 
 pub returns-in-Ran : goal.returns-in-Ran
 returns-in-Ran g c =
