@@ -125,6 +125,9 @@ fn the_journal_begins_behind_its_line(rt: HostRuntime) {
     assert_eq!(rt; parts_of("version = 1\n--- journal\n0 0 x"), Some((12, 24)));
     assert_eq!(rt; parts_of("--- journal\n"), Some((0, 12)));
     assert_eq!(rt; parts_of("a\n--- journal\n--- journal\n"), Some((2, 14)));
-    assert_eq!(rt; parts_of("a --- journal\n\n--- journal \n--- journal\r\n--- journal"), None);
+    assert_eq!(rt;
+        parts_of("a --- journal\n\n--- journal \n--- journal\r\n--- journal"),
+        None
+    );
     assert_eq!(rt; parts_of(""), None);
 }

@@ -10,5 +10,5 @@ pub returns : goal.returns
 returns c =
     let bytes = c.args.bytes.now in
     let found : option_map (λ x. x) c.find.result ≡ find (separates bytes) (range_with_len 0 (length bytes)) =
-        find_from_yields_List (separates bytes) _ _ c.find.result c.find.ensures.ran (YieldsList-from_range 0 (length bytes) (length bytes) refl (omega arith)) (λ x b q k. search rules) in
+    find_from_yields_List (separates bytes) _ _ c.find.result c.find.ensures.ran (YieldsList-from_range 0 (length bytes) (length bytes) refl (omega arith)) (λ x b q k. search rules) in
     rw (← found) (search rules)
