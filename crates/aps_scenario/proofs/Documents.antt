@@ -1,5 +1,5 @@
 -- Bytes that are a document, and bytes that are none.
-use Rattle.std.proofs.Common.{◌≡◌, ℕ, Bool, true, false, List, Some, None, Err, inl, inr}
+use Rattle.std.proofs.Common.{◌≡◌, ℕ, Bool, true, false, List, Some, None, Result, Err, inl, inr}
 use Rattle.std.proofs.lemmas.Bool.{cases_Bool}
 use Rattle.std.proofs.lemmas.Str.{IsUtf8-from_is_utf8, is_utf8-from_IsUtf8}
 use Rattle.std.specs.Prelude.{IsTrue, ◌↔◌}
@@ -8,13 +8,16 @@ use Rattle.toml.specs.Data.{Members}
 use Rattle.toml.specs.Parse.{parse_document}
 use Rattle.aps_scenario.specs.declared.kind.Kind.TheVariants.{NotToml}
 use Rattle.aps_scenario.specs.Path.{whole_text}
-use Rattle.aps_scenario.specs.Reading.{reads, scenario_at, or_told}
+use Rattle.aps_scenario.specs.declared.refusal.Finding.{Finding}
+use Rattle.aps_scenario.specs.Document.{document_reads, or_told}
 
-pub reads-document : (bytes : List ℕ) (t : Members) → IsUtf8 bytes → parse_document bytes ≡ Some t → reads bytes ≡ or_told (scenario_at t)
-reads-document bytes t utf8 parsed = rw (is_utf8-from_IsUtf8 bytes utf8, parsed)
+pub reads-document : {A : Type 0} (reader : Members → Result A Finding) (bytes : List ℕ) (t : Members) → IsUtf8 bytes → parse_document bytes ≡ Some t
+    → document_reads reader bytes ≡ or_told (reader t)
+reads-document reader bytes t utf8 parsed = rw (is_utf8-from_IsUtf8 bytes utf8, parsed)
 
-pub reads-no_document : (bytes : List ℕ) → (IsUtf8 bytes → parse_document bytes ≡ None) → reads bytes ≡ Err (record { kind = NotToml; path = whole_text })
-reads-no_document bytes none =
+pub reads-no_document : {A : Type 0} (reader : Members → Result A Finding) (bytes : List ℕ) → (IsUtf8 bytes → parse_document bytes ≡ None)
+    → document_reads reader bytes ≡ Err (record { kind = NotToml; path = whole_text })
+reads-no_document reader bytes none =
     elim (cases_Bool (is_utf8 bytes)) [
       | inl utf8 ↦ rw (utf8, none (IsUtf8-from_is_utf8 bytes utf8))
       | inr other ↦ rw other

@@ -27,5 +27,6 @@ pub mod ThreadRows
 pub mod CallRanges
 pub mod CommandRows
 pub mod Validity
+pub mod DemandRows
 pub mod Documents
 pub mod Upgrades

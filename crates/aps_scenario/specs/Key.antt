@@ -1,6 +1,6 @@
 use Rattle.std.specs.Prelude.{ℕ, List, codes}
 use Rattle.aps_scenario.specs.declared.key.Key.{Key}
-use Rattle.aps_scenario.specs.declared.key.Key.TheVariants.{Version, Cpus, Tick, Window, Ticks, CallNs, Free, Limit, Bankruptcy, Partition, Channel, Thread, Command, Name, Parent, Budget, Critical, Max, Priority, Policy, Program, Do}
+use Rattle.aps_scenario.specs.declared.key.Key.TheVariants.{Version, Cpus, Tick, Window, Ticks, CallNs, Free, Limit, Bankruptcy, Partition, Channel, Thread, Command, Demand, Name, Parent, Budget, Critical, Max, Priority, Policy, Program, Do, Need}
 
 -- a key as it is written
 abbrev pub key_text : Key → List ℕ
@@ -17,6 +17,7 @@ key_text Partition = codes "partition"
 key_text Channel = codes "channel"
 key_text Thread = codes "thread"
 key_text Command = codes "command"
+key_text Demand = codes "demand"
 key_text Name = codes "name"
 key_text Parent = codes "parent"
 key_text Budget = codes "budget"
@@ -26,3 +27,4 @@ key_text Priority = codes "priority"
 key_text Policy = codes "policy"
 key_text Program = codes "program"
 key_text Do = codes "do"
+key_text Need = codes "need"

@@ -15,7 +15,9 @@ pub mod Program
 pub mod Threads
 pub mod Calls
 pub mod Commands
+pub mod Document
 pub mod Reading
+pub mod Demands
 pub mod PrintedTree
 pub mod PrintedTable
 pub mod PrintedWords

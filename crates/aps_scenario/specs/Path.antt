@@ -7,7 +7,7 @@ use Rattle.aps_scenario.specs.declared.key.Key.{Key}
 use Rattle.aps_scenario.specs.declared.key.Key.TheVariants as key
 use Rattle.aps_scenario.specs.declared.path.KeyText.{KeyText}
 use Rattle.aps_scenario.specs.declared.refusal.Place.{Place}
-use Rattle.aps_scenario.specs.declared.refusal.Place.TheVariants.{Top, Partition, Channel, Thread, Command}
+use Rattle.aps_scenario.specs.declared.refusal.Place.TheVariants.{Top, Partition, Channel, Thread, Command, Demand}
 use Rattle.aps_scenario.specs.declared.refusal.Part.{Part}
 use Rattle.aps_scenario.specs.declared.refusal.Part.TheVariants.{Table, At, OtherKey, Operation}
 use Rattle.aps_scenario.specs.Key.{key_text}
@@ -26,6 +26,7 @@ place_text (Partition i) = element_text key.Partition i
 place_text (Channel i) = element_text key.Channel i
 place_text (Thread i) = element_text key.Thread i
 place_text (Command i) = element_text key.Command i
+place_text (Demand i) = element_text key.Demand i
 
 -- what stands before a key of the table
 abbrev pub prefix_text : Place → List ℕ

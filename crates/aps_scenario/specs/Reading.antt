@@ -1,20 +1,17 @@
 -- The scenario that a text is.
-use Rattle.std.specs.Prelude.{ℕ, List, [], ◌∷◌, Option, Some, None, Result, Ok, Err, if◌then◌else◌}
-use Rattle.std.specs.Str.{is_utf8}
+use Rattle.std.specs.Prelude.{ℕ, List, [], ◌∷◌, Result, Ok}
 use Rattle.toml.specs.Data.{Members}
-use Rattle.toml.specs.Parse.{parse_document}
 use Rattle.aps_model.specs.Scenario.{Scenario}
 use Rattle.aps_scenario.specs.declared.key.Key.{Key}
 use Rattle.aps_scenario.specs.declared.key.Key.TheVariants.{Version, Cpus, Tick, Window, Ticks, CallNs, Free, Limit, Bankruptcy, Partition, Channel, Thread, Command}
-use Rattle.aps_scenario.specs.declared.kind.Kind.TheVariants.{NotToml}
 use Rattle.aps_scenario.specs.declared.refusal.Finding.{Finding}
 use Rattle.aps_scenario.specs.declared.refusal.Place.TheVariants.{Top}
 use Rattle.aps_scenario.specs.Channels.{channels_at}
 use Rattle.aps_scenario.specs.Commands.{commands_at}
+use Rattle.aps_scenario.specs.Document.{document_reads}
 use Rattle.aps_scenario.specs.Joinable.{joinable_at}
 use Rattle.aps_scenario.specs.Partitions.{partitions_at}
-use Rattle.aps_scenario.specs.Path.{whole_text}
-use Rattle.aps_scenario.specs.Refusal.{Refusal, told}
+use Rattle.aps_scenario.specs.Refusal.{Refusal}
 use Rattle.aps_scenario.specs.Row.{◌>>=◌, only}
 use Rattle.aps_scenario.specs.Sizes.{shape_at}
 use Rattle.aps_scenario.specs.Threads.{threads_at}
@@ -34,14 +31,6 @@ scenario_at t = do
   commands ← commands_at shape threads t
   Ok (record { shape = shape; partitions = partitions; channels = channels; threads = threads; commands = commands })
 
-abbrev pub or_told : Result Scenario Finding → Result Scenario Refusal
-or_told (Ok scenario) = Ok scenario
-or_told (Err finding) = Err (told finding)
-
-abbrev pub document_reads : Option Members → Result Scenario Refusal
-document_reads None = Err (record { kind = NotToml; path = whole_text })
-document_reads (Some t) = or_told (scenario_at t)
-
 -- the scenario that these bytes are, or why they are none
 abbrev pub reads : List ℕ → Result Scenario Refusal
-reads bytes = document_reads (if is_utf8 bytes then parse_document bytes else None)
+reads bytes = document_reads scenario_at bytes

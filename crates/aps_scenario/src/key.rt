@@ -18,6 +18,7 @@ pub enum Key {
     Channel,
     Thread,
     Command,
+    Demand,
     Name,
     Parent,
     Budget,
@@ -27,6 +28,7 @@ pub enum Key {
     Policy,
     Program,
     Do,
+    Need,
 }
 
 impl Key {
@@ -49,6 +51,7 @@ impl Key {
             Key::Channel => "channel",
             Key::Thread => "thread",
             Key::Command => "command",
+            Key::Demand => "demand",
             Key::Name => "name",
             Key::Parent => "parent",
             Key::Budget => "budget",
@@ -58,6 +61,7 @@ impl Key {
             Key::Policy => "policy",
             Key::Program => "program",
             Key::Do => "do",
+            Key::Need => "need",
         }
     }
 }

@@ -1,9 +1,10 @@
-//! The scenario that a text is, or why it is none.
+//! The scenario that a text is, or why it is none; and the demands that a text states.
 #![tactic(auto)]
 
 mod calls;
 mod channels;
 mod commands;
+mod demands;
 mod joinable;
 mod key;
 mod kind;
@@ -20,6 +21,7 @@ mod threads;
 mod upgrading;
 mod words;
 
+pub use demands::{Demands, demands_of};
 pub use kind::Kind;
 pub use path::PathText;
 pub use printing::print;

@@ -117,6 +117,7 @@ impl PathText {
             Place::Channel(i) => path.push_element(Key::Channel, i),
             Place::Thread(i) => path.push_element(Key::Thread, i),
             Place::Command(i) => path.push_element(Key::Command, i),
+            Place::Demand(i) => path.push_element(Key::Demand, i),
         }
         path
     }

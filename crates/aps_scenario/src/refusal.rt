@@ -28,6 +28,7 @@ pub enum Place {
     Channel(u16),
     Thread(u16),
     Command(u16),
+    Demand(u16),
 }
 
 /// The part of a text that is refused.

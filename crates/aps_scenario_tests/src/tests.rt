@@ -1,6 +1,7 @@
 //! Scenarios as texts, whose readings and refusals come from outside.
 mod commands;
 mod cut;
+mod demands;
 mod printed;
 mod read;
 mod refused;

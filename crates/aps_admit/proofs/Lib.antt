@@ -1,0 +1,3 @@
+pub mod LeastBudgets
+pub mod Granting
+pub mod Lines

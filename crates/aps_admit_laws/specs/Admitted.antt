@@ -1,0 +1,62 @@
+-- Scenarios whose partitions have granted budgets, and windows in which needs are met.
+use Rattle.std.specs.Prelude.{◌≡◌, ℕ, ◌+◌, ◌<◌, ◌≤◌, List, [], ◌∷◌, length, slice_get, Some}
+use Rattle.std.specs.List.{AllZip}
+use Rattle.aps_model.specs.declared.demand.Demand.{Demand}
+use Rattle.aps_model.specs.declared.entry.Entry.{Entry}
+use Rattle.aps_model.specs.declared.partition.PartitionRow.{PartitionRow}
+use Rattle.aps_model.specs.declared.shape.Shape.{Shape}
+use Rattle.aps_model.specs.After.{state_after}
+use Rattle.aps_model.specs.Loaded.{finished_ticks, IsSteady, state_of_tick}
+use Rattle.aps_model.specs.Scenario.{Scenario}
+use Rattle.aps_model.specs.SchedulerState.{SchedulerState}
+use Rattle.aps_model.specs.Usage.{critical_used, used}
+use Rattle.aps_admit.specs.declared.admission.Granted.{Granted}
+
+-- what budgets are granted by is the same in both shapes
+pub record IsSameFrame (a b : Shape) : Type 0 where
+  pub parts : b.parts ≡ a.parts
+  pub cpus : b.cpus ≡ a.cpus
+  pub tick : b.tick ≡ a.tick
+  pub window : b.window ≡ a.window
+
+-- a partition directly below the root, with what was granted to its name
+pub record IsGrantedRow (granted : Granted) (row : PartitionRow) : Type 0 where
+  pub name : row.name ≡ granted.name
+  pub parent : row.parent ≡ 0
+  pub budget : row.budget ≡ granted.budget
+
+-- the root, and a partition for each grant, in order
+abbrev pub AreGrantedRows : List Granted → List PartitionRow → Type 0
+AreGrantedRows grants [] = ⊥
+AreGrantedRows grants (root ∷ rows) = AllZip IsGrantedRow grants rows
+
+-- a scenario with granted budgets
+pub record IsAdmitted (shape : Shape) (grants : List Granted) (scenario : Scenario) : Type 0 where
+  pub frame : IsSameFrame shape scenario.shape
+  pub rows : AreGrantedRows grants scenario.partitions
+
+-- no partition spends critical time in the window from tick a on
+abbrev pub IsUncritical : SchedulerState → List Entry → ℕ → Type 0
+IsUncritical s h a = (q : ℕ) → q < length s.rows → critical_used s.shape.tick h q a (a + s.shape.window) ≡ 0
+
+-- the window from tick a on is finished, its ticks are steady and hold no critical time, and the scenario's rows and
+-- window stand in it
+pub record IsCalmWindow (scenario : Scenario) (h : List Entry) (a : ℕ) : Type 0 where
+  pub finished : a + scenario.shape.window ≤ finished_ticks scenario.shape h
+  pub steady : IsSteady scenario.shape.tick h (state_after scenario h).changes a (a + scenario.shape.window)
+  pub rows : (state_of_tick scenario h a).rows ≡ scenario.partitions
+  pub window : (state_of_tick scenario h a).shape.window ≡ scenario.shape.window
+  pub uncritical : IsUncritical (state_of_tick scenario h a) h a
+
+-- the same, where granted budgets stand at tick a
+pub record IsAdmittedWindow (shape : Shape) (grants : List Granted) (scenario : Scenario) (h : List Entry) (a : ℕ) : Type 0 where
+  pub finished : a + shape.window ≤ finished_ticks scenario.shape h
+  pub steady : IsSteady scenario.shape.tick h (state_after scenario h).changes a (a + shape.window)
+  pub frame : IsSameFrame shape (state_of_tick scenario h a).shape
+  pub rows : AreGrantedRows grants (state_of_tick scenario h a).rows
+  pub uncritical : IsUncritical (state_of_tick scenario h a) h a
+
+-- in the window from tick a on, the partition of each demand uses at least its need; the root is partition 0
+pub record MeetsNeeds (shape : Shape) (demands : List Demand) (h : List Entry) (a : ℕ) : Type 0 where
+  pub each : (i : ℕ) (demand : Demand) → slice_get demands i ≡ Some demand
+      → demand.need ≤ used shape.tick h (i + 1) a (a + shape.window)
