@@ -14,7 +14,7 @@ fn read(alloc: Global, words: &[&str]) -> Result<Result<Command, WordsRefusal>, 
 
 #[test]
 fn these_words_are_no_command(rt: HostRuntime) -> Result<(), Fail> {
-    let lists: [&[&str]; 38] = [
+    let lists: [&[&str]; 44] = [
         &[],
         &[""],
         &["fly"],
@@ -50,6 +50,12 @@ fn these_words_are_no_command(rt: HostRuntime) -> Result<(), Fail> {
         &["upgrade", ""],
         &["upgrade", "--"],
         &["upgrade", "--limit", "7"],
+        &["admit", ""],
+        &["admit", "--order=free"],
+        &["check", "--report", "journal"],
+        &["check", "--order=both"],
+        &["check", "--limit=0"],
+        &["check", "journal"],
         &["gen", "--seed", "7", "--cpus", "8", "--partitions", "12"],
         &[
             "gen",
@@ -120,5 +126,16 @@ fn these_words_are_commands(rt: HostRuntime) -> Result<(), Fail> {
     ];
     assert_eq!(rt; read(alloc, &words)?, Ok(load));
     assert_eq!(rt; read(alloc, &["upgrade"])?, Ok(Command::Upgrade));
+    assert_eq!(rt; read(alloc, &["admit"])?, Ok(Command::Admit));
+    let usual_check = Command::Check {
+        order: Order::Free,
+        limit: 1_000_000,
+    };
+    assert_eq!(rt; read(alloc, &["check"])?, Ok(usual_check));
+    let named_check = Command::Check {
+        order: Order::Fixed,
+        limit: 7,
+    };
+    assert_eq!(rt; read(alloc, &["check", "--limit=7", "--order", "fixed"])?, Ok(named_check));
     Ok(())
 }

@@ -8,7 +8,7 @@ use Rattle.aps_model.specs.History.{History}
 use Rattle.aps_words.specs.declared.command.Command.{Command}
 use Rattle.aps_words.specs.declared.command.Report.{Report}
 use Rattle.apsim.specs.declared.outcome.Outcome.{Outcome}
-use Rattle.apsim.specs.declared.outcome.Outcome.TheVariants.{WordsRefused, ReadFault, TooLong, InputRefused, Ran, Generated, Upgraded, NoMemory}
+use Rattle.apsim.specs.declared.outcome.Outcome.TheVariants.{WordsRefused, ReadFault, TooLong, InputRefused, Ran, Generated, Upgraded, Checked, Admitted, NoMemory}
 use Rattle.apsim.specs.declared.refusal.InputRefusal.{InputRefusal}
 use Rattle.apsim.specs.Asked.{IsToRead, run_asked}
 use Rattle.apsim.specs.Cause.{Input, input_of, HasCause, IsOutcome}
@@ -25,6 +25,8 @@ lacking refused input (InputRefused refusal) to_read same h = (h.0, same ∙ h.1
 lacking refused input (Ran report end history) to_read same h = absurd h
 lacking refused input (Generated text) to_read same h = absurd h
 lacking refused input (Upgraded text) to_read same h = absurd h
+lacking refused input (Checked verdict) to_read same h = absurd h
+lacking refused input (Admitted answer) to_read same h = absurd h
 lacking refused input NoMemory to_read same h = tt
 
 -- the same over a source

@@ -1,6 +1,12 @@
 -- The status of an answer, by the outcome of the call.
 use Rattle.std.proofs.Common.{rules, ◌≡◌, ◌≢◌, ℕ, ◌≤◌, List, length, ◌⊎◌, inl, inr, Option, Some, None, IfSome, refl, sym, ap, subst, ◌∙◌, arith, Bool, true, false, ◌==◌, ◌||◌, true≢false}
 use Rattle.std.specs.Io.KnownBytes.{IsAtEnd}
+use Rattle.aps_admit.specs.declared.admission.Admission.{Admission}
+use Rattle.aps_admit.specs.declared.admission.Admission.TheVariants.{Budgets, Needs}
+use Rattle.aps_admit.specs.Text.{admission_text}
+use Rattle.aps_check.specs.declared.verdict.Verdict.{Verdict}
+use Rattle.aps_check.specs.declared.verdict.Verdict.TheVariants.{Legal, Breaks}
+use Rattle.aps_check.specs.Text.{verdict_text}
 use Rattle.aps_io.specs.Causes.{Rose}
 use Rattle.aps_model.specs.declared.entry.End.{End}
 use Rattle.aps_model.specs.declared.entry.End.TheVariants.{Horizon, Limit, Reboot}
@@ -9,15 +15,15 @@ use Rattle.aps_words.specs.declared.command.Command.{Command}
 use Rattle.aps_words.specs.declared.command.Command.TheVariants as command
 use Rattle.aps_words.specs.declared.command.Report.{Report}
 use Rattle.apsim.specs.declared.status.Status.{Status}
-use Rattle.apsim.specs.declared.status.Status.TheVariants.{Done, WordsRefused, InputRefused, Rebooted, ReadFault, WriteFault, Limited, NoMemory, TooLong}
+use Rattle.apsim.specs.declared.status.Status.TheVariants.{Done, WordsRefused, InputRefused, Rebooted, ReadFault, WriteFault, Limited, NoMemory, TooLong, JournalBreaks, NeedsExceed}
 use Rattle.apsim.specs.declared.outcome.Outcome.{Outcome}
 use Rattle.apsim.specs.declared.outcome.Outcome.TheVariants as outcome
 use Rattle.apsim.specs.declared.top.Ended.{Ended}
 use Rattle.apsim.specs.Asked.{RunAsked, IsToRead, run_asked}
 use Rattle.apsim.specs.Outcome.{report_text, status_of, text_of, history_of}
-use Rattle.apsim.specs.Status.{code, or_write_fault, status_of_end}
+use Rattle.apsim.specs.Status.{code, or_write_fault, status_of_end, status_of_verdict, status_of_admission}
 use Rattle.apsim.specs.Due.{IsDueStatus}
-use Rattle.apsim.specs.Cause.{Input, input_of, HasCause, RanAsRead, IsOutcome}
+use Rattle.apsim.specs.Cause.{Input, input_of, HasCause, RanAsRead, CheckedAsRead, AdmittedAsRead, IsOutcome}
 use Rattle.apsim.specs.Printing.{Output, Prints, WritesWhole}
 use Rattle.apsim.specs.Reading.{Intake, most_bytes, most_of, refusal_of}
 use Rattle.apsim.specs.Refusal.{refused_text, scenario_refusal}
@@ -49,6 +55,8 @@ zero_is_done WriteFault h = absurd (omega arith)
 zero_is_done Limited h = absurd (omega arith)
 zero_is_done NoMemory h = absurd (omega arith)
 zero_is_done TooLong h = absurd (omega arith)
+zero_is_done JournalBreaks h = absurd (omega arith)
+zero_is_done NeedsExceed h = absurd (omega arith)
 
 never_done : (status : Status) → or_write_fault status ≢ Done
 never_done Done h = absurd cc
@@ -60,6 +68,8 @@ never_done WriteFault h = absurd cc
 never_done Limited h = absurd cc
 never_done NoMemory h = absurd cc
 never_done TooLong h = absurd cc
+never_done JournalBreaks h = absurd cc
+never_done NeedsExceed h = absurd cc
 
 -- under status 0 that was wanted, and the whole text was written
 whole_told : (output : Output) (text : List ℕ) (wanted : Status) (told : ℕ) → IsTold output text wanted told → told ≡ 0
@@ -125,6 +135,10 @@ module _ (input : Input) (output : Output) (ended : Ended) where
       came _ Done (due_as None _ same (due.generated input _ cause)) (λ to_read _. absurd (subst IsToRead cause.asked to_read)) told
   comes (outcome.Upgraded text) cause same told =
       came _ Done (due_as None _ same (due.upgraded input _ cause)) (λ _ _. cause.whole.end) told
+  comes (outcome.Checked verdict) cause same told =
+      came _ (status_of_verdict verdict) (due_as None _ same (due.checked input verdict cause)) (λ _ _. cause.whole.end) told
+  comes (outcome.Admitted answer) cause same told =
+      came _ (status_of_admission answer) (due_as None _ same (due.admitted input answer cause)) (λ _ _. cause.whole.end) told
   comes outcome.NoMemory cause same told = wanting _ told
 
 -- ---- the text under status 0
@@ -141,6 +155,8 @@ reported (Some (command.Run order report limit)) run bytes h output is whole =
     subst (λ (r : RunAsked). ReportsWhole r.report (Some h) output) (sym (some_same _ _ is)) whole
 reported (Some (command.Gen seed cpus partitions ticks)) run bytes h output is whole = absurd cc
 reported (Some command.Upgrade) run bytes h output is whole = absurd cc
+reported (Some (command.Check order limit)) run bytes h output is whole = absurd cc
+reported (Some command.Admit) run bytes h output is whole = absurd cc
 
 ran_done : (input : Input) (output : Output) (report : Report) (end : End) (h : History) → RanAsRead input report end h
     → status_of_end end ≡ Done → WritesWhole output (report_text report h)
@@ -149,6 +165,20 @@ ran_done input output report Horizon h cause is whole =
     reported input.asked _ input.reading.bytes h output cause.asked (cause.run.ended, whole)
 ran_done input output report Limit h cause is whole = absurd cc
 ran_done input output report (Reboot p) h cause is whole = absurd cc
+
+checked_done : (input : Input) (output : Output) (verdict : Verdict) → CheckedAsRead input verdict → status_of_verdict verdict ≡ Done
+    → WritesWhole output (verdict_text verdict) → WritesAsked input.asked input.reading.bytes None output
+checked_done input output (Legal end) cause is whole =
+    subst (λ asked. WritesAsked asked input.reading.bytes None output) (sym cause.asked)
+    (cause.scenario, cause.entries, end, cause.read, cause.judged, whole)
+checked_done input output (Breaks place rule expected) cause is whole = absurd cc
+
+admitted_done : (input : Input) (output : Output) (answer : Admission) → AdmittedAsRead input answer → status_of_admission answer ≡ Done
+    → WritesWhole output (admission_text answer) → WritesAsked input.asked input.reading.bytes None output
+admitted_done input output (Budgets grants) cause is whole =
+    subst (λ asked. WritesAsked asked input.reading.bytes None output) (sym cause.asked)
+    (cause.demands, grants, cause.read, sym cause.answered, whole)
+admitted_done input output (Needs sum) cause is whole = absurd cc
 
 done : (input : Input) (output : Output) (o : Outcome) → HasCause input o → status_of o ≡ Done → WritesWhole output (text_of o)
     → WritesAsked input.asked input.reading.bytes (history_of o) output
@@ -161,6 +191,8 @@ done input output (outcome.Generated text) cause is whole =
     subst (λ asked. WritesAsked asked input.reading.bytes None output) (sym cause.asked) (_, cause.scenario, whole)
 done input output (outcome.Upgraded text) cause is whole =
     subst (λ asked. WritesAsked asked input.reading.bytes None output) (sym cause.asked) (cause.scenario, _, cause.read, cause.upgraded, whole)
+done input output (outcome.Checked verdict) cause is whole = checked_done input output verdict cause is whole
+done input output (outcome.Admitted answer) cause is whole = admitted_done input output answer cause is whole
 done input output outcome.NoMemory cause is whole = absurd cc
 
 -- ---- the history
@@ -173,6 +205,8 @@ run_told input (outcome.InputRefused refusal) cause = tt
 run_told input (outcome.Ran report end h) cause = (report, end, cause)
 run_told input (outcome.Generated text) cause = tt
 run_told input (outcome.Upgraded text) cause = tt
+run_told input (outcome.Checked verdict) cause = tt
+run_told input (outcome.Admitted answer) cause = tt
 run_told input outcome.NoMemory cause = tt
 
 no_run : (input : Input) (o : Outcome) → HasCause input o → run_asked input.asked ≡ None → history_of o ≡ None
@@ -183,6 +217,8 @@ no_run input (outcome.InputRefused refusal) cause none = refl
 no_run input (outcome.Ran report end h) cause none = let clash = sym cause.asked ∙ none in absurd cc
 no_run input (outcome.Generated text) cause none = refl
 no_run input (outcome.Upgraded text) cause none = refl
+no_run input (outcome.Checked verdict) cause none = refl
+no_run input (outcome.Admitted answer) cause none = refl
 no_run input outcome.NoMemory cause none = refl
 
 abbrev IsRefusalTold : ℕ → Type 0
@@ -219,6 +255,8 @@ no_history output (outcome.InputRefused refusal) told is h = refl
 no_history output (outcome.Ran report end history) told is h = absurd (ran_told output _ end told is h)
 no_history output (outcome.Generated text) told is h = refl
 no_history output (outcome.Upgraded text) told is h = refl
+no_history output (outcome.Checked verdict) told is h = refl
+no_history output (outcome.Admitted answer) told is h = refl
 no_history output outcome.NoMemory told is h = refl
 
 -- ---- a run in fixed order that reaches the horizon
@@ -231,6 +269,8 @@ run_takes (Some (command.Solo report limit)) run bytes is = (refl, refl)
 run_takes (Some (command.Run order report limit)) run bytes is = (refl, refl)
 run_takes (Some (command.Gen seed cpus partitions ticks)) run bytes is = absurd cc
 run_takes (Some command.Upgrade) run bytes is = absurd cc
+run_takes (Some (command.Check order limit)) run bytes is = absurd cc
+run_takes (Some command.Admit) run bytes is = absurd cc
 
 unread_told : (output : Output) (text : List ℕ) (told : ℕ) → IsTold output text ReadFault told → told ≢ code ReadFault
     → (told ≡ code Done) ⊎ (told ≡ code NoMemory)
@@ -265,6 +305,10 @@ complete input output (outcome.Ran report end h) ended cause told reaches unread
     (subst (λ e. IsTold output (report_text report h) (status_of_end e) ended.status) (ran_to input report end h cause reaches) told) unwritten
 complete input output (outcome.Generated text) ended cause told reaches unread unwritten = done_told output _ ended.status told unwritten
 complete input output (outcome.Upgraded text) ended cause told reaches unread unwritten = done_told output _ ended.status told unwritten
+complete input output (outcome.Checked verdict) ended cause told reaches unread unwritten =
+    let clash = sym reaches.asked ∙ ap run_asked cause.asked in absurd cc
+complete input output (outcome.Admitted answer) ended cause told reaches unread unwritten =
+    let clash = sym reaches.asked ∙ ap run_asked cause.asked in absurd cc
 complete input output outcome.NoMemory ended cause told reaches unread unwritten = memory_told output _ ended.status told
 
 -- ---- all of it

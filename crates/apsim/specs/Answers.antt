@@ -2,7 +2,15 @@
 use Rattle.std.specs.Prelude.{◌≡◌, ◌≢◌, ℕ, List, ◌≤◌, ◌⊎◌, length, Option, Some, None, IfSome, Ok}
 use Rattle.std.specs.Io.KnownBytes.{Consumes, IsAtEnd}
 use Rattle.aps_io.specs.Causes.{Rose}
+use Rattle.aps_admit.specs.declared.admission.Admission.TheVariants.{Budgets}
+use Rattle.aps_admit.specs.declared.admission.Granted.{Granted}
+use Rattle.aps_admit.specs.Admission.{admission}
+use Rattle.aps_admit.specs.Text.{admission_text}
+use Rattle.aps_check.specs.declared.verdict.Verdict.TheVariants.{Legal}
+use Rattle.aps_check.specs.Text.{verdict_text}
+use Rattle.aps_check.specs.Verdict.{IsVerdict}
 use Rattle.aps_model.specs.declared.entry.End.{End}
+use Rattle.aps_model.specs.declared.entry.Entry.{Entry}
 use Rattle.aps_model.specs.declared.entry.End.TheVariants.{Horizon}
 use Rattle.aps_model.specs.declared.entry.Order.TheVariants.{Fixed}
 use Rattle.aps_model.specs.After.{end_of}
@@ -10,10 +18,11 @@ use Rattle.aps_model.specs.History.{History}
 use Rattle.aps_model.specs.Legal.{fixed_run}
 use Rattle.aps_model.specs.Scenario.{Scenario}
 use Rattle.aps_model.specs.Upgrade.{upgraded}
+use Rattle.aps_scenario.specs.Demands.{Demands, reads_demands}
 use Rattle.aps_scenario.specs.Reading.{reads}
 use Rattle.aps_gen.specs.Generated.{generated}
 use Rattle.aps_words.specs.declared.command.Command.{Command}
-use Rattle.aps_words.specs.declared.command.Command.TheVariants.{Solo, Run, Gen, Upgrade}
+use Rattle.aps_words.specs.declared.command.Command.TheVariants.{Solo, Run, Gen, Upgrade, Check, Admit}
 use Rattle.aps_words.specs.declared.command.Report.{Report}
 use Rattle.apsim.specs.declared.outcome.Outcome.{Outcome}
 use Rattle.apsim.specs.declared.status.Status.{Status}
@@ -21,6 +30,7 @@ use Rattle.apsim.specs.declared.status.Status.TheVariants.{Done, WordsRefused, I
 use Rattle.apsim.specs.declared.top.Ended.{Ended}
 use Rattle.apsim.specs.Asked.{run_asked, IsToRead}
 use Rattle.apsim.specs.Status.{code, or_write_fault}
+use Rattle.apsim.specs.CheckInput.{IsCheck}
 use Rattle.apsim.specs.Due.{IsDueStatus}
 use Rattle.apsim.specs.Outcome.{status_of, text_of, history_of, report_text}
 use Rattle.apsim.specs.Reading.{Intake, most_bytes, most_of}
@@ -83,6 +93,13 @@ WritesAsked (Some (Gen seed cpus partitions ticks)) bytes h output =
 WritesAsked (Some Upgrade) bytes h output =
     (scenario : Scenario) × (text : List ℕ) × (reads bytes ≡ Ok scenario) × (reads text ≡ Ok (upgraded scenario))
     × WritesWhole output text
+WritesAsked (Some (Check order limit)) bytes h output =
+    (scenario : Scenario) × (entries : List Entry) × (end : Option End) × IsCheck bytes scenario entries
+    × IsVerdict (record { scenario = scenario; order = order; limit = limit }) entries (Legal end)
+    × WritesWhole output (verdict_text (Legal end))
+WritesAsked (Some Admit) bytes h output =
+    (demands : Demands) × (grants : List Granted) × (reads_demands bytes ≡ Ok demands)
+    × (admission demands.shape demands.demands ≡ Budgets grants) × WritesWhole output (admission_text (Budgets grants))
 
 -- the status, by its cause
 pub record Answers (input : Input) (output : Output) (ended : Ended) : Type 0 where

@@ -3,7 +3,7 @@ use Rattle.std.specs.Prelude.{ℕ, List, Option, Some, None, ⊤}
 use Rattle.aps_model.specs.declared.entry.Order.{Order}
 use Rattle.aps_model.specs.declared.entry.Order.TheVariants.{Fixed}
 use Rattle.aps_words.specs.declared.command.Command.{Command}
-use Rattle.aps_words.specs.declared.command.Command.TheVariants.{Solo, Run, Gen, Upgrade}
+use Rattle.aps_words.specs.declared.command.Command.TheVariants.{Solo, Run, Gen}
 use Rattle.aps_words.specs.declared.command.Report.{Report}
 use Rattle.aps_words.specs.Command.{command}
 

@@ -2,20 +2,27 @@
 use Rattle.std.specs.Prelude.{◌≡◌, ℕ, ◌+◌, ◌≤◌, List, [], length, Option, Some, None, Ok, ⊤, string_bytes}
 use Rattle.std.specs.Io.KnownBytes.{Consumes}
 use Rattle.aps_io.specs.Causes.{Rose}
+use Rattle.aps_admit.specs.declared.admission.Admission.{Admission}
+use Rattle.aps_admit.specs.Admission.{admission}
+use Rattle.aps_check.specs.declared.verdict.Verdict.{Verdict}
+use Rattle.aps_check.specs.Verdict.{IsVerdict}
 use Rattle.aps_model.specs.declared.entry.End.{End}
+use Rattle.aps_model.specs.declared.entry.Entry.{Entry}
 use Rattle.aps_model.specs.declared.entry.Order.{Order}
 use Rattle.aps_model.specs.History.{History}
 use Rattle.aps_model.specs.Scenario.{Scenario}
 use Rattle.aps_model.specs.Upgrade.{upgraded}
+use Rattle.aps_scenario.specs.Demands.{Demands, reads_demands}
 use Rattle.aps_scenario.specs.Reading.{reads}
 use Rattle.aps_gen.specs.Generated.{generated}
 use Rattle.aps_words.specs.declared.command.Command.{Command}
-use Rattle.aps_words.specs.declared.command.Command.TheVariants.{Gen, Upgrade}
+use Rattle.aps_words.specs.declared.command.Command.TheVariants.{Gen, Upgrade, Check, Admit}
 use Rattle.aps_words.specs.declared.command.Report.{Report}
 use Rattle.apsim.specs.declared.outcome.Outcome.{Outcome}
-use Rattle.apsim.specs.declared.outcome.Outcome.TheVariants.{WordsRefused, ReadFault, TooLong, InputRefused, Ran, Generated, Upgraded, NoMemory}
+use Rattle.apsim.specs.declared.outcome.Outcome.TheVariants.{WordsRefused, ReadFault, TooLong, InputRefused, Ran, Generated, Upgraded, Checked, Admitted, NoMemory}
 use Rattle.apsim.specs.Asked.{run_asked, IsToRead}
-use Rattle.apsim.specs.Reading.{Reading, Intake, reading_in, IsReadWhole, most_bytes, most_of, refusal_of}
+use Rattle.apsim.specs.Reading.{Reading, Intake, reading_in, IsReadWhole, most_bytes, most_check_bytes, most_of, refusal_of}
+use Rattle.apsim.specs.CheckInput.{IsCheck}
 use Rattle.apsim.specs.Run.{IsRun}
 
 -- what a call was given: the command that it was asked for, if its words are one, and what the source gave
@@ -58,6 +65,25 @@ pub record UpgradedAsRead (input : Input) (text : List ℕ) : Type 0 where
   pub read : reads input.reading.bytes ≡ Ok scenario
   pub upgraded : reads text ≡ Ok (upgraded scenario)
 
+-- the verdict is that on the scenario and the journal that the bytes are, in the order and with the limit of the command
+pub record CheckedAsRead (input : Input) (verdict : Verdict) : Type 0 where
+  pub order : Order
+  pub limit : ℕ
+  pub scenario : Scenario
+  pub entries : List Entry
+  pub asked : input.asked ≡ Some (Check order limit)
+  pub whole : IsReadWhole most_check_bytes input.reading
+  pub read : IsCheck input.reading.bytes scenario entries
+  pub judged : IsVerdict (record { scenario = scenario; order = order; limit = limit }) entries verdict
+
+-- the answer is that to the demands that the bytes are
+pub record AdmittedAsRead (input : Input) (answer : Admission) : Type 0 where
+  pub demands : Demands
+  pub asked : input.asked ≡ Some Admit
+  pub whole : IsReadWhole most_bytes input.reading
+  pub read : reads_demands input.reading.bytes ≡ Ok demands
+  pub answered : answer ≡ admission demands.shape demands.demands
+
 -- each outcome has its cause: the words come before the reading, the reading before the scenario, and that before the run
 abbrev pub HasCause : Input → Outcome → Type 0
 HasCause input WordsRefused = (input.asked ≡ None) × (input.reading.bytes ≡ [])
@@ -69,6 +95,8 @@ HasCause input (InputRefused refusal) = IsWhole input × (refusal_of input.asked
 HasCause input (Ran report end h) = RanAsRead input report end h
 HasCause input (Generated text) = GeneratedAsAsked input (string_bytes text)
 HasCause input (Upgraded text) = UpgradedAsRead input (string_bytes text)
+HasCause input (Checked verdict) = CheckedAsRead input verdict
+HasCause input (Admitted answer) = AdmittedAsRead input answer
 HasCause input NoMemory = ⊤
 
 -- the outcome of a call that was asked for this command, over this source: the bytes that it read are a cause of it

@@ -2,6 +2,7 @@ pub mod Asked
 pub mod Status
 pub mod Run
 pub mod Refusal
+pub mod CheckInput
 pub mod Reading
 pub mod Outcome
 pub mod Due

@@ -5,13 +5,16 @@ use Rattle.aps_core.specs.Run.{Run}
 use Rattle.aps_io.specs.Causes.{Rose}
 use Rattle.aps_model.specs.declared.entry.Order.{Order}
 use Rattle.aps_model.specs.Scenario.{Scenario}
+use Rattle.aps_scenario.specs.Demands.{Demands, reads_demands}
 use Rattle.aps_scenario.specs.Reading.{reads}
 use Rattle.aps_words.specs.declared.command.Command.{Command}
 use Rattle.aps_words.specs.declared.command.Command.TheVariants as command
 use Rattle.apsim.specs.declared.outcome.Outcome.{Outcome}
 use Rattle.apsim.specs.declared.outcome.Outcome.TheVariants.{ReadFault, TooLong, InputRefused, NoMemory}
+use Rattle.apsim.specs.declared.reading.Recorded.{Recorded}
 use Rattle.apsim.specs.declared.refusal.InputRefusal.{InputRefusal}
-use Rattle.apsim.specs.Refusal.{scenario_refusal}
+use Rattle.apsim.specs.CheckInput.{IsCheck, check_refusal}
+use Rattle.apsim.specs.Refusal.{scenario_refusal, demands_refusal}
 
 -- the bytes that the source delivered and those that it has left, where it tells, and its count of faults before and after
 pub record Reading : Type 0 where
@@ -39,9 +42,13 @@ intake_of before after faults_before faults =
 abbrev pub reading_in : Intake → List ℕ → Reading
 reading_in intake bytes = reading_of bytes intake.after intake.faults_before intake.faults
 
--- the most bytes that are taken as a scenario
+-- the most bytes that are taken as a scenario, or as demands
 abbrev pub most_bytes : ℕ
 most_bytes = 1048576
+
+-- the most bytes that are taken as a scenario with a journal
+abbrev pub most_check_bytes : ℕ
+most_check_bytes = 310000000
 
 -- the source was read to its end, and that was not too long
 pub record IsReadWhole (most : ℕ) (reading : Reading) : Type 0 where
@@ -76,6 +83,12 @@ GivesText refused Is (Err outcome) = RefusesText refused outcome
 abbrev pub IsScenarioText : List ℕ → Scenario → Type 0
 IsScenarioText bytes scenario = reads bytes ≡ Ok scenario
 
+abbrev pub IsDemandsText : List ℕ → Demands → Type 0
+IsDemandsText bytes demands = reads_demands bytes ≡ Ok demands
+
+abbrev pub IsRecordedText : List ℕ → Recorded → Type 0
+IsRecordedText bytes recorded = IsCheck bytes recorded.scenario recorded.entries.items
+
 -- what the bytes that were read of a source give
 abbrev pub GivesIn : {A : Type 0} → (List ℕ → Option InputRefusal) → (List ℕ → A → Type 0) → ℕ → Intake → Result A Outcome → Type 0
 GivesIn refused Is most intake result =
@@ -83,6 +96,12 @@ GivesIn refused Is most intake result =
 
 abbrev pub GivesScenario : Intake → Result Scenario Outcome → Type 0
 GivesScenario intake result = GivesIn scenario_refusal IsScenarioText most_bytes intake result
+
+abbrev pub GivesDemands : Intake → Result Demands Outcome → Type 0
+GivesDemands intake result = GivesIn demands_refusal IsDemandsText most_bytes intake result
+
+abbrev pub GivesRecorded : Intake → Result Recorded Outcome → Type 0
+GivesRecorded intake result = GivesIn check_refusal IsRecordedText most_check_bytes intake result
 
 -- ---- the beginning of a run
 
@@ -105,6 +124,8 @@ refusal_by (command.Gen seed cpus partitions ticks) bytes = None
 refusal_by (command.Solo report limit) bytes = scenario_refusal bytes
 refusal_by (command.Run order report limit) bytes = scenario_refusal bytes
 refusal_by command.Upgrade bytes = scenario_refusal bytes
+refusal_by (command.Check order limit) bytes = check_refusal bytes
+refusal_by command.Admit bytes = demands_refusal bytes
 
 abbrev pub refusal_of : Option Command → List ℕ → Option InputRefusal
 refusal_of None bytes = None
@@ -112,6 +133,7 @@ refusal_of (Some asked) bytes = refusal_by asked bytes
 
 -- the most bytes that a command takes as its input
 abbrev pub most_taken : Command → ℕ
+most_taken (command.Check order limit) = most_check_bytes
 most_taken asked = most_bytes
 
 abbrev pub most_of : Option Command → ℕ

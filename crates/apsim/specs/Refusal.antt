@@ -4,6 +4,7 @@ use Rattle.std.specs.Fmt.{decimal}
 use Rattle.aps_scenario.specs.Kind.{kind_word}
 use Rattle.aps_scenario.specs.Refusal.{Refusal}
 use Rattle.aps_scenario.specs.Reading.{reads}
+use Rattle.aps_scenario.specs.Demands.{reads_demands}
 use Rattle.apsim.specs.declared.refusal.InputRefusal.{InputRefusal}
 use Rattle.apsim.specs.declared.refusal.InputRefusal.TheVariants.{Text, NoJournal, BadJournal}
 
@@ -24,3 +25,6 @@ refused_text (Err refusal) = Some (Text refusal.kind refusal.path)
 
 abbrev pub scenario_refusal : List ℕ → Option InputRefusal
 scenario_refusal bytes = refused_text (reads bytes)
+
+abbrev pub demands_refusal : List ℕ → Option InputRefusal
+demands_refusal bytes = refused_text (reads_demands bytes)

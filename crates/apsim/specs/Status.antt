@@ -2,8 +2,12 @@
 use Rattle.std.specs.Prelude.{ℕ}
 use Rattle.aps_model.specs.declared.entry.End.{End}
 use Rattle.aps_model.specs.declared.entry.End.TheVariants.{Horizon, Limit, Reboot}
+use Rattle.aps_admit.specs.declared.admission.Admission.{Admission}
+use Rattle.aps_admit.specs.declared.admission.Admission.TheVariants.{Budgets, Needs}
+use Rattle.aps_check.specs.declared.verdict.Verdict.{Verdict}
+use Rattle.aps_check.specs.declared.verdict.Verdict.TheVariants.{Legal, Breaks}
 use Rattle.apsim.specs.declared.status.Status.{Status}
-use Rattle.apsim.specs.declared.status.Status.TheVariants.{Done, WordsRefused, InputRefused, Rebooted, ReadFault, WriteFault, Limited, NoMemory, TooLong}
+use Rattle.apsim.specs.declared.status.Status.TheVariants.{Done, WordsRefused, InputRefused, Rebooted, ReadFault, WriteFault, Limited, NoMemory, TooLong, JournalBreaks, NeedsExceed}
 
 abbrev pub code : Status → ℕ
 code Done = 0
@@ -15,12 +19,24 @@ code WriteFault = 5
 code Limited = 6
 code NoMemory = 7
 code TooLong = 8
+code JournalBreaks = 9
+code NeedsExceed = 10
 
 -- the status of a run that ended so
 abbrev pub status_of_end : End → Status
 status_of_end Horizon = Done
 status_of_end Limit = Limited
 status_of_end (Reboot p) = Rebooted
+
+-- the status of a verdict
+abbrev pub status_of_verdict : Verdict → Status
+status_of_verdict (Legal end) = Done
+status_of_verdict (Breaks entry rule expected) = JournalBreaks
+
+-- the status of an answer to demands
+abbrev pub status_of_admission : Admission → Status
+status_of_admission (Budgets grants) = Done
+status_of_admission (Needs sum) = NeedsExceed
 
 -- a fault of the sink takes the place of status 0 alone
 abbrev pub or_write_fault : Status → Status
@@ -33,3 +49,5 @@ or_write_fault WriteFault = WriteFault
 or_write_fault Limited = Limited
 or_write_fault NoMemory = NoMemory
 or_write_fault TooLong = TooLong
+or_write_fault JournalBreaks = JournalBreaks
+or_write_fault NeedsExceed = NeedsExceed

@@ -12,12 +12,15 @@ ghost use Rattle.apsim.specs.Printing.{Prints, output_of};
 ghost use Rattle.apsim.specs.Reading.{intake_of};
 
 use crate::printing::print;
-use crate::reading::read_scenario;
+use crate::reading::{read_demands, read_recorded, read_scenario};
 use crate::refusal::{InputRefusal, print_refusal};
+use crate::answer::{print_admission, print_verdict};
 use crate::report::print_report;
 use crate::run::{begin, run_to_end};
 use crate::status::Status;
 use crate::threads::run_on_threads;
+use aps_admit::{Admission, admit};
+use aps_check::{Verdict, check};
 use aps_cpu::Gate;
 use aps_gen::generate;
 use aps_io::{Sink, Source};
@@ -52,6 +55,14 @@ pub enum Outcome {
     /// This is a text of the scenario that was read, with its budgets in parts per thousand.
     Upgraded {
         text: String,
+    },
+    /// This is the verdict on the journal that was read.
+    Checked {
+        verdict: Verdict,
+    },
+    /// This is the answer to the demands that were read.
+    Admitted {
+        admission: Admission,
     },
     /// There was no memory.
     NoMemory,
@@ -111,6 +122,8 @@ impl Outcome {
                 ticks,
             } => Outcome::of_gen(alloc, seed, cpus, partitions, ticks),
             Command::Upgrade => Outcome::of_upgrade(alloc, source),
+            Command::Check { order, limit } => Outcome::of_check(alloc, order, limit, source),
+            Command::Admit => Outcome::of_admit(alloc, source),
         }
     }
 
@@ -194,6 +207,38 @@ impl Outcome {
         }
     }
 
+    /// Judges the journal of the source.
+    fn of_check<S: Source>(alloc: Global, order: Order, limit: u32, source: &mut S) -> Outcome
+        requires some { 1 ≤ limit }
+        requires few { limit ≤ 4000000 }
+        ensures { IsOutcome (Some (asked.Check order limit))
+            (intake_of (S.left source.old) (S.left source.new) (S.faults source.old) (S.faults source.new)) result }
+    {
+        let recorded = match read_recorded(alloc, source) {
+            Ok(recorded) => recorded,
+            Err(outcome) => return outcome,
+        };
+        match check(alloc, &recorded.scenario, order, limit, &recorded.entries) {
+            Ok(verdict) => Outcome::Checked { verdict },
+            Err(_) => Outcome::NoMemory,
+        }
+    }
+
+    /// Answers the demands of the source.
+    fn of_admit<S: Source>(alloc: Global, source: &mut S) -> Outcome
+        ensures { IsOutcome (Some asked.Admit)
+            (intake_of (S.left source.old) (S.left source.new) (S.faults source.old) (S.faults source.new)) result }
+    {
+        let demands = match read_demands(alloc, source) {
+            Ok(demands) => demands,
+            Err(outcome) => return outcome,
+        };
+        match admit(alloc, demands.shape(), demands.as_slice()) {
+            Ok(admission) => Outcome::Admitted { admission },
+            Err(_) => Outcome::NoMemory,
+        }
+    }
+
     /// Writes the text of the outcome, and gives the status that comes of it.
     pub fn say<K: Sink>(&self, alloc: Global, sink: &mut K) -> Status
         ensures { Prints (output_of (K.written sink.old) (K.written sink.new) (K.faults sink.old) (K.faults sink.new))
@@ -210,6 +255,8 @@ impl Outcome {
                 history,
             } => print_report(alloc, *report, history, Status::of_end(end), sink),
             Outcome::Generated { text } | Outcome::Upgraded { text } => print(sink, text.as_bytes(), Status::Done),
+            Outcome::Checked { verdict } => print_verdict(alloc, verdict, sink),
+            Outcome::Admitted { admission } => print_admission(alloc, admission, sink),
             Outcome::NoMemory => Status::NoMemory,
         }
     }

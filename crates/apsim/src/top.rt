@@ -17,7 +17,7 @@ use std::thread::Threads;
 /// How a call ended: the exit status (docs/FORMATS.md, "Exit status"), and the history where there was a run.
 #[derive(Drop)]
 pub struct Ended {
-    /// 0 to 8.
+    /// 0 to 10.
     pub status: u8,
     /// Only `solo` and `run` have one: under 0, 3, 5 and 6, and under 7 where memory ran out only after the run.
     pub history: Option<History>,
@@ -26,8 +26,10 @@ pub struct Ended {
 /// Does what the words ask for, on the calling thread. For `solo` it reads a scenario from the source,
 /// runs it in fixed order up to the named limit, and writes the named report of its history to the
 /// sink. For `gen` it reads nothing, and writes the text of the scenario that is generated from the
-/// named numbers. For `upgrade` it reads a scenario, and writes it with its budgets in parts per thousand. It waits
-/// for nobody. Commands that need other threads are refused as words.
+/// named numbers. For `upgrade` it reads a scenario, and writes it with its budgets in parts per thousand. For
+/// `check` it reads a scenario and a journal, and writes whether the journal is that of a run of the scenario in the
+/// named order and up to the named limit. For `admit` it reads demands, and writes the least budgets that meet them.
+/// It waits for nobody. Commands that need other threads are refused as words.
 ///
 /// A refusal and a fault of the source are written to the sink too. Each status has its one cause: docs/FORMATS.md,
 /// "Exit status". A fault of the sink leaves a prefix of the text there, and so does want of memory.

@@ -27,3 +27,13 @@ pub returns-in-Ran : goal.returns-in-Ran
 returns-in-Ran g c =
     let is = c.in-Ran.is in
     said_as _ _ _ _ _ _ (sym (ap text_of is)) (c.of_end.ensures ∙ sym (ap status_of is)) c.print_report.ensures
+
+pub returns-in-Checked : goal.returns-in-Checked
+returns-in-Checked g c =
+    let is = c.in-Checked.is in
+    said_as _ _ _ _ _ _ (sym (ap text_of is)) (sym (ap status_of is)) c.print_verdict.ensures
+
+pub returns-in-Admitted : goal.returns-in-Admitted
+returns-in-Admitted g c =
+    let is = c.in-Admitted.is in
+    said_as _ _ _ _ _ _ (sym (ap text_of is)) (sym (ap status_of is)) c.print_admission.ensures
