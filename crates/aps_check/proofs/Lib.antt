@@ -1,3 +1,3 @@
 mod Differences
-mod Verdicts
+pub mod Verdicts
 mod Breaches

@@ -13,13 +13,14 @@ use Rattle.clap.specs.declared.parser.matches.Found.{Found}
 use Rattle.clap.proofs.OnLiterals.{clap_on_literals}
 use Rattle.clap.proofs.WalkLemmas.{first_value-rows}
 use Rattle.aps_words.specs.declared.command.Command.{Command}
+use Rattle.aps_words.specs.declared.command.Command.TheVariants.{Upgrade, Admit}
 use Rattle.aps_words.specs.declared.command.WordsRefusal.{WordsRefusal}
 use Rattle.aps_words.specs.declared.command.WordsRefusal.TheVariants.{Words, NoMemory}
 use Rattle.aps_words.specs.Clap.{app_with}
 use Rattle.aps_words.specs.Options.{Given, value_of, is_known, options, options_after}
 use Rattle.aps_words.specs.Number.{number_in}
 use Rattle.aps_words.specs.Values.{report_of, order_of, limit_of, required_in}
-use Rattle.aps_words.specs.Command.{◌>>=◌, solo, run, gen, solo_options, run_options, gen_options, with_options, command, Says}
+use Rattle.aps_words.specs.Command.{◌>>=◌, solo, run, gen, check, solo_options, run_options, gen_options, check_options, with_options, alone, command, Says}
 use Rattle.aps_words.specs.Plain.{is_plain}
 use Rattle.aps_words.proofs.Uses.{uses}
 use Rattle.aps_words.proofs.ClapRules.{opts}
@@ -166,6 +167,16 @@ gen_none f name value known there hyphen =
       ]
     ]
 
+check_none : (f : Text → Option Text) (name value : Text) → is_known check_options name ≡ true → f name ≡ Some value → begins_with_hyphen value ≡ true → check f ≡ None
+check_none f name value known there hyphen =
+    elim (known_or (codes "order") name (codes "limit" ∷ []) known) [
+      | inl e ↦ let here : f (codes "order") ≡ Some value = ap f (sym e) ∙ there in rw (here, no_order value hyphen) refl
+      | inr rest ↦ elim (known_or (codes "limit") name [] rest) [
+        | inl e ↦ let here : f (codes "limit") ≡ Some value = ap f (sym e) ∙ there in rw (here, no_number value hyphen 1 4000000) (bind_none _)
+        | inr never ↦ absurd (false≢true never)
+      ]
+    ]
+
 pub solo_is_read : IsRead (codes "solo") solo_options solo
 unfolding clap_on_literals
 solo_is_read = record {
@@ -196,6 +207,22 @@ gen_is_read = record {
   none = gen_none;
 }
 
+pub check_is_read : IsRead (codes "check") check_options check
+unfolding clap_on_literals
+check_is_read = record {
+  simple = refl;
+  fault = λ words. refl;
+  rows = λ words. refl;
+  same = λ f g e. rw (e (codes "order"), e (codes "limit")) refl;
+  none = check_none;
+}
+
+-- words behind a command that has no options are none of its
+unplain_alone : (asked : Command) (words : List Text) → is_plain [] words ≡ false → alone asked words ≡ None
+unfolding is_plain
+unplain_alone asked [] h = absurd (false≢true (sym h))
+unplain_alone asked (word ∷ words) h = refl
+
 pub unplain_none : (ss : List (String Global)) → is_plain [] (map string_bytes (drop 1 ss)) ≡ false → command (map string_bytes ss) ≡ None
 unplain_none [] h = refl
 unplain_none (s ∷ ss) h =
@@ -203,13 +230,23 @@ unplain_none (s ∷ ss) h =
     let bare = unplain (codes "solo") solo_options solo solo_is_read words h in
     let threaded = unplain (codes "run") run_options run run_is_read words h in
     let made = unplain (codes "gen") gen_options gen gen_is_read words h in
+    let judged = unplain (codes "check") check_options check check_is_read words h in
     elim (cases_Bool (bytes_eq (string_bytes s) (codes "solo"))) [
       | inl is ↦ rw is bare
       | inr differs ↦ elim (cases_Bool (bytes_eq (string_bytes s) (codes "run"))) [
         | inl is ↦ rw (differs, is) threaded
         | inr other ↦ elim (cases_Bool (bytes_eq (string_bytes s) (codes "gen"))) [
           | inl is ↦ rw (differs, other, is) made
-          | inr last ↦ rw (differs, other, last) refl
+          | inr third ↦ elim (cases_Bool (bytes_eq (string_bytes s) (codes "upgrade"))) [
+            | inl is ↦ rw (differs, other, third, is) (unplain_alone Upgrade words h)
+            | inr fourth ↦ elim (cases_Bool (bytes_eq (string_bytes s) (codes "check"))) [
+              | inl is ↦ rw (differs, other, third, fourth, is) judged
+              | inr fifth ↦ elim (cases_Bool (bytes_eq (string_bytes s) (codes "admit"))) [
+                | inl is ↦ rw (differs, other, third, fourth, fifth, is) (unplain_alone Admit words h)
+                | inr last ↦ rw (differs, other, third, fourth, fifth, last) refl
+              ]
+            ]
+          ]
         ]
       ]
     ]

@@ -2,7 +2,7 @@
 use Rattle.std.specs.Prelude.{◌≡◌, ℕ, ◌≤◌, List, [], ◌∷◌, codes, Option, Some, None, Result, Ok, Err, if◌then◌else◌, option_map, option_and_then, ⊤}
 use Rattle.std.specs.Str.{bytes_eq}
 use Rattle.aps_words.specs.declared.command.Command.{Command}
-use Rattle.aps_words.specs.declared.command.Command.TheVariants.{Solo, Run, Gen}
+use Rattle.aps_words.specs.declared.command.Command.TheVariants.{Solo, Run, Gen, Upgrade, Check, Admit}
 use Rattle.aps_words.specs.declared.command.WordsRefusal.{WordsRefusal}
 use Rattle.aps_words.specs.declared.command.WordsRefusal.TheVariants as refusal
 use Rattle.aps_words.specs.Options.{Text, Given, value_of, options}
@@ -37,6 +37,13 @@ gen value = do
   ticks ← required_in 1 1000000 (value (codes "ticks"))
   Some (Gen seed cpus partitions ticks)
 
+-- `check`, by the values of its options
+abbrev pub check : (Text → Option Text) → Option Command
+check value = do
+  order ← order_of (value (codes "order"))
+  limit ← limit_of (value (codes "limit"))
+  Some (Check order limit)
+
 abbrev pub solo_options : List Text
 solo_options = codes "report" ∷ codes "limit" ∷ []
 
@@ -46,9 +53,17 @@ run_options = codes "order" ∷ codes "report" ∷ codes "limit" ∷ []
 abbrev pub gen_options : List Text
 gen_options = codes "seed" ∷ codes "cpus" ∷ codes "partitions" ∷ codes "ticks" ∷ []
 
+abbrev pub check_options : List Text
+check_options = codes "order" ∷ codes "limit" ∷ []
+
 -- a command with options of these names, by the words behind its own
 abbrev pub with_options : List Text → ((Text → Option Text) → Option Command) → List Text → Option Command
 with_options names by words = options names words >>= λ given. by (value_of given)
+
+-- a command that has no options, by the words behind its own
+abbrev pub alone : Command → List Text → Option Command
+alone command [] = Some command
+alone command (word ∷ words) = None
 
 -- the command that these words are, or nothing
 abbrev pub command : List Text → Option Command
@@ -56,7 +71,10 @@ command [] = None
 command (word ∷ words) =
     if bytes_eq word (codes "solo") then with_options solo_options solo words
     else (if bytes_eq word (codes "run") then with_options run_options run words
-    else (if bytes_eq word (codes "gen") then with_options gen_options gen words else None))
+    else (if bytes_eq word (codes "gen") then with_options gen_options gen words
+    else (if bytes_eq word (codes "upgrade") then alone Upgrade words
+    else (if bytes_eq word (codes "check") then with_options check_options check words
+    else (if bytes_eq word (codes "admit") then alone Admit words else None)))))
 
 -- the answer is this command, or a refusal of the words where there is none; want of memory tells nothing
 abbrev pub Says : Result Command WordsRefusal → Option Command → Type 0
@@ -70,3 +88,6 @@ HasRanges (Solo report limit) = (1 ≤ limit) × (limit ≤ 4000000)
 HasRanges (Run order report limit) = (1 ≤ limit) × (limit ≤ 4000000)
 HasRanges (Gen seed cpus partitions ticks) =
     (1 ≤ cpus) × (cpus ≤ 16) × (1 ≤ partitions) × (partitions ≤ 32) × (1 ≤ ticks) × (ticks ≤ 1000000)
+HasRanges (Check order limit) = (1 ≤ limit) × (limit ≤ 4000000)
+HasRanges Upgrade = ⊤
+HasRanges Admit = ⊤

@@ -4,7 +4,7 @@ ghost use Rattle.clap.specs.Words.{first_value, found_of};
 ghost use Rattle.aps_words.specs.Command as spec;
 ghost use Rattle.aps_words.specs.Plain.{is_plain};
 
-use crate::options::{gen_options, matches_in, run_options, solo_options};
+use crate::options::{check_options, gen_options, matches_in, run_options, solo_options};
 use crate::plain::is_plain;
 use crate::values::{limit_of, order_of, report_of, required_in};
 use aps_model::Order;
@@ -42,6 +42,16 @@ pub enum Command {
         partitions: u8,
         ticks: u32,
     },
+    /// Writes a scenario with its budgets in parts per thousand.
+    Upgrade,
+    /// Judges a journal of a scenario: whether its processors took their turns in this order, up to `limit` entries, 1 to
+    /// 4,000,000.
+    Check {
+        order: Order,
+        limit: u32,
+    },
+    /// Writes the least budgets that meet the demands that are read.
+    Admit,
 }
 
 /// Why no command was read.
@@ -66,7 +76,7 @@ impl From<AllocError> for WordsRefusal {
 /// The command that these words are (docs/FORMATS.md, "Command line"): a command word, and then its
 /// options in any order, each at most once, as `--name value` or `--name=value`. Numbers have the
 /// ranges that `Command` names. Without its option the report is the summary, the limit 1,000,000
-/// entries, and the order of `run` the free one; `gen` needs each of its options.
+/// entries, and the order the free one; `gen` needs each of its options, `upgrade` and `admit` have none.
 ///
 /// All other words are refused: another command word or none, `--`, an option that the command
 /// doesn't have, an option twice or without a value, a value that is none of the option's, any
@@ -86,6 +96,21 @@ pub fn command_of(alloc: Global, words: &[String]) -> Result<Command, WordsRefus
         "solo" => solo_of(alloc, words),
         "run" => run_of(alloc, words),
         "gen" => gen_of(alloc, words),
+        "upgrade" => alone(Command::Upgrade, options),
+        "check" => check_of(alloc, words),
+        "admit" => alone(Command::Admit, options),
+        _ => Err(WordsRefusal::Words),
+    }
+}
+
+/// A command that has no options, by the words behind its own.
+fn alone(command: Command, options: &[String]) -> Result<Command, WordsRefusal>
+    requires ranges { spec.HasRanges command }
+    ensures same { spec.Says result (spec.alone command (map string_bytes options.now)) }
+    ensures ranges { IfOk result spec.HasRanges }
+{
+    match options {
+        [] => Ok(command),
         _ => Err(WordsRefusal::Words),
     }
 }
@@ -129,6 +154,19 @@ fn gen_of(alloc: Global, words: &[String]) -> Result<Command, WordsRefusal>
     }
 }
 
+/// `check`, by the words behind the first.
+fn check_of(alloc: Global, words: &[String]) -> Result<Command, WordsRefusal>
+    requires plain { is_plain [] (drop 1 (map string_bytes words.now)) ≡ true }
+    ensures same { spec.Says result (spec.with_options spec.check_options spec.check (drop 1 (map string_bytes words.now))) }
+    ensures ranges { IfOk result spec.HasRanges }
+{
+    let matches = matches_in(check_options(alloc)?, words)?;
+    match check_from(&matches) {
+        Some(command) => Ok(command),
+        None => Err(WordsRefusal::Words),
+    }
+}
+
 fn solo_from(matches: &ArgMatches<'_>) -> Option<Command>
     ensures same { result ≡ spec.solo (first_value (found_of matches.now)) }
     ensures ranges { IfSome result spec.HasRanges }
@@ -150,6 +188,15 @@ fn run_from(matches: &ArgMatches<'_>) -> Option<Command>
         report,
         limit,
     })
+}
+
+fn check_from(matches: &ArgMatches<'_>) -> Option<Command>
+    ensures same { result ≡ spec.check (first_value (found_of matches.now)) }
+    ensures ranges { IfSome result spec.HasRanges }
+{
+    let order = order_of(matches.get_str("order"))?;
+    let limit = limit_of(matches.get_str("limit"))?;
+    Some(Command::Check { order, limit })
 }
 
 fn gen_from(matches: &ArgMatches<'_>) -> Option<Command>

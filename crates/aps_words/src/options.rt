@@ -50,6 +50,16 @@ pub fn gen_options<'a>(alloc: Global) -> Result<Command<'a>, AllocError>
         .arg(option(alloc, "ticks"))
 }
 
+/// The command of `check`.
+pub fn check_options<'a>(alloc: Global) -> Result<Command<'a>, AllocError>
+    ensures { IfOk result (λ c. app_of c ≡ app_with (codes "check") spec.check_options) }
+{
+    Command::new(alloc, "check")
+        .disable_help_flag(true)
+        .arg(option(alloc, "order"))?
+        .arg(option(alloc, "limit"))
+}
+
 /// What clap reads in the words, whose first is the command's own.
 pub fn matches_in<'a>(
     command: Command<'a>,

@@ -14,7 +14,7 @@ fn read(alloc: Global, words: &[&str]) -> Result<Result<Command, WordsRefusal>, 
 
 #[test]
 fn these_words_are_no_command(rt: HostRuntime) -> Result<(), Fail> {
-    let lists: [&[&str]; 35] = [
+    let lists: [&[&str]; 44] = [
         &[],
         &[""],
         &["fly"],
@@ -47,6 +47,15 @@ fn these_words_are_no_command(rt: HostRuntime) -> Result<(), Fail> {
         &["solo", "--limit=7", "--limit", "7"],
         &["solo", "--order", "free"],
         &["run", "--order=both"],
+        &["upgrade", ""],
+        &["upgrade", "--"],
+        &["upgrade", "--limit", "7"],
+        &["admit", ""],
+        &["admit", "--order=free"],
+        &["check", "--report", "journal"],
+        &["check", "--order=both"],
+        &["check", "--limit=0"],
+        &["check", "journal"],
         &["gen", "--seed", "7", "--cpus", "8", "--partitions", "12"],
         &[
             "gen",
@@ -116,5 +125,17 @@ fn these_words_are_commands(rt: HostRuntime) -> Result<(), Fail> {
         "0",
     ];
     assert_eq!(rt; read(alloc, &words)?, Ok(load));
+    assert_eq!(rt; read(alloc, &["upgrade"])?, Ok(Command::Upgrade));
+    assert_eq!(rt; read(alloc, &["admit"])?, Ok(Command::Admit));
+    let usual_check = Command::Check {
+        order: Order::Free,
+        limit: 1_000_000,
+    };
+    assert_eq!(rt; read(alloc, &["check"])?, Ok(usual_check));
+    let named_check = Command::Check {
+        order: Order::Fixed,
+        limit: 7,
+    };
+    assert_eq!(rt; read(alloc, &["check", "--limit=7", "--order", "fixed"])?, Ok(named_check));
     Ok(())
 }

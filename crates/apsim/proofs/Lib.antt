@@ -1,4 +1,6 @@
 pub mod Said
-pub mod Statuses
-pub mod Generating
 pub mod Caused
+pub mod Due
+pub mod Separated
+pub mod CheckRead
+pub mod Statuses

@@ -1,8 +1,11 @@
 //! The program: it reads a scenario from standard input, runs it, and writes what came of it to standard output.
 #![tactic(auto)]
 
+mod answer;
 mod outcome;
 mod printing;
+mod reading;
+mod refusal;
 mod report;
 mod run;
 mod status;

@@ -1,25 +1,31 @@
-//! The outcome of a call of the program, by its words and its input.
-ghost use Rattle.std.specs.Prelude.{◌≡◌, ◌≤◌, ℕ, List, map, string_bytes, vec_items, IfOk, Ok};
-ghost use Rattle.std.specs.Io.KnownBytes.{Consumes};
+//! The outcome of a call of the program, by its command and its input.
+ghost use Rattle.std.specs.Prelude.{◌≡◌, ◌≤◌, [], Some, map, string_bytes, IfOk, Ok};
 ghost use Rattle.aps_gen.specs.Generated.{generated};
 ghost use Rattle.aps_scenario.specs.Reading.{reads};
-ghost use Rattle.aps_model.specs.declared.entry.Order.TheVariants.{Fixed};
-ghost use Rattle.apsim.specs.Asked.{calm_command};
-ghost use Rattle.apsim.specs.Cause.{HasCause, FollowsReading, FollowsNumbers};
-ghost use Rattle.apsim.specs.Outcome.{history_of, status_of, text_of, refusal_text};
+ghost use Rattle.aps_model.specs.Upgrade.{upgraded};
+ghost use Rattle.aps_words.specs.Command.{HasRanges, command};
+ghost use Rattle.aps_words.specs.declared.command.Command.TheVariants as asked;
+ghost use Rattle.apsim.specs.Asked.{calm, calm_command};
+ghost use Rattle.apsim.specs.Cause.{Input, HasCause, IsOutcome};
+ghost use Rattle.apsim.specs.Outcome.{history_of, status_of, text_of};
 ghost use Rattle.apsim.specs.Printing.{Prints, output_of};
-ghost use Rattle.apsim.specs.Reading.{reading_of};
+ghost use Rattle.apsim.specs.Reading.{intake_of};
 
 use crate::printing::print;
+use crate::reading::{read_demands, read_recorded, read_scenario};
+use crate::refusal::{InputRefusal, print_refusal};
+use crate::answer::{print_admission, print_verdict};
 use crate::report::print_report;
 use crate::run::{begin, run_to_end};
 use crate::status::Status;
 use crate::threads::run_on_threads;
+use aps_admit::{Admission, admit};
+use aps_check::{Verdict, check};
 use aps_cpu::Gate;
 use aps_gen::generate;
 use aps_io::{Sink, Source};
-use aps_model::{End, History, NoMemory, Order};
-use aps_scenario::{Kind, PathText};
+use aps_model::{End, History, NoMemory, Order, Scenario};
+use aps_scenario::upgrade;
 use aps_words::{Command, Report, WordsRefusal, command_of};
 use std::alloc::Global;
 use std::sync::Wait;
@@ -34,11 +40,8 @@ pub enum Outcome {
     ReadFault,
     /// The input is too long.
     TooLong,
-    /// The input is no scenario.
-    ScenarioRefused {
-        kind: Kind,
-        path: PathText,
-    },
+    /// The input is none that the command takes.
+    InputRefused(InputRefusal),
     /// The scenario was run to this end, and this report is asked for.
     Ran {
         report: Report,
@@ -49,32 +52,78 @@ pub enum Outcome {
     Generated {
         text: String,
     },
+    /// This is a text of the scenario that was read, with its budgets in parts per thousand.
+    Upgraded {
+        text: String,
+    },
+    /// This is the verdict on the journal that was read.
+    Checked {
+        verdict: Verdict,
+    },
+    /// This is the answer to the demands that were read.
+    Admitted {
+        admission: Admission,
+    },
     /// There was no memory.
     NoMemory,
 }
 
 impl Outcome {
-    /// Decides by the words, then by the reading of the source, then by what was read. A command that needs other threads
-    /// is refused.
-    pub fn of<S: Source>(alloc: Global, words: &[String], source: &mut S) -> Outcome
-        ensures { (bytes : List ℕ) × Consumes (S.left source.old) (S.left source.new) bytes
-            × HasCause (record {
-              asked = calm_command (map string_bytes words.now);
-              reading = reading_of bytes (S.left source.new) (S.faults source.old) (S.faults source.new);
-            }) result }
+    /// Decides by the words, then by the reading of the source, then by what was read. `run` needs other threads.
+    pub fn of<R: Threads + Wait + Sync, S: Source, G: Gate + Sync>(
+        rt: &R,
+        alloc: Global,
+        words: &[String],
+        source: &mut S,
+        gate: &G,
+    ) -> Outcome
+        ensures { IsOutcome (command (map string_bytes words.now))
+            (intake_of (S.left source.old) (S.left source.new) (S.faults source.old) (S.faults source.new)) result }
     {
         match command_of(alloc, words) {
-            Ok(Command::Solo { report, limit }) => Outcome::of_solo(alloc, report, limit, source),
             Ok(
-                Command::Gen {
-                    seed,
-                    cpus,
-                    partitions,
-                    ticks,
+                Command::Run {
+                    order,
+                    report,
+                    limit,
                 },
-            ) => Outcome::of_gen(alloc, seed, cpus, partitions, ticks),
-            Ok(Command::Run { .. }) | Err(WordsRefusal::Words) => Outcome::WordsRefused,
+            ) => Outcome::of_run(rt, alloc, order, report, limit, source, gate),
+            Ok(command) => Outcome::of_calm(alloc, command, source),
+            Err(WordsRefusal::Words) => Outcome::WordsRefused,
             Err(WordsRefusal::NoMemory) => Outcome::NoMemory,
+        }
+    }
+
+    /// Decides as `of` does, and refuses words that need other threads.
+    pub fn of_calm_words<S: Source>(alloc: Global, words: &[String], source: &mut S) -> Outcome
+        ensures { IsOutcome (calm_command (map string_bytes words.now))
+            (intake_of (S.left source.old) (S.left source.new) (S.faults source.old) (S.faults source.new)) result }
+    {
+        match command_of(alloc, words) {
+            Ok(command) => Outcome::of_calm(alloc, command, source),
+            Err(WordsRefusal::Words) => Outcome::WordsRefused,
+            Err(WordsRefusal::NoMemory) => Outcome::NoMemory,
+        }
+    }
+
+    /// Decides by the reading of the source, then by what was read. A command that needs other threads is refused.
+    fn of_calm<S: Source>(alloc: Global, command: Command, source: &mut S) -> Outcome
+        requires { HasRanges command }
+        ensures { IsOutcome (calm command)
+            (intake_of (S.left source.old) (S.left source.new) (S.faults source.old) (S.faults source.new)) result }
+    {
+        match command {
+            Command::Solo { report, limit } => Outcome::of_solo(alloc, report, limit, source),
+            Command::Run { .. } => Outcome::WordsRefused,
+            Command::Gen {
+                seed,
+                cpus,
+                partitions,
+                ticks,
+            } => Outcome::of_gen(alloc, seed, cpus, partitions, ticks),
+            Command::Upgrade => Outcome::of_upgrade(alloc, source),
+            Command::Check { order, limit } => Outcome::of_check(alloc, order, limit, source),
+            Command::Admit => Outcome::of_admit(alloc, source),
         }
     }
 
@@ -82,9 +131,8 @@ impl Outcome {
     fn of_solo<S: Source>(alloc: Global, report: Report, limit: u32, source: &mut S) -> Outcome
         requires some { 1 ≤ limit }
         requires few { limit ≤ 4000000 }
-        ensures { (bytes : List ℕ) × Consumes (S.left source.old) (S.left source.new) bytes
-            × FollowsReading (reading_of bytes (S.left source.new) (S.faults source.old) (S.faults source.new))
-            (record { order = Fixed; report = report; limit = limit }) result }
+        ensures { IsOutcome (Some (asked.Solo report limit))
+            (intake_of (S.left source.old) (S.left source.new) (S.faults source.old) (S.faults source.new)) result }
     {
         match begin(alloc, Order::Fixed, limit, source) {
             Ok(core) => {
@@ -100,7 +148,7 @@ impl Outcome {
     }
 
     /// Runs the scenario of the source in this order, with a thread for each processor.
-    pub fn of_run<R: Threads + Wait + Sync, S: Source, G: Gate + Sync>(
+    fn of_run<R: Threads + Wait + Sync, S: Source, G: Gate + Sync>(
         rt: &R,
         alloc: Global,
         order: Order,
@@ -111,9 +159,8 @@ impl Outcome {
     ) -> Outcome
         requires some { 1 ≤ limit }
         requires few { limit ≤ 4000000 }
-        ensures { (bytes : List ℕ) × Consumes (S.left source.old) (S.left source.new) bytes
-            × FollowsReading (reading_of bytes (S.left source.new) (S.faults source.old) (S.faults source.new))
-            (record { order = order; report = report; limit = limit }) result }
+        ensures { IsOutcome (Some (asked.Run order report limit))
+            (intake_of (S.left source.old) (S.left source.new) (S.faults source.old) (S.faults source.new)) result }
     {
         match begin(alloc, order, limit, source) {
             Ok(core) => {
@@ -136,10 +183,58 @@ impl Outcome {
         requires few_partitions { partitions ≤ 32 }
         requires some_tick { 1 ≤ ticks }
         requires few_ticks { ticks ≤ 1000000 }
-        ensures { FollowsNumbers seed cpus partitions ticks result }
+        ensures { (input : Input) → input.asked ≡ Some (asked.Gen seed cpus partitions ticks) → input.reading.bytes ≡ []
+            → HasCause input result }
     {
         match generated_text(alloc, seed, cpus, partitions, ticks) {
             Ok(text) => Outcome::Generated { text },
+            Err(_) => Outcome::NoMemory,
+        }
+    }
+
+    /// Upgrades the scenario of the source.
+    fn of_upgrade<S: Source>(alloc: Global, source: &mut S) -> Outcome
+        ensures { IsOutcome (Some asked.Upgrade)
+            (intake_of (S.left source.old) (S.left source.new) (S.faults source.old) (S.faults source.new)) result }
+    {
+        let scenario = match read_scenario(alloc, source) {
+            Ok(scenario) => scenario,
+            Err(outcome) => return outcome,
+        };
+        match upgraded_text(alloc, scenario) {
+            Ok(text) => Outcome::Upgraded { text },
+            Err(_) => Outcome::NoMemory,
+        }
+    }
+
+    /// Judges the journal of the source.
+    fn of_check<S: Source>(alloc: Global, order: Order, limit: u32, source: &mut S) -> Outcome
+        requires some { 1 ≤ limit }
+        requires few { limit ≤ 4000000 }
+        ensures { IsOutcome (Some (asked.Check order limit))
+            (intake_of (S.left source.old) (S.left source.new) (S.faults source.old) (S.faults source.new)) result }
+    {
+        let recorded = match read_recorded(alloc, source) {
+            Ok(recorded) => recorded,
+            Err(outcome) => return outcome,
+        };
+        match check(alloc, &recorded.scenario, order, limit, &recorded.entries) {
+            Ok(verdict) => Outcome::Checked { verdict },
+            Err(_) => Outcome::NoMemory,
+        }
+    }
+
+    /// Answers the demands of the source.
+    fn of_admit<S: Source>(alloc: Global, source: &mut S) -> Outcome
+        ensures { IsOutcome (Some asked.Admit)
+            (intake_of (S.left source.old) (S.left source.new) (S.faults source.old) (S.faults source.new)) result }
+    {
+        let demands = match read_demands(alloc, source) {
+            Ok(demands) => demands,
+            Err(outcome) => return outcome,
+        };
+        match admit(alloc, demands.shape(), demands.as_slice()) {
+            Ok(admission) => Outcome::Admitted { admission },
             Err(_) => Outcome::NoMemory,
         }
     }
@@ -153,16 +248,15 @@ impl Outcome {
             Outcome::WordsRefused => print(sink, b"aps: words refused\n", Status::WordsRefused),
             Outcome::ReadFault => print(sink, b"aps: read fault\n", Status::ReadFault),
             Outcome::TooLong => print(sink, b"aps: input too long\n", Status::TooLong),
-            Outcome::ScenarioRefused { kind, path } => match refusal_text(alloc, kind, path) {
-                Ok(text) => print(sink, &text, Status::ScenarioRefused),
-                Err(_) => Status::NoMemory,
-            },
+            Outcome::InputRefused(refusal) => print_refusal(alloc, refusal, sink),
             Outcome::Ran {
                 report,
                 end,
                 history,
             } => print_report(alloc, *report, history, Status::of_end(end), sink),
-            Outcome::Generated { text } => print(sink, text.as_bytes(), Status::Done),
+            Outcome::Generated { text } | Outcome::Upgraded { text } => print(sink, text.as_bytes(), Status::Done),
+            Outcome::Checked { verdict } => print_verdict(alloc, verdict, sink),
+            Outcome::Admitted { admission } => print_admission(alloc, admission, sink),
             Outcome::NoMemory => Status::NoMemory,
         }
     }
@@ -198,15 +292,10 @@ fn generated_text(
     aps_scenario::print(alloc, &scenario)
 }
 
-/// The line that says why the input is no scenario.
-fn refusal_text(alloc: Global, kind: &Kind, path: &PathText) -> Result<Vec<u8>, NoMemory>
-    ensures { IfOk result (λ text. vec_items text ≡ refusal_text kind.now path.now) }
+/// A text of the scenario with its budgets in parts per thousand.
+fn upgraded_text(alloc: Global, scenario: Scenario) -> Result<String, NoMemory>
+    ensures { IfOk result (λ text. reads (string_bytes text) ≡ Ok (upgraded scenario)) }
 {
-    let mut text = Vec::new(alloc);
-    text.extend_from_slice(b"aps: scenario refused: ")?;
-    text.extend_from_slice(kind.word().as_bytes())?;
-    text.extend_from_slice(b" ")?;
-    text.extend_from_slice(path.text())?;
-    text.extend_from_slice(b"\n")?;
-    Ok(text)
+    let upgraded = upgrade(scenario);
+    aps_scenario::print(alloc, &upgraded)
 }

@@ -1,19 +1,14 @@
 //! The run of the scenario that a source gives, from its beginning to its end.
-ghost use Rattle.std.specs.Prelude.{◌≡◌, ◌≤◌, ℕ, List, []};
-ghost use Rattle.std.specs.Io.KnownBytes.{Consumes};
-ghost use Rattle.apsim.specs.Outcome.{of_refusal};
-ghost use Rattle.apsim.specs.Reading.{Begins, StartsText, reading_of};
+ghost use Rattle.std.specs.Prelude.{◌≡◌, ◌≤◌};
+ghost use Rattle.apsim.specs.Reading.{BeginsIn, intake_of};
 ghost use Rattle.apsim.specs.Run.{IsRun};
 
 use crate::outcome::Outcome;
+use crate::reading::read_scenario;
 use aps_core::Core;
-use aps_io::{ReadRefusal, Source, read_all};
+use aps_io::Source;
 use aps_model::{End, History, Order};
-use aps_scenario::{ScenarioRefusal, scenario_of};
 use std::alloc::Global;
-
-/// The most bytes that are taken as a scenario.
-const MOST_BYTES: usize = 1_048_576;
 
 /// Reads the source, and begins a run of the scenario that it gives. Where there is none, the answer is the outcome of the
 /// call.
@@ -25,44 +20,15 @@ pub fn begin<S: Source>(
 ) -> Result<Core, Outcome>
     requires some { 1 ≤ limit }
     requires few { limit ≤ 4000000 }
-    ensures { (bytes : List ℕ) × Consumes (S.left source.old) (S.left source.new) bytes
-        × Begins (reading_of bytes (S.left source.new) (S.faults source.old) (S.faults source.new)) order limit result }
+    ensures { BeginsIn (intake_of (S.left source.old) (S.left source.new) (S.faults source.old) (S.faults source.new)) order limit result }
 {
-    match read_all(alloc, source, MOST_BYTES) {
-        Ok(bytes) => begin_text(alloc, &bytes, order, limit),
-        Err(ReadRefusal::ReadFault) => Err(Outcome::ReadFault),
-        Err(ReadRefusal::TooLong) => Err(Outcome::TooLong),
-        Err(ReadRefusal::NoMemory) => Err(Outcome::NoMemory),
-    }
-}
-
-/// Begins a run of the scenario that these bytes are, if they are one.
-fn begin_text(alloc: Global, bytes: &[u8], order: Order, limit: u32) -> Result<Core, Outcome>
-    requires some { 1 ≤ limit }
-    requires few { limit ≤ 4000000 }
-    ensures { StartsText bytes.now order limit result }
-{
-    // what `scenario_of` reads is what `boot` takes
-    let scenario = match scenario_of(alloc, bytes) {
+    let scenario = match read_scenario(alloc, source) {
         Ok(scenario) => scenario,
-        Err(refusal) => return Err(of_refusal(&refusal)),
+        Err(outcome) => return Err(outcome),
     };
     match Core::boot(alloc, scenario, order, limit) {
         Ok(core) => Ok(core),
         Err(_) => Err(Outcome::NoMemory),
-    }
-}
-
-/// What comes of a text that is no scenario.
-fn of_refusal(refusal: &ScenarioRefusal) -> Outcome
-    ensures { result ≡ of_refusal refusal.now }
-{
-    match refusal {
-        ScenarioRefusal::Refused { kind, path } => Outcome::ScenarioRefused {
-            kind: *kind,
-            path: *path,
-        },
-        ScenarioRefusal::NoMemory => Outcome::NoMemory,
     }
 }
 

@@ -1,7 +1,9 @@
 //! How the program ended, as a number.
 ghost use Rattle.std.specs.Prelude.{◌≡◌};
-ghost use Rattle.apsim.specs.Status.{code, or_write_fault, status_of_end};
+ghost use Rattle.apsim.specs.Status.{code, or_write_fault, status_of_end, status_of_verdict, status_of_admission};
 
+use aps_admit::Admission;
+use aps_check::Verdict;
 use aps_model::End;
 
 /// How the program ended.
@@ -11,8 +13,8 @@ pub enum Status {
     Done,
     /// The words are no command.
     WordsRefused,
-    /// The input is no scenario.
-    ScenarioRefused,
+    /// The input is none that the command takes.
+    InputRefused,
     /// The run ended by a reboot.
     Rebooted,
     /// Reading failed.
@@ -23,25 +25,31 @@ pub enum Status {
     Limited,
     /// There was no memory.
     NoMemory,
-    /// The input has more than 1,048,576 bytes.
+    /// The input has more bytes than the command takes.
     TooLong,
+    /// The journal that was checked breaks a rule.
+    JournalBreaks,
+    /// The demands need more parts than there are.
+    NeedsExceed,
 }
 
 impl Status {
-    /// The exit status, 0 to 8.
+    /// The exit status, 0 to 10.
     pub fn code(self) -> u8
         ensures { result ≡ code self }
     {
         match self {
             Status::Done => 0,
             Status::WordsRefused => 1,
-            Status::ScenarioRefused => 2,
+            Status::InputRefused => 2,
             Status::Rebooted => 3,
             Status::ReadFault => 4,
             Status::WriteFault => 5,
             Status::Limited => 6,
             Status::NoMemory => 7,
             Status::TooLong => 8,
+            Status::JournalBreaks => 9,
+            Status::NeedsExceed => 10,
         }
     }
 
@@ -53,6 +61,26 @@ impl Status {
             End::Horizon => Status::Done,
             End::Limit => Status::Limited,
             End::Reboot(_) => Status::Rebooted,
+        }
+    }
+
+    /// The status of a verdict on a journal.
+    pub fn of_verdict(verdict: &Verdict) -> Status
+        ensures { result ≡ status_of_verdict verdict.now }
+    {
+        match verdict {
+            Verdict::Legal { .. } => Status::Done,
+            Verdict::Breaks { .. } => Status::JournalBreaks,
+        }
+    }
+
+    /// The status of an answer to demands.
+    pub fn of_admission(admission: &Admission) -> Status
+        ensures { result ≡ status_of_admission admission.now }
+    {
+        match admission {
+            Admission::Budgets(_) => Status::Done,
+            Admission::Needs { .. } => Status::NeedsExceed,
         }
     }
 

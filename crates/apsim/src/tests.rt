@@ -1,5 +1,9 @@
 //! Whole calls of the program in memory: what they write, and the statuses.
+mod admit;
+mod check;
+mod hostile;
 mod threads;
+mod upgrade;
 mod worked;
 
 use crate::top::{Ended, calm_top};

@@ -1,19 +1,15 @@
 //! The whole program as one call: the words, the reading, the run and the printing.
-ghost use Rattle.std.specs.Prelude.{◌≡◌, ℕ, List, map, string_bytes};
-ghost use Rattle.std.specs.Io.KnownBytes.{Consumes};
+ghost use Rattle.std.specs.Prelude.{map, string_bytes};
 ghost use Rattle.aps_words.specs.Command.{command};
-ghost use Rattle.apsim.specs.declared.outcome.Outcome.{Outcome};
 ghost use Rattle.apsim.specs.Asked.{calm_command};
-ghost use Rattle.apsim.specs.Cause.{HasCause};
 ghost use Rattle.apsim.specs.Printing.{output_of};
-ghost use Rattle.apsim.specs.Reading.{reading_of};
-ghost use Rattle.apsim.specs.Answers.{Tells, Answers};
+ghost use Rattle.apsim.specs.Answers.{Tells, IsAnswer};
+ghost use Rattle.apsim.specs.Reading.{intake_of};
 
 use crate::outcome::Outcome;
 use aps_cpu::Gate;
 use aps_io::{Sink, Source};
 use aps_model::History;
-use aps_words::{Command, WordsRefusal, command_of};
 use std::alloc::Global;
 use std::sync::Wait;
 use std::thread::Threads;
@@ -21,17 +17,19 @@ use std::thread::Threads;
 /// How a call ended: the exit status (docs/FORMATS.md, "Exit status"), and the history where there was a run.
 #[derive(Drop)]
 pub struct Ended {
-    /// 0 to 8.
+    /// 0 to 10.
     pub status: u8,
-    /// There is none under 1, 2, 4 and 8, nor for `gen`. Under 0, 3, 5 and 6 every other command has one. Under 7 it is
-    /// there where memory ran out only after the run.
+    /// Only `solo` and `run` have one: under 0, 3, 5 and 6, and under 7 where memory ran out only after the run.
     pub history: Option<History>,
 }
 
 /// Does what the words ask for, on the calling thread. For `solo` it reads a scenario from the source,
 /// runs it in fixed order up to the named limit, and writes the named report of its history to the
 /// sink. For `gen` it reads nothing, and writes the text of the scenario that is generated from the
-/// named numbers. It waits for nobody. Commands that need other threads are refused as words.
+/// named numbers. For `upgrade` it reads a scenario, and writes it with its budgets in parts per thousand. For
+/// `check` it reads a scenario and a journal, and writes whether the journal is that of a run of the scenario in the
+/// named order and up to the named limit. For `admit` it reads demands, and writes the least budgets that meet them.
+/// It waits for nobody. Commands that need other threads are refused as words.
 ///
 /// A refusal and a fault of the source are written to the sink too. Each status has its one cause: docs/FORMATS.md,
 /// "Exit status". A fault of the sink leaves a prefix of the text there, and so does want of memory.
@@ -41,21 +39,12 @@ pub fn calm_top<S: Source, K: Sink>(
     source: &mut S,
     sink: &mut K,
 ) -> Ended
-    // The call had an outcome that its words and its input are the cause of, and told that.
-    ensures outcome { (bytes : List ℕ) × (outcome : Outcome) × Consumes (S.left source.old) (S.left source.new) bytes
-        × HasCause (record {
-          asked = calm_command (map string_bytes words.now);
-          reading = reading_of bytes (S.left source.new) (S.faults source.old) (S.faults source.new);
-        }) outcome
-        × Tells outcome (output_of (K.written sink.old) (K.written sink.new) (K.faults sink.old) (K.faults sink.new)) result }
-    // So each status comes in its case.
-    ensures statuses { (bytes : List ℕ) × Consumes (S.left source.old) (S.left source.new) bytes
-        × Answers (record {
-          asked = calm_command (map string_bytes words.now);
-          reading = reading_of bytes (S.left source.new) (S.faults source.old) (S.faults source.new);
-        }) (output_of (K.written sink.old) (K.written sink.new) (K.faults sink.old) (K.faults sink.new)) result }
+    // One outcome that its words and its input are the cause of, told; so that each status comes in its case.
+    ensures answer { IsAnswer (calm_command (map string_bytes words.now))
+        (intake_of (S.left source.old) (S.left source.new) (S.faults source.old) (S.faults source.new))
+        (output_of (K.written sink.old) (K.written sink.new) (K.faults sink.old) (K.faults sink.new)) result }
 {
-    let outcome = Outcome::of(alloc, words, source);
+    let outcome = Outcome::of_calm_words(alloc, words, source);
     tell(alloc, outcome, sink)
 }
 
@@ -73,36 +62,13 @@ pub fn top<R: Threads + Wait + Sync, S: Source, K: Sink, G: Gate + Sync>(
     sink: &mut K,
     gate: &G,
 ) -> Ended
-    // The call had an outcome that its words and its input are the cause of, and told that.
-    ensures outcome { (bytes : List ℕ) × (outcome : Outcome) × Consumes (S.left source.old) (S.left source.new) bytes
-        × HasCause (record {
-          asked = command (map string_bytes words.now);
-          reading = reading_of bytes (S.left source.new) (S.faults source.old) (S.faults source.new);
-        }) outcome
-        × Tells outcome (output_of (K.written sink.old) (K.written sink.new) (K.faults sink.old) (K.faults sink.new)) result }
-    // So each status comes in its case.
-    ensures statuses { (bytes : List ℕ) × Consumes (S.left source.old) (S.left source.new) bytes
-        × Answers (record {
-          asked = command (map string_bytes words.now);
-          reading = reading_of bytes (S.left source.new) (S.faults source.old) (S.faults source.new);
-        }) (output_of (K.written sink.old) (K.written sink.new) (K.faults sink.old) (K.faults sink.new)) result }
+    // One outcome that its words and its input are the cause of, told; so that each status comes in its case.
+    ensures answer { IsAnswer (command (map string_bytes words.now))
+        (intake_of (S.left source.old) (S.left source.new) (S.faults source.old) (S.faults source.new))
+        (output_of (K.written sink.old) (K.written sink.new) (K.faults sink.old) (K.faults sink.new)) result }
 {
-    match command_of(alloc, words) {
-        Ok(
-            Command::Run {
-                order,
-                report,
-                limit,
-            },
-        ) => {
-            let outcome = Outcome::of_run(rt, alloc, order, report, limit, source, gate);
-            tell(alloc, outcome, sink)
-        }
-        Ok(Command::Solo { .. } | Command::Gen { .. }) | Err(WordsRefusal::Words) => {
-            calm_top(alloc, words, source, sink)
-        }
-        Err(WordsRefusal::NoMemory) => tell(alloc, Outcome::NoMemory, sink),
-    }
+    let outcome = Outcome::of(rt, alloc, words, source, gate);
+    tell(alloc, outcome, sink)
 }
 
 /// Writes the text of the outcome to the sink, and hands back the status and the history.

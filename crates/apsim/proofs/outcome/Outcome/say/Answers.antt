@@ -18,12 +18,22 @@ returns-in-TooLong g c =
     let is = c.in-TooLong.is in
     said_as _ _ _ _ _ _ (sym (ap text_of is)) (sym (ap status_of is)) c.print-in-TooLong.ensures.prints
 
-pub returns-in-Ok : goal.returns-in-Ok
-returns-in-Ok g c =
-    let is = c.in-ScenarioRefused.is in
-    said_as _ _ _ _ _ _ (c.deref.ensures.value ∙ c.in-Ok.ensures ∙ sym (ap text_of is)) (sym (ap status_of is)) c.print-in-Ok.ensures.prints
+pub returns-in-InputRefused : goal.returns-in-InputRefused
+returns-in-InputRefused g c =
+    let is = c.in-InputRefused.is in
+    said_as _ _ _ _ _ _ (sym (ap text_of is)) (sym (ap status_of is)) c.print_refusal.ensures
 
 pub returns-in-Ran : goal.returns-in-Ran
 returns-in-Ran g c =
     let is = c.in-Ran.is in
     said_as _ _ _ _ _ _ (sym (ap text_of is)) (c.of_end.ensures ∙ sym (ap status_of is)) c.print_report.ensures
+
+pub returns-in-Checked : goal.returns-in-Checked
+returns-in-Checked g c =
+    let is = c.in-Checked.is in
+    said_as _ _ _ _ _ _ (sym (ap text_of is)) (sym (ap status_of is)) c.print_verdict.ensures
+
+pub returns-in-Admitted : goal.returns-in-Admitted
+returns-in-Admitted g c =
+    let is = c.in-Admitted.is in
+    said_as _ _ _ _ _ _ (sym (ap text_of is)) (sym (ap status_of is)) c.print_admission.ensures

@@ -1,0 +1,124 @@
+//! Scenarios that are written anew with their budgets in parts per thousand.
+use super::{TWO_EQUAL, bytes_of, calm};
+use std::alloc::{AllocError, Global};
+use std::test::Fail;
+
+const UPGRADED_SUMMARY: &str = "aps summary 1
+end horizon
+shape cpus 1 tick 1000000 window 10 ticks 20
+entries 21
+partition 0 System budget 500 billed 10000000 critical 0
+partition 1 A budget 500 billed 10000000 critical 0
+idle 0
+thread 0 s ran 10000000
+thread 1 a ran 10000000
+loaded 0
+over 0 partition 0 window 0
+short 0 partition 0 window 0
+overcritical 0 partition 0 window 0
+";
+
+const TREE_COMMANDS: &str = r#"version = 1
+cpus = 1
+window = 10
+ticks = 6
+partition = [{name = "A", budget = 40}]
+thread = [
+  {name = "s", program = ["run forever"]},
+  {name = "a", partition = "A", program = ["run forever"]},
+]
+command = [
+  {tick = 1, do = "create", name = "B", parent = "A", budget = 15},
+  {tick = 2, do = "create", name = "C", parent = "A", budget = 26},
+  {tick = 3, do = "query_partition", partition = "A"},
+  {tick = 3, do = "modify", partition = "B", budget = 41},
+  {tick = 4, do = "lookup", partition = "B"},
+]
+"#;
+
+const TREE_COMMANDS_UPGRADED_SUMMARY: &str = "aps summary 1
+end horizon
+shape cpus 1 tick 1000000 window 10 ticks 6
+entries 7
+partition 0 System budget 600 billed 4000000 critical 0
+partition 1 A budget 250 billed 2000000 critical 0
+partition 2 B budget 150 billed 0 critical 0
+idle 0
+thread 0 s ran 4000000
+thread 1 a ran 2000000
+loaded 6
+over none
+short none
+overcritical none
+reply 0 created 2
+reply 1 over-budget 250
+reply 2 partition 1 parent 0 budget 250 critical 0 max 1000 used 1000000 critical_used 0
+reply 3 over-budget 250
+reply 4 found 2
+";
+
+const THIRD_VERSION: &str = "version = 3\ncpus = 1\nticks = 1\n";
+
+/// The text of the upgraded scenario, and the status.
+fn upgraded(alloc: Global, text: &[u8]) -> Result<(u8, Vec<u8>), AllocError> {
+    let (ended, sink) = calm(alloc, &["upgrade"], text.to_vec(alloc)?)?;
+    Ok((ended.status, sink.written().to_vec(alloc)?))
+}
+
+/// What `solo` writes of a text under this report.
+fn report_of(alloc: Global, report: &str, text: &[u8]) -> Result<Vec<u8>, AllocError> {
+    let (_, sink) = calm(alloc, &["solo", "--report", report], text.to_vec(alloc)?)?;
+    sink.written().to_vec(alloc)
+}
+
+#[test]
+fn an_upgraded_scenario_runs_as_before(rt: HostRuntime) -> Result<(), Fail> {
+    let alloc = rt.alloc();
+    let (status, text) = upgraded(alloc, TWO_EQUAL.as_bytes())?;
+    assert_eq!(rt; status, 0);
+    assert_eq!(rt; text.starts_with(b"version = 2\n".as_slice()), true);
+    let summary = report_of(alloc, "summary", &text)?;
+    assert_eq!(rt; summary.as_slice(), UPGRADED_SUMMARY.as_bytes());
+    let journal = report_of(alloc, "journal", &text)?;
+    assert_eq!(rt; journal, report_of(alloc, "journal", TWO_EQUAL.as_bytes())?);
+    Ok(())
+}
+
+#[test]
+fn an_upgraded_scenario_has_its_replies_in_thousandths(rt: HostRuntime) -> Result<(), Fail> {
+    let alloc = rt.alloc();
+    let (status, text) = upgraded(alloc, TREE_COMMANDS.as_bytes())?;
+    assert_eq!(rt; status, 0);
+    let summary = report_of(alloc, "summary", &text)?;
+    assert_eq!(rt; summary.as_slice(), TREE_COMMANDS_UPGRADED_SUMMARY.as_bytes());
+    Ok(())
+}
+
+#[test]
+fn an_upgraded_scenario_is_upgraded_to_itself(rt: HostRuntime) -> Result<(), Fail> {
+    let alloc = rt.alloc();
+    let (_, once) = upgraded(alloc, TREE_COMMANDS.as_bytes())?;
+    let (status, twice) = upgraded(alloc, &once)?;
+    assert_eq!(rt; status, 0);
+    assert_eq!(rt; twice, once);
+    Ok(())
+}
+
+#[test]
+fn a_text_that_is_no_scenario_is_not_upgraded(rt: HostRuntime) -> Result<(), Fail> {
+    let alloc = rt.alloc();
+    let (status, text) = upgraded(alloc, THIRD_VERSION.as_bytes())?;
+    assert_eq!(rt; status, 2);
+    assert_eq!(rt; text.as_slice(), b"aps: scenario refused: out-of-range version\n".as_slice());
+    Ok(())
+}
+
+#[test]
+fn an_upgrade_hands_back_no_history(rt: HostRuntime) -> Result<(), Fail> {
+    let alloc = rt.alloc();
+    let (ended, _) = calm(alloc, &["upgrade"], bytes_of(alloc, TWO_EQUAL)?)?;
+    assert_eq!(rt; ended.history.is_none(), true);
+    let (ended, _) = calm(alloc, &["upgrade", "--limit", "7"], Vec::new(alloc))?;
+    assert_eq!(rt; ended.status, 1);
+    Ok(())
+}
