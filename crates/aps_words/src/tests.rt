@@ -136,6 +136,9 @@ fn these_words_are_commands(rt: HostRuntime) -> Result<(), Fail> {
         order: Order::Fixed,
         limit: 7,
     };
-    assert_eq!(rt; read(alloc, &["check", "--limit=7", "--order", "fixed"])?, Ok(named_check));
+    assert_eq!(rt;
+        read(alloc, &["check", "--limit=7", "--order", "fixed"])?,
+        Ok(named_check)
+    );
     Ok(())
 }

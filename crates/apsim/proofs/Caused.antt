@@ -45,15 +45,18 @@ pub ran_in : (asked : Option Command) (order : Order) (report : Report) (limit :
 ran_in asked order report limit intake begun setup end h is (bytes, read, begins) same scenario run =
     let order_is : setup.order ≡ order = ap (λ (s : Setup). s.order) same ∙ begins.1.order_is in
     let limit_is : setup.limit ≡ limit = ap (λ (s : Setup). s.limit) same ∙ begins.1.limit_is in
-    let scenario_is : begun.setup.scenario ≡ h.scenario = sym (scenario ∙ ap (λ (s : Setup). s.scenario) same) in
-    (bytes, read, record {
-      order = order;
-      limit = limit;
-      asked = is;
-      whole = begins.0;
-      scenario = begins.1.scenario ∙ ap Ok scenario_is;
-      run = subst (λ o. IsRun o limit end h) order_is (subst (λ l. IsRun setup.order l end h) limit_is run);
-    })
+    let scenario_is : begun.setup.scenario ≡ h.scenario = sym (scenario ∙ ap (λ (s : Setup). s.scenario) same) in (
+      bytes,
+      read,
+      record {
+        order = order;
+        limit = limit;
+        asked = is;
+        whole = begins.0;
+        scenario = begins.1.scenario ∙ ap Ok scenario_is;
+        run = subst (λ o. IsRun o limit end h) order_is (subst (λ l. IsRun setup.order l end h) limit_is run);
+      },
+    )
 
 -- an outcome without reading, over a source of which nothing was read
 pub unread : (asked : Option Command) (intake : Intake) (outcome : Outcome) → Consumes intake.before intake.after []

@@ -11,10 +11,10 @@ ghost use Rattle.apsim.specs.Outcome.{history_of, status_of, text_of};
 ghost use Rattle.apsim.specs.Printing.{Prints, output_of};
 ghost use Rattle.apsim.specs.Reading.{intake_of};
 
+use crate::answer::{print_admission, print_verdict};
 use crate::printing::print;
 use crate::reading::{read_demands, read_recorded, read_scenario};
 use crate::refusal::{InputRefusal, print_refusal};
-use crate::answer::{print_admission, print_verdict};
 use crate::report::print_report;
 use crate::run::{begin, run_to_end};
 use crate::status::Status;
@@ -254,7 +254,11 @@ impl Outcome {
                 end,
                 history,
             } => print_report(alloc, *report, history, Status::of_end(end), sink),
-            Outcome::Generated { text } | Outcome::Upgraded { text } => print(sink, text.as_bytes(), Status::Done),
+            Outcome::Generated { text } | Outcome::Upgraded { text } => print(
+                sink,
+                text.as_bytes(),
+                Status::Done,
+            ),
             Outcome::Checked { verdict } => print_verdict(alloc, verdict, sink),
             Outcome::Admitted { admission } => print_admission(alloc, admission, sink),
             Outcome::NoMemory => Status::NoMemory,

@@ -35,7 +35,11 @@ pub fn print_refusal<K: Sink>(alloc: Global, refusal: &InputRefusal, sink: &mut 
             Err(_) => Status::NoMemory,
         },
         InputRefusal::NoJournal => {
-            print(sink, b"aps: scenario refused: no-journal -\n", Status::InputRefused)
+            print(
+                sink,
+                b"aps: scenario refused: no-journal -\n",
+                Status::InputRefused,
+            )
         }
         InputRefusal::BadJournal { line, column } => match journal_line(alloc, *line, *column) {
             Ok(line) => print(sink, line.as_bytes(), Status::InputRefused),

@@ -61,11 +61,7 @@ budget B 50 allowance 100000000 below 98000000
 sum 100
 ",
     ),
-    (
-        "version = 1\ncpus = 1\n",
-        0,
-        "admit budgets 1\nsum 0\n",
-    ),
+    ("version = 1\ncpus = 1\n", 0, "admit budgets 1\nsum 0\n"),
     (
         r#"version = 1
 cpus = 1
@@ -108,7 +104,11 @@ fn demands_are_answered(rt: HostRuntime) -> Result<(), Fail> {
 #[test]
 fn an_answer_hands_back_no_history(rt: HostRuntime) -> Result<(), Fail> {
     let alloc = rt.alloc();
-    let (ended, _) = calm(alloc, &["admit"], bytes_of(alloc, "version = 1\ncpus = 1\n")?)?;
+    let (ended, _) = calm(
+        alloc,
+        &["admit"],
+        bytes_of(alloc, "version = 1\ncpus = 1\n")?,
+    )?;
     assert_eq!(rt; entries_of(&ended.history), None);
     Ok(())
 }

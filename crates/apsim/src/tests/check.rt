@@ -134,14 +134,26 @@ fn other_inputs_are_refused(rt: HostRuntime) -> Result<(), Fail> {
     let alloc = rt.alloc();
     let (status, line) = checked(alloc, &[], &[SLEEPING_WORKER])?;
     assert_eq!(rt; status, 2);
-    assert_eq!(rt; line.as_slice(), b"aps: scenario refused: no-journal -\n".as_slice());
+    assert_eq!(rt;
+        line.as_slice(),
+        b"aps: scenario refused: no-journal -\n".as_slice()
+    );
     let (status, line) = checked(alloc, &[], &["colour = 2\n", SEPARATOR, "0 0 x"])?;
     assert_eq!(rt; status, 2);
-    assert_eq!(rt; line.as_slice(), b"aps: scenario refused: unknown-key colour\n".as_slice());
+    assert_eq!(rt;
+        line.as_slice(),
+        b"aps: scenario refused: unknown-key colour\n".as_slice()
+    );
     let bad: [(&str, &[u8]); 3] = [
         ("0 0 x", b"aps: scenario refused: bad-journal 1:5\n"),
-        ("0 0 0 - - - - 1 - -\r\n", b"aps: scenario refused: bad-journal 1:20\n"),
-        ("0 0 0 - - - - 1 - -\n0 0 4", b"aps: scenario refused: bad-journal 2:6\n"),
+        (
+            "0 0 0 - - - - 1 - -\r\n",
+            b"aps: scenario refused: bad-journal 1:20\n",
+        ),
+        (
+            "0 0 0 - - - - 1 - -\n0 0 4",
+            b"aps: scenario refused: bad-journal 2:6\n",
+        ),
     ];
     for (journal, refusal) in bad {
         let (status, line) = judged(alloc, &[], &[journal])?;
@@ -168,7 +180,13 @@ fn more_bytes_than_a_scenario_has_are_read(rt: HostRuntime) -> Result<(), Fail> 
 #[test]
 fn the_journal_of_a_generated_load_is_legal(rt: HostRuntime) -> Result<(), Fail> {
     let alloc = rt.alloc();
-    let words = ["gen", "--seed=7", "--cpus=2", "--partitions=3", "--ticks=100"];
+    let words = [
+        "gen",
+        "--seed=7",
+        "--cpus=2",
+        "--partitions=3",
+        "--ticks=100",
+    ];
     let (_, load) = calm(alloc, &words, Vec::new(alloc))?;
     let scenario = load.written();
     let words = ["solo", "--report", "journal"];

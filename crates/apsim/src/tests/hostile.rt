@@ -76,7 +76,13 @@ fn answer(alloc: Global, text: &str) -> Result<(u8, CalmSink), AllocError> {
 }
 
 /// A head, then this piece so many times, then an end.
-fn repeated(alloc: Global, head: &str, piece: &str, count: usize, end: &str) -> Result<String, AllocError> {
+fn repeated(
+    alloc: Global,
+    head: &str,
+    piece: &str,
+    count: usize,
+    end: &str,
+) -> Result<String, AllocError> {
     let mut text = String::new(alloc);
     text.push_str(head)?;
     for _ in 0..count {
@@ -148,7 +154,11 @@ fn each_prefix_is_a_scenario_or_is_refused(rt: HostRuntime) -> Result<(), Fail> 
     let text = TWO_PROCESSORS.as_bytes();
     for length in 0..text.len() {
         let prefix = &text[..length];
-        let status = if scenario_of(alloc, prefix).is_ok() { 0 } else { 2 };
+        let status = if scenario_of(alloc, prefix).is_ok() {
+            0
+        } else {
+            2
+        };
         let (ended, _) = calm(alloc, &["solo"], prefix.to_vec(alloc)?)?;
         assert_eq!(rt; ended.status, status);
     }
@@ -162,12 +172,18 @@ fn too_many_threads_or_operations_are_refused(rt: HostRuntime) -> Result<(), Fai
     let threads = repeated(alloc, HEAD, piece, 1025, "")?;
     let (status, sink) = answer(alloc, threads.as_str())?;
     assert_eq!(rt; status, 2);
-    assert_eq!(rt; sink.written(), b"aps: scenario refused: out-of-range thread\n".as_slice());
+    assert_eq!(rt;
+        sink.written(),
+        b"aps: scenario refused: out-of-range thread\n".as_slice()
+    );
     let head = "version = 1\ncpus = 1\nticks = 1\nthread = [{name = \"s\", program = [";
     let operations = repeated(alloc, head, "\"yield\", ", 256, "\"exit\"]}]\n")?;
     let (status, sink) = answer(alloc, operations.as_str())?;
     assert_eq!(rt; status, 2);
-    assert_eq!(rt; sink.written(), b"aps: scenario refused: out-of-range thread[0].program\n".as_slice());
+    assert_eq!(rt;
+        sink.written(),
+        b"aps: scenario refused: out-of-range thread[0].program\n".as_slice()
+    );
     Ok(())
 }
 
@@ -198,7 +214,11 @@ fn deep_arrays_are_refused(rt: HostRuntime) -> Result<(), Fail> {
 #[test]
 fn a_run_stops_before_a_flag_is_served(rt: HostRuntime) -> Result<(), Fail> {
     let alloc = rt.alloc();
-    let (ended, sink) = calm(alloc, &["solo", "--limit", "12"], bytes_of(alloc, TWO_PROCESSORS)?)?;
+    let (ended, sink) = calm(
+        alloc,
+        &["solo", "--limit", "12"],
+        bytes_of(alloc, TWO_PROCESSORS)?,
+    )?;
     assert_eq!(rt; ended.status, 6);
     assert_eq!(rt; entries_of(&ended.history), Some(12));
     assert_eq!(rt; sink.written(), TWO_PROCESSORS_LIMITED.as_bytes());

@@ -90,7 +90,10 @@ fn an_upgraded_scenario_has_its_replies_in_thousandths(rt: HostRuntime) -> Resul
     let (status, text) = upgraded(alloc, TREE_COMMANDS.as_bytes())?;
     assert_eq!(rt; status, 0);
     let summary = report_of(alloc, "summary", &text)?;
-    assert_eq!(rt; summary.as_slice(), TREE_COMMANDS_UPGRADED_SUMMARY.as_bytes());
+    assert_eq!(rt;
+        summary.as_slice(),
+        TREE_COMMANDS_UPGRADED_SUMMARY.as_bytes()
+    );
     Ok(())
 }
 
@@ -109,7 +112,10 @@ fn a_text_that_is_no_scenario_is_not_upgraded(rt: HostRuntime) -> Result<(), Fai
     let alloc = rt.alloc();
     let (status, text) = upgraded(alloc, THIRD_VERSION.as_bytes())?;
     assert_eq!(rt; status, 2);
-    assert_eq!(rt; text.as_slice(), b"aps: scenario refused: out-of-range version\n".as_slice());
+    assert_eq!(rt;
+        text.as_slice(),
+        b"aps: scenario refused: out-of-range version\n".as_slice()
+    );
     Ok(())
 }
 
