@@ -15,7 +15,7 @@ returns-then-index-from c =
     let none : c.end.result ≡ None = search rules in
     let cpus : c.shape.result.now.cpus ≡ run.setup.scenario.shape.cpus =
     ap (λ (s : Shape). s.cpus) c.shape.ensures.same ∙ ap (λ (s : Scenario). s.shape.cpus) c.scenario.ensures
-        ∙ ap (λ (h : History). h.scenario.shape.cpus) kept.same in
+    ∙ ap (λ (h : History). h.scenario.shape.cpus) kept.same in
     let high : run.setup.scenario.shape.cpus ≤ c.args.entry.now.cpu = omega (arith, cpus) in
     let place : length c.entries.result.now ≡ length run.entries =
     ap (λ (h : List Entry). length h) (c.entries.ensures.same ∙ ap (λ (h : History). h.entries) kept.same) in
