@@ -75,11 +75,12 @@ fn judged(alloc: Global, options: &[&str], journal: &[&str]) -> Result<(u8, Vec<
 #[test]
 fn the_journal_of_a_run_is_legal(rt: HostRuntime) -> Result<(), Fail> {
     let alloc = rt.alloc();
-    for options in [[].as_slice(), ["--order", "fixed"].as_slice()] {
-        let (status, line) = judged(alloc, options, &[SLEEPING_WORKER_JOURNAL])?;
-        assert_eq!(rt; status, 0);
-        assert_eq!(rt; line.as_slice(), b"check legal horizon\n".as_slice());
-    }
+    let (status, line) = judged(alloc, &[], &[SLEEPING_WORKER_JOURNAL])?;
+    assert_eq!(rt; status, 0);
+    assert_eq!(rt; line.as_slice(), b"check legal horizon\n".as_slice());
+    let (status, line) = judged(alloc, &["--order", "fixed"], &[SLEEPING_WORKER_JOURNAL])?;
+    assert_eq!(rt; status, 0);
+    assert_eq!(rt; line.as_slice(), b"check legal horizon\n".as_slice());
     Ok(())
 }
 
