@@ -19,7 +19,7 @@ pub fn upgraded_states_are_times_ten()
     ensures same { (scenario : Scenario) → scenario.shape.parts ≡ 1000 → upgraded scenario ≡ scenario }
 {}
 
-/// Upgrading twice gives the scenario that upgrading once gives, and so the same text.
+/// Upgrading twice gives the scenario that upgrading once gives.
 pub fn upgraded_once_is_enough()
     ensures { (scenario : Scenario) → upgraded (upgraded scenario) ≡ upgraded scenario }
 {}
