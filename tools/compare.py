@@ -1,11 +1,11 @@
 #!/usr/bin/env python3
 """Compares the program with another implementation of the same rules, input by input.
 
-    tools/compare.py PROGRAM OTHER FOLDER [--refused] [--limit N]
+    tools/compare.py PROGRAM OTHER FOLDER [--refused] [--command C] [--limit N]
 
 PROGRAM and OTHER are commands, each as one argument ("python3 other.py"), with the same command line; FOLDER holds
 the inputs, *.toml. Each input is run with all three reports, and standard output and exit status must be the same; with
---refused it is run once, since only the refusal counts. Each difference is printed with its file, and the exit status
+--refused it is run once, since only the refusal counts; with --command another command than solo is tried, as admit. Each difference is printed with its file, and the exit status
 is 1 where there was one. It is no part of the gate.
 """
 import argparse
@@ -35,15 +35,16 @@ def main():
     arguments.add_argument("other")
     arguments.add_argument("folder", type=pathlib.Path)
     arguments.add_argument("--refused", action="store_true")
+    arguments.add_argument("--command")
     arguments.add_argument("--limit", default="1500")
     given = arguments.parse_args()
-    reports = ["summary"] if given.refused else ["journal", "summary", "windows"]
+    reports = ["summary"] if given.refused or given.command else ["journal", "summary", "windows"]
     files = sorted(given.folder.glob("*.toml"))
     differences = 0
     for file in files:
         data = file.read_bytes()
         for report in reports:
-            words = ["solo", "--report", report, "--limit", given.limit]
+            words = [given.command] if given.command else ["solo", "--report", report, "--limit", given.limit]
             ours, theirs = answer(given.program, words, data), answer(given.other, words, data)
             if ours != theirs:
                 differences += 1
