@@ -156,7 +156,7 @@ gather() {
     done
 }
 
-# Whether each crate below this one is built.
+# Whether each crate below this one is built, or was.
 is_ready() {
     local below
     for below in ${crates_below[$1]}; do
@@ -204,8 +204,9 @@ first_start() {
     weigh_chains
     builds=$(most_builds)
     for name in "${collected[@]}"; do
-        if is_done "$name"; then finished=$((finished + 1)); else left+=("$name"); fi
+        if is_ready "$name" && is_done "$name"; then finished=$((finished + 1)); else left+=("$name"); fi
     done
+    ((${#left[@]} > 0)) || return 0
     trap stop_builds INT TERM HUP
     while ((${#left[@]} + ${#build_of[@]} > 0)); do
         begin_ready
