@@ -1,11 +1,12 @@
-//! Verdicts on the journal of a small generated load, on spoiled copies of it, and on other short ones.
+//! Verdicts on the journal of a small generated load, and on other short ones. Spoiled journals are judged in the tests
+//! of `apsim`, through the whole program.
 ghost use Rattle.std.specs.Prelude.{◌≤◌};
 
 use crate::text::print_verdict;
 use crate::{Rule, Verdict, check};
 use aps_core::Core;
 use aps_gen::generate;
-use aps_model::{CpuId, Done, End, Entry, NoMemory, Order, PartitionId, Scenario, ThreadId};
+use aps_model::{CpuId, Done, End, Entry, NoMemory, Order, PartitionId, Scenario};
 use std::alloc::Global;
 use std::test::Fail;
 
@@ -66,23 +67,6 @@ fn the_journal_of_a_run_is_legal(rt: HostRuntime) -> Result<(), Fail> {
     };
     assert_eq!(rt; judge(alloc, Order::Fixed, entries.as_slice())?, legal);
     assert_eq!(rt; judge(alloc, Order::Free, entries.as_slice())?, legal);
-    Ok(())
-}
-
-#[test]
-fn a_changed_field_breaks_its_rule(rt: HostRuntime) -> Result<(), Fail> {
-    let alloc = rt.alloc();
-    let entries = journal(alloc)?;
-    let [first, second, ..] = entries.as_slice() else {
-        panic!(rt; "no second entry");
-    };
-    let mut changed = *second;
-    changed.picked = match second.picked {
-        Some(_) => None,
-        None => Some(ThreadId::at(0)),
-    };
-    let verdict = judge(alloc, Order::Fixed, &[*first, changed])?;
-    assert_eq!(rt; verdict, breaks(1, Rule::Picked, Some(*second)));
     Ok(())
 }
 
