@@ -76,7 +76,6 @@ fn an_upgraded_scenario_runs_as_before(rt: HostRuntime) -> Result<(), Fail> {
     let alloc = rt.alloc();
     let (status, text) = upgraded(alloc, TWO_EQUAL.as_bytes())?;
     assert_eq!(rt; status, 0);
-    assert_eq!(rt; text.starts_with(b"version = 2\n".as_slice()), true);
     let summary = report_of(alloc, "summary", &text)?;
     assert_eq!(rt; summary.as_slice(), UPGRADED_SUMMARY.as_bytes());
     let journal = report_of(alloc, "journal", &text)?;
