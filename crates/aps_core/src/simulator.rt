@@ -89,6 +89,13 @@ impl Core {
         self.machine.due(self.history.entries(), cpu)
     }
 
+    /// The order of turns.
+    pub fn order(&self) -> Order
+        ensures { result ≡ self.now.setup.order }
+    {
+        self.order
+    }
+
     /// The end of the run, if it has come. Where several hold it is the first of these: by a reboot, where the last entry
     /// made a partition bankrupt under that policy; at the horizon, where every processor has stepped there; by the limit,
     /// where there are that many entries.

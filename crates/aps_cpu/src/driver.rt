@@ -6,7 +6,6 @@ use crate::gate::Gate;
 use aps_core::Turn;
 use aps_lock::{CpuSeat, Dispatch};
 use aps_model::{CpuId, End, Nanos};
-use crossbeam_utils::Backoff;
 use std::sync::Wait;
 use std::thread;
 
@@ -23,14 +22,11 @@ pub enum Driven {
 /// After so many turns in a row that named a processor of another seat a driver gives up.
 const MOST_WAITED: u64 = 1_000_000;
 
-/// After each of its first so many turns in vain in a row a driver looks for growth of the history, and yields where it
-/// saw none.
+/// After so many turns in vain in a row a driver doesn't wait any more before its next one: those whose turn it is have no
+/// driver at hand.
 const SHORT_WAIT: u64 = 1_000;
 
-/// So often it looks.
-const MOST_LOOKS: u32 = 64;
-
-/// In a longer wait it yields after one turn of so many, and doesn't look.
+/// From then on it yields after one turn of so many.
 const TURNS_A_YIELD: u64 = 256;
 
 /// Takes turns of the seat, one processor after the other, and enters the gate before each, until the run has ended, or
@@ -46,14 +42,18 @@ pub fn drive<R: Wait, G: Gate>(rt: &R, dispatch: &Dispatch, seat: &mut CpuSeat, 
     let (first, last) = (seat.first(), seat.last());
     let mut cpu = first;
     for _ in rt.forever() {
-        gate.enter(rt, seat, cpu);
+        wait(rt, dispatch, seat);
+        enter(rt, dispatch, seat, gate, cpu);
         match dispatch.turn(rt, seat, cpu) {
-            Turn::Ended(end) => return Driven::Ended(end),
+            Turn::Ended(end) => {
+                dispatch.leave(seat);
+                return Driven::Ended(end);
+            }
             Turn::NotYet { cpu, due } => {
                 if seat.waited() >= MOST_WAITED {
+                    dispatch.leave(seat);
                     return Driven::Waited { cpu, due };
                 }
-                give_way(dispatch, seat);
             }
             Turn::Took(_) => {}
         }
@@ -62,34 +62,22 @@ pub fn drive<R: Wait, G: Gate>(rt: &R, dispatch: &Dispatch, seat: &mut CpuSeat, 
     unreachable!()
 }
 
-/// Lets other threads run after a turn in vain, where a processor of another seat has the turn. In a long wait it yields
-/// seldom: where all of the machine's processors are busy each yield can take as long as a time slice.
-fn give_way(dispatch: &Dispatch, seat: &mut CpuSeat)
-    requires { IsSeatOf dispatch.now seat.old }
-    ensures { seat.new ≡ seat.old }
-{
+/// Waits for the seat's turn. In a long row of turns in vain it yields now and then: where all of the machine's processors
+/// are busy each yield can take as long as a time slice.
+fn wait<R: Wait>(rt: &R, dispatch: &Dispatch, seat: &CpuSeat) {
     let waited = seat.waited();
-    if 0 < waited && waited <= SHORT_WAIT {
-        await_growth(dispatch, seat);
-    } else if 0 < waited && waited % TURNS_A_YIELD == 0 {
+    if waited <= SHORT_WAIT {
+        dispatch.await_turn(rt, seat);
+    } else if waited % TURNS_A_YIELD == 0 {
         thread::yield_now();
     }
 }
 
-/// Looks until the history has grown, since before that each turn is in vain. Where it hasn't grown after so many looks
-/// it yields.
-fn await_growth(dispatch: &Dispatch, seat: &mut CpuSeat)
-    requires { IsSeatOf dispatch.now seat.old }
-    ensures { seat.new ≡ seat.old }
-{
-    let backoff = Backoff::new();
-    for _ in 0..MOST_LOOKS {
-        if dispatch.has_grown(seat) {
-            return;
-        }
-        backoff.spin();
-    }
-    thread::yield_now();
+/// Enters the gate, with the driver not at hand meanwhile.
+fn enter<R: Wait, G: Gate>(rt: &R, dispatch: &Dispatch, seat: &CpuSeat, gate: &G, cpu: CpuId) {
+    dispatch.set_at_hand(seat, false);
+    gate.enter(rt, seat, cpu);
+    dispatch.set_at_hand(seat, true);
 }
 
 /// The processor after this one, in the round from the first to the last.

@@ -4,6 +4,7 @@ ghost use Rattle.aps_model.specs.Seat.{IsSeen, own_entries};
 ghost use Rattle.aps_lock.specs.Seats.{HasAllCpus, HasCpu, HasSeen, IsSeatOf, IsSeatTurn, taken, waited_after};
 ghost use Rattle.aps_lock.specs.Seen.{longer};
 
+use crate::hint::{CpuSet, Hint, next_turns};
 use crate::rule::CoreTable;
 use crate::seat::CpuSeat;
 use crate::words::{CORE, cut, len_of, load_len, merge, turn_place, witness};
@@ -21,6 +22,7 @@ use std::sync::Wait;
 #[derive(Drop)]
 pub struct Dispatch {
     table: CoreTable,
+    hint: Hint,
 }
 
 impl Model for Dispatch {
@@ -43,6 +45,9 @@ impl Dispatch {
         ensures of { IfOk result (λ r. IsSeatOf r.0 r.1 × HasAllCpus r.1) }
         ensures refused { IfErr result (λ c. c ≡ core) }
     {
+        let Ok(hint) = Hint::begin(alloc, next_turns(&core)) else {
+            return Err(core);
+        };
         let about = Snapshot::of(&core);
         let seen_len = len_of(&core);
         let last = last_cpu(&core);
@@ -59,7 +64,7 @@ impl Dispatch {
                     seen_len,
                     waited: 0,
                 };
-                Ok((Dispatch { table }, seat))
+                Ok((Dispatch { table, hint }, seat))
             }
             Err(Refused { mut slots }) => Err(slots.pop().unwrap().unwrap()),
         }
@@ -76,7 +81,7 @@ impl Dispatch {
         ensures own { own_entries seat.old.first seat.old.last seat.new.seen.entries ≡ own_entries seat.old.first seat.old.last seat.old.seen.entries ++ taken result }
         ensures of { IsSeatOf self.now seat.new }
     {
-        let (turn, seen_len) = turn_place(rt, &self.table.shared, &mut seat.place, cpu);
+        let (turn, seen_len) = turn_place(rt, &self.table.shared, &self.hint, &mut seat.place, cpu);
         seat.seen_len = seen_len;
         seat.waited = count_waited(seat.first, seat.last, seat.waited, &turn);
         turn
@@ -90,6 +95,28 @@ impl Dispatch {
         ensures found { (run : Run) × HasSeen seat.old run × (result ≡ nat_lt (length seat.old.seen.entries) (length run.entries)) }
     {
         load_len(&self.table.shared, &mut seat.place) > seat.seen_len
+    }
+
+    /// Waits until a processor of the seat may have the turn: the driver looks for a while, and then sleeps until another
+    /// driver's turn wakes it. It comes back sooner where a processor that may have the turn has no driver at hand, and so
+    /// does a seat of several processors, which never sleeps. This is advice: it takes no turn, and the turn may be
+    /// another's by then.
+    pub fn await_turn<R: Wait>(&self, rt: &R, seat: &CpuSeat) {
+        if seat.first == seat.last {
+            self.hint.await_turn(rt, seat.first);
+        }
+    }
+
+    /// Tells the other drivers whether a driver of this seat waits for its turns and takes them, or does something else
+    /// meanwhile. While it does, others don't sleep where the seat may have the turn. This is advice too.
+    pub fn set_at_hand(&self, seat: &CpuSeat, is_at_hand: bool) {
+        self.hint
+            .set_at_hand(CpuSet::between(seat.first, seat.last), is_at_hand);
+    }
+
+    /// Tells the other drivers that this seat has no driver any more, and wakes those who would wait for it.
+    pub fn leave(&self, seat: &CpuSeat) {
+        self.hint.leave(CpuSet::between(seat.first, seat.last));
     }
 
     /// Gives the seat's processors from `at` on to a new seat, which has seen what the seat has seen. The seat keeps at
@@ -170,7 +197,8 @@ impl Dispatch {
             seen_len: _,
             waited: _,
         } = seat;
-        let mut closed = self.table.close_with(place);
+        let Dispatch { table, hint: _ } = self;
+        let mut closed = table.close_with(place);
         let core = closed.take(CORE).unwrap();
         closed.free();
         core

@@ -4,6 +4,7 @@
 #![tactic(auto)]
 
 mod dispatch;
+mod hint;
 pub mod laws;
 mod rule;
 mod seat;

@@ -7,6 +7,7 @@ ghost use Rattle.aps_lock.specs.Rule.{IsFor, IsServed, room};
 ghost use Rattle.aps_lock.specs.Seen.{IsSeenIn};
 ghost use Rattle.aps_lock.specs.declared.view.Ticket.TheVariants.{NoTicket, Served, Waiting};
 
+use crate::hint::{Hint, next_turns};
 use crate::rule::{
     Both, Cut, CutAt, Look, Place, Publish, Release, SharedCore, Shown, TakeTicket, Tell, Witness,
 };
@@ -106,11 +107,12 @@ fn release(shared: &SharedCore, place: &mut Place)
     shared.fetch_add::<Release>(place, SERVING, 1);
 }
 
-/// One step of the processor, from the ticket to the release. The second of the answer is the number of entries
-/// then.
+/// One step of the processor, from the ticket to the release, after which those are woken who may have the next turn. The
+/// second of the answer is the number of entries then.
 pub(crate) fn turn_place<R: Wait>(
     rt: &R,
     shared: &SharedCore,
+    hint: &Hint,
     place: &mut Place,
     cpu: CpuId,
 ) -> (Turn, u64)
@@ -129,9 +131,12 @@ pub(crate) fn turn_place<R: Wait>(
     let mut core = take_core(shared, place);
     let turn = core.step(cpu);
     let len = len_of(&core);
+    let next = next_turns(&core);
+    hint.set_next(next);
     publish::<Brand>(shared, place, &core, len);
     put_core(shared, place, core);
     release(shared, place);
+    hint.wake(next);
     (turn, len)
 }
 

@@ -12,18 +12,14 @@ loop-preserved g c =
     let from : SeatData = c.args.seat.now in
     let before : SeatData = c.loop.seat in
     let after : SeatData = c.turn.new.seat in
-    let same : c.match-turn.seat ≡ after = elim c.match-turn.branch [
-      | in-NotYet+else-waited-ge-MOST_WAITED w ↦ w.seat-is ∙ w.give_way.ensures
-      | in-Took w ↦ w.seat-is
-    ] in
     let waited : after.waited < 1000000 = elim c.match-turn.branch [
       | in-NotYet+else-waited-ge-MOST_WAITED w ↦ omega (arith, w.waited.ensures, w.if-waited-ge-MOST_WAITED.false)
       | in-Took w ↦ omega (arith, ap (λ s. s.waited) t.3, ap (waited_after before.first before.last before.waited) w.in-Took.is)
     ] in
     let ends : EndsWith from c.turn.result after = made_one from before after c.loop.cpu c.turn.result i.made i.on (omega (arith, i.low, i.on.first), omega (arith, i.high, i.on.last)) t c.turn.ensures.own in record {
-      on = subst (IsOnFrom from) (sym same) (on_trans from before after i.on (on_turn before c.loop.cpu c.turn.result after t));
-      made = subst (HasMade from) (sym same) (made_more from after c.turn.result ends);
+      on = on_trans from before after i.on (on_turn before c.loop.cpu c.turn.result after t);
+      made = made_more from after c.turn.result ends;
       low = omega (arith, c.following-cpu.ensures.within.0, c.first-first.ensures.same);
       high = omega (arith, c.following-cpu.ensures.within.1, c.last-last.ensures.same);
-      waited = omega (arith, waited, ap (λ s. s.waited) same);
+      waited = waited;
     }
