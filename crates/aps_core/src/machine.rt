@@ -21,6 +21,7 @@ mod inherit;
 mod messages;
 mod operation;
 mod pick;
+mod reading;
 mod settle;
 mod start;
 mod threads;

@@ -1,0 +1,12 @@
+use Rattle.std.proofs.Common.{◌≡◌, take}
+use Rattle.aps_laws.specs.Moments.{moment}
+use Rattle.aps_lives.specs.Life.{AreLives}
+use Rattle.aps_lives.proofs.Retraced.{front}
+use Rattle.aps_lives.proofs.retracing.lives.Given as goal
+
+abbrev pub invariant-loop-e : goal.invariant-loop-e
+invariant-loop-e l = record {
+  core : l.core ≡ front l.history.scenario l.fn.order l.limit l.entries l.e-index;
+  lives : AreLives l.history.scenario (take l.e-index l.entries) l.lives.items;
+  moment : l.moment ≡ moment (take l.e-index l.entries);
+}
