@@ -6,3 +6,4 @@ pub mod Above
 pub mod Runs
 pub mod Totals
 pub mod Below
+pub mod ServedTicks

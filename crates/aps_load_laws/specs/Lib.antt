@@ -1,3 +1,4 @@
 pub mod Kinds
 pub mod FreeTime
 pub mod Excess
+pub mod Served

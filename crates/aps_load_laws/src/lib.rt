@@ -4,3 +4,4 @@
 #![tactic(auto)]
 
 pub mod excess;
+pub mod served;
