@@ -7,3 +7,7 @@ pub mod Runs
 pub mod Totals
 pub mod Below
 pub mod ServedTicks
+pub mod OpenPick
+pub mod Flags
+pub mod Greatest
+pub mod Passed

@@ -2,3 +2,4 @@ pub mod Kinds
 pub mod FreeTime
 pub mod Excess
 pub mod Served
+pub mod Passing

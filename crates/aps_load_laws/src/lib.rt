@@ -4,4 +4,5 @@
 #![tactic(auto)]
 
 pub mod excess;
+pub mod passing;
 pub mod served;
