@@ -1,0 +1,5 @@
+pub mod Kinds
+pub mod FreeTime
+pub mod Excess
+pub mod Served
+pub mod Passing
