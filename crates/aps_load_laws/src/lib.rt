@@ -6,3 +6,4 @@
 pub mod excess;
 pub mod passing;
 pub mod served;
+pub mod share;
