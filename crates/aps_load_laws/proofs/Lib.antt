@@ -14,3 +14,4 @@ pub mod Passed
 pub mod Classes
 pub mod ServedPicks
 pub mod OwnShares
+pub mod Responds

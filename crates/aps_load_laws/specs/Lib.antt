@@ -5,3 +5,4 @@ pub mod Served
 pub mod Passing
 pub mod Work
 pub mod OwnShare
+pub mod Response

@@ -38,4 +38,5 @@ pub record HasWork (scenario : Scenario) (before : List Entry) (e : Entry) (p : 
 pub record ServesClassOne (scenario : Scenario) (before : List Entry) (e : Entry) : Type 0 where
   pub serves : HasClassOne scenario before e → IsServedPick scenario before e
   pub only : IsServedPick scenario before e → HasClassOne scenario before e
-  pub work : (p : ℕ) → is_funded scenario (before ++ e ∷ []) p ≡ true → HasWork scenario before e p → IsServedPick scenario before e
+  pub work : (p : ℕ) → is_funded scenario (before ++ e ∷ []) p ≡ true → HasWork scenario before e p
+      → IsServedPick scenario before e
