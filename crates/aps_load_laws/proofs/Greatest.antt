@@ -26,7 +26,7 @@ use Rattle.aps_load_laws.proofs.Flags.{RunsNotBelow, each_filtered, not_below}
 
 -- ---- the greatest candidate is a candidate
 
-abbrev may_run : List PartFacts → Contender → Bool
+abbrev pub may_run : List PartFacts → Contender → Bool
 may_run ps c = is_candidate c.facts (part_at ps c.facts.partition)
 
 abbrev MayRun : List PartFacts → Option Contender → Type 0

@@ -11,3 +11,7 @@ pub mod OpenPick
 pub mod Flags
 pub mod Greatest
 pub mod Passed
+pub mod Classes
+pub mod ServedPicks
+pub mod OwnShares
+pub mod Responds

@@ -41,6 +41,7 @@ pub record IsOpenPick (r : SchedulerState) (h : List Entry) (c : ℕ) (e : Entry
   pub cpu : e.cpu ≡ c
   pub below : c < length r.cpus
   pub shape : t.shape ≡ r.shape
+  pub rows : t.rows ≡ r.rows
   pub picked : e.picked ≡ option_map (λ (b : Contender). b.thread) (greatest r.shape.free parts (contenders r))
   pub leaves : t ≡ with_flag (chosen r parts c (greatest r.shape.free parts (contenders r))) e.to
       (flag_for (chosen r parts c (greatest r.shape.free parts (contenders r))) h parts c e.to
@@ -70,6 +71,7 @@ open_at r h c now e ps best other starved cpu below to parts is flags =
       cpu = cpu;
       below = below;
       shape = shape;
+      rows = rows;
       picked = ap (λ o. option_map (λ (b : Contender). b.thread) o) is;
       leaves =
           ap (with_flag (q best) now) flags

@@ -125,7 +125,7 @@ served_is_full scenario order h r legal a b served = full scenario order h r leg
 
 -- ---- so they keep the bound
 
-sum_alike : (f g : ℕ → ℕ) → ((q : ℕ) → f q ≡ g q) → (xs : List ℕ) → sum_by f xs ≡ sum_by g xs
+pub sum_alike : (f g : ℕ → ℕ) → ((q : ℕ) → f q ≡ g q) → (xs : List ℕ) → sum_by f xs ≡ sum_by g xs
 sum_alike f g same [] = refl
 sum_alike f g same (x ∷ xs) = omega (arith, sum_by-cons f x xs, sum_by-cons g x xs, same x, sum_alike f g same xs)
 

@@ -12,15 +12,20 @@ use Rattle.aps_model.specs.Shape.{whole}
 use Rattle.aps_model.specs.Usage.{critical_used, used}
 use Rattle.aps_load_laws.specs.FreeTime.{free_used, idle_time}
 
--- by how much the partition may exceed its budget in ticks a to b-1: its critical time, its free time, and one tick
--- for each processor where it has a budget
-abbrev pub leeway : Scenario → Shape → List PartitionRow → List Entry → ℕ → ℕ → ℕ → ℕ
-leeway scenario shape rows h a b p =
-    critical_used shape.tick h p a b
-    + (if nat_eq (row_or_none rows p).budget 0 then 0 else shape.cpus * shape.tick)
-    + free_used scenario shape.tick h p a b
+-- the partition's critical time in ticks a to b-1, and one tick for each processor where it has a budget
+abbrev pub margin : Shape → List PartitionRow → List Entry → ℕ → ℕ → ℕ → ℕ
+margin shape rows h a b p =
+    critical_used shape.tick h p a b + (if nat_eq (row_or_none rows p).budget 0 then 0 else shape.cpus * shape.tick)
 
--- the same of all other partitions together
+-- by how much it may exceed its budget in ticks a to b-1: its margin, and its free time
+abbrev pub leeway : Scenario → Shape → List PartitionRow → List Entry → ℕ → ℕ → ℕ → ℕ
+leeway scenario shape rows h a b p = margin shape rows h a b p + free_used scenario shape.tick h p a b
+
+-- the margins, and the leeways, of all other partitions together
+abbrev pub others_margin : Shape → List PartitionRow → List Entry → ℕ → ℕ → ℕ → ℕ
+others_margin shape rows h a b p =
+    sum_by (λ q. if nat_eq q p then 0 else margin shape rows h a b q) (range_with_len 0 (length rows))
+
 abbrev pub others_leeway : Scenario → Shape → List PartitionRow → List Entry → ℕ → ℕ → ℕ → ℕ
 others_leeway scenario shape rows h a b p =
     sum_by (λ q. if nat_eq q p then 0 else leeway scenario shape rows h a b q) (range_with_len 0 (length rows))

@@ -3,3 +3,6 @@ pub mod FreeTime
 pub mod Excess
 pub mod Served
 pub mod Passing
+pub mod Work
+pub mod OwnShare
+pub mod Response

@@ -5,4 +5,6 @@
 
 pub mod excess;
 pub mod passing;
+pub mod response;
 pub mod served;
+pub mod share;

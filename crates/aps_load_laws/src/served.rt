@@ -1,11 +1,14 @@
 //! Ticks in which every pick is of class 1: of a thread whose partition is in budget, or of a critical one.
-ghost use Rattle.std.specs.Prelude.{List, ◌/◌};
+ghost use Rattle.std.specs.Prelude.{List, [], ◌∷◌, ◌++◌, ◌⊎◌, ◌/◌};
 ghost use Rattle.aps_model.specs.declared.entry.Entry.{Entry};
 ghost use Rattle.aps_model.specs.declared.entry.Order.{Order};
+ghost use Rattle.aps_model.specs.After.{after, state_after};
 ghost use Rattle.aps_model.specs.Scenario.{Scenario};
 ghost use Rattle.aps_model.specs.Valid.{IsScenario};
 ghost use Rattle.aps_model.specs.Legal.{IsLegal};
 ghost use Rattle.aps_load_laws.specs.Served.{FillsServed, KeepsServedBound, ServesSteady};
+ghost use Rattle.aps_load_laws.specs.Work.{ServesClassOne};
+ghost use Rattle.aps_laws.specs.Choices.{MadeNoPick};
 
 /// In served ticks there is no free time, and no processor stands idle.
 pub fn served_is_full()
@@ -22,4 +25,10 @@ pub fn served_window_bound()
 /// Where no partition with a budget lacks a candidate at a pick of finished ticks, these are served.
 pub fn steady_is_served()
     ensures { (scenario : Scenario) (order : Order) (h : List Entry) → IsScenario scenario → IsLegal scenario order h → ServesSteady scenario h }
+{}
+
+/// A pick is of class 1 exactly where some ready thread is, and so it is wherever a partition that is in budget has work,
+/// limit or no limit; unless the entry makes no pick, since it stands at the horizon or ended the run.
+pub fn class_one_is_served()
+    ensures { (scenario : Scenario) (order : Order) (h : List Entry) (e : Entry) → IsScenario scenario → IsLegal scenario order (h ++ e ∷ []) → MadeNoPick (state_after scenario h) e (after scenario (h ++ e ∷ [])).reboot ⊎ ServesClassOne scenario h e }
 {}
