@@ -1,5 +1,5 @@
 pub mod Ranges
-pub mod Scan
+pub mod Seats
 pub mod PickStep
 pub mod Numbers
 pub mod Frame

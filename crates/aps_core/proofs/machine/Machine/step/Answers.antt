@@ -1,8 +1,11 @@
-use Rattle.std.proofs.Common.{ℕ, ◌≤◌, sym, ◌∙◌, refl, subst, length}
-use Rattle.aps_model.specs.SchedulerState.{SchedulerState, thread_at}
+use Rattle.std.proofs.Common.{ℕ, ◌≤◌, [], ◌∷◌, ◌++◌, sym, ◌∙◌, refl, subst, length, ap}
+use Rattle.aps_model.specs.SchedulerState.{SchedulerState, cpu_at, thread_at}
+use Rattle.aps_model.specs.Step.{Step}
+use Rattle.aps_laws.specs.Between.{after_bill}
 use Rattle.aps_core.specs.Pending.{IsPending}
-use Rattle.aps_core.specs.Room.{HasRoomToWake}
-use Rattle.aps_core.proofs.StepParts.{none_is, step_below, tested_by, ticked_by}
+use Rattle.aps_core.specs.Room.{HasRoom, HasRoomToWake}
+use Rattle.aps_core.proofs.Seats.{seats_count}
+use Rattle.aps_core.proofs.StepParts.{billed_by, none_is, settled_by, step_below, tested_by, ticked_by, where_it_runs}
 use Rattle.aps_core.proofs.machine.Machine.step.Goals as goal
 
 -- ---- the work of the tick
@@ -53,3 +56,45 @@ returns-clause-same c =
     step_below c.args.scenario.now c.args.self.now c.args.entries.now c.args.cpu _ _ _ _ _ _ _ b
     (none_is c.test-reboot.result (sym c.is_some.ensures ∙ c.if-is_some.false))
     (λ there. c.if-now-horizon.false (there ∙ sym c.horizon.ensures.same)) c.settle-done.ensures c.bill_of-e.ensures.to c.pick-picked.ensures.same
+
+pub settle-done-requires-clause-room : goal.settle-done-requires-clause-room
+settle-done-requires-clause-room c =
+    let b =
+    tested_by c.args.scenario.now c.args.self.now c.args.entries.now c.args.cpu _ _ _ _ _ _ _ _ _
+    c.due-now.ensures c.last_end-from.ensures.same c.begin-running.ensures.running c.begin-running.ensures.same c.work_tick.ensures.same c.bill_of-e.ensures.same c.bill.ensures c.test-reboot.ensures in
+    λ some.
+    subst HasRoom (sym (billed_by c.args.scenario.now c.args.self.now c.args.entries.now c.args.cpu _ _ _ _ _ b))
+    (where_it_runs c.begin-running.result (cpu_at c.args.self.now c.args.cpu).running (HasRoom (after_bill c.args.scenario.now c.args.self.now c.args.entries.now c.args.cpu))
+    c.begin-running.ensures.running c.requires.ready.room some)
+
+pub returns-clause-pending : goal.returns-clause-pending
+returns-clause-pending c =
+    subst (λ (s : SchedulerState). IsPending c.args.scenario.now s.shape.tick (c.args.entries.now ++ c.pick-picked.result ∷ []) c.work_tick.new.ctl) c.begin-running.ensures.same
+    (c.work_tick.ensures.pending c.pick-picked.result (sym (ap (λ (out : Step). out.entry.to) c.pick-picked.ensures.same) ∙ c.bill_of-e.ensures.to))
+
+-- ---- the queues
+
+pub sync_all-requires-clause-count : goal.sync_all-requires-clause-count
+sync_all-requires-clause-count c =
+    let b =
+    tested_by c.args.scenario.now c.args.self.now c.args.entries.now c.args.cpu _ _ _ _ _ _ _ _ _
+    c.due-now.ensures c.last_end-from.ensures.same c.begin-running.ensures.running c.begin-running.ensures.same c.work_tick.ensures.same c.bill_of-e.ensures.same c.bill.ensures c.test-reboot.ensures in
+    ap length c.requires.seats ∙ seats_count c.args.self.now ∙ sym c.requires.ready.count_billed
+    ∙ ap (λ (s : SchedulerState). length s.threads) (sym (billed_by c.args.scenario.now c.args.self.now c.args.entries.now c.args.cpu _ _ _ _ _ b))
+
+pub sync_all-requires-then-now-horizon-clause-count : goal.sync_all-requires-then-now-horizon-clause-count
+sync_all-requires-then-now-horizon-clause-count c =
+    let b =
+    tested_by c.args.scenario.now c.args.self.now c.args.entries.now c.args.cpu _ _ _ _ _ _ _ _ _
+    c.due-now.ensures c.last_end-from.ensures.same c.begin-running.ensures.running c.begin-running.ensures.same c.work_tick.ensures.same c.bill_of-e.ensures.same c.bill.ensures c.test-reboot.ensures in
+    ap length c.requires.seats ∙ seats_count c.args.self.now ∙ sym c.requires.ready.count_billed
+    ∙ ap (λ (s : SchedulerState). length s.threads) (sym (billed_by c.args.scenario.now c.args.self.now c.args.entries.now c.args.cpu _ _ _ _ _ b))
+
+pub sync_all-requires-2-clause-count : goal.sync_all-requires-2-clause-count
+sync_all-requires-2-clause-count c =
+    let b =
+    tested_by c.args.scenario.now c.args.self.now c.args.entries.now c.args.cpu _ _ _ _ _ _ _ _ _
+    c.due-now.ensures c.last_end-from.ensures.same c.begin-running.ensures.running c.begin-running.ensures.same c.work_tick.ensures.same c.bill_of-e.ensures.same c.bill.ensures c.test-reboot.ensures in
+    ap length c.requires.seats ∙ seats_count c.args.self.now ∙ sym c.requires.ready.count_settled
+    ∙ ap (λ (s : SchedulerState). length s.threads)
+    (sym (settled_by c.args.scenario.now c.args.self.now c.args.entries.now c.args.cpu _ _ _ _ _ _ b c.settle-done.ensures))
