@@ -6,6 +6,7 @@ pub mod Ready
 pub mod Small
 pub mod Part
 pub mod Seats
+pub mod Touched
 pub mod Machine
 pub mod MachineView
 pub mod Run

@@ -17,9 +17,13 @@ seats_of s = map (seat_at s) (range_with_len 0 (length s.threads))
 abbrev pub who_at : List (Option Contender) → ℕ → Option Contender
 who_at seats x = slice_index_or seats x None
 
+-- there is who should be
+abbrev pub IsRight : SchedulerState → List (Option Contender) → ℕ → Type 0
+IsRight s seats x = who_at seats x ≡ seat_at s x
+
 -- nobody is in there, or who should be
 abbrev pub IsSeated : SchedulerState → List (Option Contender) → ℕ → Type 0
-IsSeated s seats x = (who_at seats x ≡ None) ⊎ (who_at seats x ≡ seat_at s x)
+IsSeated s seats x = (who_at seats x ≡ None) ⊎ IsRight s seats x
 
 -- the same, with this thread out, if there is one
 abbrev pub without : Option ℕ → List (Option Contender) → List (Option Contender)

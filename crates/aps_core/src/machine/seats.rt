@@ -1,5 +1,5 @@
-ghost use Rattle.std.specs.Prelude.{◌≡◌, ◌≢◌, ℕ, ◌<◌, length, slice_set, IfOk, IfSome, Some, None, true};
-ghost use Rattle.aps_core.specs.Seats.{seat_at, seats_of, who_at, without, IsSeated};
+ghost use Rattle.std.specs.Prelude.{◌≡◌, ◌≢◌, ℕ, ◌<◌, length, IfOk, IfSome, Some, None, true, false};
+ghost use Rattle.aps_core.specs.Seats.{seat_at, seats_of, who_at, without, IsRight, IsSeated};
 ghost use Rattle.aps_laws.specs.Stamps.{IsStamped};
 
 use super::Machine;
@@ -48,10 +48,10 @@ impl Machine {
     }
 
     /// The thread isn't in, unless it is as it should be.
-    fn leave(&self, ready: &mut Ready, x: ThreadId)
-        requires { x < length ready.old }
+    pub fn leave(&self, ready: &mut Ready, x: ThreadId)
         ensures own { IsSeated self.now ready.new x }
-        ensures others { (y : ℕ) → y ≢ x → who_at ready.new y ≡ who_at ready.old y }
+        ensures seated { (y : ℕ) → IsSeated self.now ready.old y → IsSeated self.now ready.new y }
+        ensures right { (y : ℕ) → IsRight self.now ready.old y → IsRight self.now ready.new y }
         ensures count { length ready.new ≡ length ready.old }
     {
         if let Some(seat) = ready.at(x) {
@@ -63,7 +63,8 @@ impl Machine {
 
     /// Whether the thread is ready, and is known so.
     fn is_seated(&self, seat: &Contender, x: ThreadId) -> bool
-        ensures { result ≡ true → Some seat.now ≡ seat_at self.now x }
+        ensures yes { result ≡ true → Some seat.now ≡ seat_at self.now x }
+        ensures no { result ≡ false → Some seat.now ≢ seat_at self.now x }
     {
         match self.seat_at(x) {
             Some(now) => now == *seat,
@@ -72,11 +73,14 @@ impl Machine {
     }
 
     /// The thread is in, if it should be, where it isn't in otherwise.
-    fn enter(&self, ready: &mut Ready, x: ThreadId)
-        requires inside { x < length ready.old }
+    pub fn enter(&self, ready: &mut Ready, x: ThreadId)
+        requires count { length ready.old ≡ length self.now.threads }
         requires stamped { IsStamped self.now.threads self.now.stamps }
         requires seated { (y : ℕ) → IsSeated self.now ready.old y }
-        ensures { ready.new ≡ slice_set ready.old x (seat_at self.now x) }
+        ensures own { IsRight self.now ready.new x }
+        ensures seated { (y : ℕ) → IsSeated self.now ready.new y }
+        ensures right { (y : ℕ) → IsRight self.now ready.old y → IsRight self.now ready.new y }
+        ensures count { length ready.new ≡ length ready.old }
     {
         if ready.at(x).is_some() {
             return;
