@@ -15,7 +15,8 @@ impl Machine {
         requires count { length ready.old ≡ length self.now.threads }
         requires stamped { IsStamped self.now.threads self.now.stamps }
         requires tied { is_any ≡ false → is_exit done.now ≡ false → (y : ℕ)
-            → (IsTouched own.now (peer_of done.now) (is_at_channel done.now) self.now.triples y → ⊥) → IsRight self.now ready.old y }
+            → (IsTouched own.now (peer_of done.now) (is_at_channel done.now) self.now.triples y → ⊥)
+            → IsRight self.now ready.old y }
         ensures { ready.new ≡ seats_of self.now }
     {
         if is_any || is_exit(done) {
