@@ -1,16 +1,21 @@
 -- The state at the start of a scenario.
-use Rattle.std.proofs.Common.{◌≡◌, ℕ, zero, suc, ◌+◌, ◌≤◌, List, [], ◌∷◌, length, map, refl, ◌∙◌, ap, replicate, arith}
+use Rattle.std.proofs.Common.{◌≡◌, ℕ, zero, suc, ◌+◌, ◌≤◌, List, [], ◌∷◌, length, map, refl, ◌∙◌, ap, subst, replicate, arith}
 use Rattle.aps_model.specs.declared.command.Change.{Change}
 use Rattle.aps_model.specs.declared.command.Reply.{Reply}
+use Rattle.aps_model.specs.declared.entry.Order.{Order}
 use Rattle.aps_model.specs.declared.partition.PartitionRow.{PartitionRow}
 use Rattle.aps_model.specs.declared.scenario.ThreadRow.{ThreadRow}
 use Rattle.aps_model.specs.declared.shape.Shape.{Shape}
 use Rattle.aps_model.specs.declared.state.CpuNow.{CpuNow}
 use Rattle.aps_model.specs.declared.state.ThreadNow.{ThreadNow}
+use Rattle.aps_model.specs.After.{After}
 use Rattle.aps_model.specs.Opening.{first_state, opening, stamp_after, start_stamps, start_threads}
 use Rattle.aps_model.specs.Scenario.{Scenario}
 use Rattle.aps_model.specs.SchedulerState.{ChannelNow, SchedulerState, Triple, idle, no_channel}
 use Rattle.aps_model.specs.Valid.{IsScenario}
+use Rattle.aps_model.proofs.AfterLaws.{after_none, legal_none}
+use Rattle.aps_laws.specs.Stamps.{IsStamped}
+use Rattle.aps_laws.proofs.ThreadLaws.{stamps_law}
 use Rattle.aps_core.specs.Machine.{IsMachine}
 
 threads_length : (shape : Shape) (number next : ℕ) (rows : List ThreadRow) → length (start_threads shape number next rows) ≡ length rows
@@ -58,3 +63,9 @@ opening_by_parts scenario rows shape threads stamps channels triples cpus replie
     let empty : channels ≡ map (λ (name : List ℕ). no_channel) scenario.channels = e5 ∙ no_channels scenario.channels in
     let idles : cpus ≡ replicate scenario.shape.cpus idle = e7 ∙ ap (λ (z : Shape). replicate z.cpus idle) e2 in
     rw (e1, e2, e3, e4, empty, e6, idles, e8, e9) refl
+
+-- stamps differ there
+pub opening_stamped : (scenario : Scenario) (order : Order) → IsScenario scenario → IsStamped (opening scenario).threads (opening scenario).stamps
+opening_stamped scenario order valid =
+    subst (λ (a : After). IsStamped a.state.threads a.state.stamps) (after_none scenario)
+    (stamps_law scenario order valid [] (legal_none scenario order))

@@ -1,5 +1,7 @@
 pub mod Ranges
-pub mod Scan
+pub mod Seats
+pub mod Touched
+pub mod SeatsStay
 pub mod PickStep
 pub mod Numbers
 pub mod Frame

@@ -1,5 +1,5 @@
 -- What a step rests on holds of the step of a processor that has the turn.
-use Rattle.std.proofs.Common.{◌≡◌, ℕ, ◌-◌, ◌/◌, ◌≤◌, List, [], ◌∷◌, ◌++◌, length, ◌∙◌, ap, cond, Bool, true, false, nat_eq, Option, Some, None, slice_index_or, arith, inl, inr}
+use Rattle.std.proofs.Common.{◌≡◌, ℕ, ◌-◌, ◌/◌, ◌≤◌, List, [], ◌∷◌, ◌++◌, length, sym, ◌∙◌, ap, cond, Bool, true, false, nat_eq, Option, Some, None, slice_index_or, arith, inl, inr}
 use Rattle.std.proofs.lemmas.Bool.{cases_lt}
 use Rattle.std.proofs.lemmas.List.{get_or_past, length-append}
 use Rattle.aps_model.specs.declared.entry.Entry.{Entry}
@@ -28,6 +28,7 @@ use Rattle.aps_laws.proofs.Counts.{counts_law}
 use Rattle.aps_laws.proofs.Mid.{tested_by}
 use Rattle.aps_laws.proofs.Programs.{row_fits}
 use Rattle.aps_laws.proofs.ReplyLaws.{few_answered}
+use Rattle.aps_laws.proofs.Servers.{runs_free}
 use Rattle.aps_laws.proofs.StampCounts.{few_stamps}
 use Rattle.aps_laws.proofs.StepOf.{horizon_same}
 use Rattle.aps_laws.proofs.ThreadFacts.{running_within}
@@ -152,5 +153,10 @@ ready scenario order h c valid legal short run turn =
       changes_billed = changes_billed;
       within_ticked = omega (arith, d.within, horizon_same scenario.shape s.shape counted.sizes, horizon_same scenario.shape (after_tick scenario s h c).shape b.ticked.sizes);
       within_settled = omega (arith, d.within, horizon_same scenario.shape s.shape counted.sizes, horizon_same scenario.shape (before_pick scenario s h c).shape b.settled'.sizes);
+      free_billed = λ p runs. runs_free (after_bill scenario s h c) p.thread c b.billed'.waiting (b.runs_billed p runs);
+      count_billed = b.billed'.threads ∙ sym counted.threads;
+      count_settled = b.settled'.threads ∙ sym counted.threads;
+      stamped_billed = b.billed'.stamped;
+      stamped_settled = b.settled'.stamped;
       exists_settled = omega (arith, d.exists, counted.cpus, b.settled'.cpus);
     }

@@ -1,6 +1,7 @@
 -- The parts of a step, as the code makes them.
 use Rattle.std.proofs.Common.{◌≡◌, ◌≢◌, ℕ, List, refl, sym, ◌∙◌, ap, false, true, Option, Some, None}
 use Rattle.std.specs.Prelude.{is_some}
+use Rattle.std.specs.Option.{IsSome}
 use Rattle.aps_model.specs.declared.entry.Entry.{Entry}
 use Rattle.aps_model.specs.declared.state.Pick.{Pick}
 use Rattle.aps_model.specs.Bill.{Tested, bill_of}
@@ -12,7 +13,7 @@ use Rattle.aps_model.specs.Shape.{horizon}
 use Rattle.aps_model.specs.Step.{Step, begun, billed, pick, settled, step, tested, unless_rebooted}
 use Rattle.aps_model.specs.TickWork.{tick_work}
 use Rattle.aps_laws.proofs.WaitFacts.{test_ne}
-use Rattle.aps_laws.specs.Between.{after_tick}
+use Rattle.aps_laws.specs.Between.{after_bill, after_tick, before_pick}
 
 -- what the parts of a step before the operation leave, with the test of bankruptcy
 pub record IsTested (scenario : Scenario) (s : SchedulerState) (h : List Entry) (c now : ℕ) (running : Option Pick) (e : Entry) (t : SchedulerState) (reboot : Option ℕ) : Type 0 where
@@ -61,6 +62,25 @@ pub ticked_by : (scenario : Scenario) (s : SchedulerState) (h : List Entry) (c n
     → now ≡ due s h c → s1 ≡ with_cpu s c (record (cpu_at s c) { flag = None }) → s2 ≡ tick_work scenario s1 h now → s2 ≡ after_tick scenario s h c
 ticked_by scenario s h c now s1 s2 e1 e2 e3 =
     e3 ∙ ap (λ m. tick_work scenario m h now) e2 ∙ ap (λ z. begun scenario s h c z) e1
+
+-- the state that the bill leaves
+pub billed_by : (scenario : Scenario) (s : SchedulerState) (h : List Entry) (c now : ℕ) (running : Option Pick) (e : Entry) (t : SchedulerState) (reboot : Option ℕ)
+    → IsTested scenario s h c now running e t reboot → t ≡ after_bill scenario s h c
+billed_by scenario s h c now running e t reboot b =
+    ap (λ (z : Tested). z.state) (sym b.test) ∙ rw (b.entry, b.ran, b.at_due) refl
+
+-- and the one that the operation leaves
+pub settled_by : (scenario : Scenario) (s : SchedulerState) (h : List Entry) (c now : ℕ) (running : Option Pick) (e : Entry) (t : SchedulerState) (reboot : Option ℕ) (did : Effect)
+    → IsTested scenario s h c now running e t reboot → settled scenario t now running ≡ did → did.state ≡ before_pick scenario s h c
+settled_by scenario s h c now running e t reboot did b did_is =
+    ap (λ (z : Effect). z.state) (sym did_is)
+    ∙ ap (λ (u : SchedulerState). (settled scenario u now running).state) (billed_by scenario s h c now running e t reboot b)
+    ∙ rw (b.ran, b.at_due) refl
+
+-- what holds where the processor keeps a pick
+pub where_it_runs : (running kept : Option Pick) (R : Type 0) → running ≡ kept → ((p : Pick) → kept ≡ Some p → R) → IsSome running → R
+where_it_runs None kept R same holds some = absurd cc
+where_it_runs (Some p) kept R same holds some = holds p (sym same)
 
 pub none_is : (o : Option ℕ) → is_some o ≡ false → o ≡ None
 none_is None e = refl

@@ -1,5 +1,6 @@
-use Rattle.std.specs.Prelude.{◌≡◌, ℕ, ◌≤◌, List, length}
+use Rattle.std.specs.Prelude.{◌≡◌, ℕ, ◌≤◌, List, length, Option}
 use Rattle.aps_model.specs.declared.command.CommandRow.{CommandRow}
+use Rattle.aps_model.specs.declared.merit.Contender.{Contender}
 use Rattle.aps_model.specs.declared.merit.PartFacts.{PartFacts}
 use Rattle.aps_model.specs.History.{History}
 use Rattle.aps_model.specs.Legal.{IsLegal}
@@ -8,6 +9,7 @@ use Rattle.aps_model.specs.Valid.{IsScenario}
 use Rattle.aps_laws.specs.Runs.{EndsNoSooner}
 use Rattle.aps_core.specs.Pending.{IsPending}
 use Rattle.aps_core.specs.Run.{Run, Setup, history_of, state_of}
+use Rattle.aps_core.specs.Seats.{seats_of}
 
 -- what a core can be set up with
 pub record IsSetup (setup : Setup) : Type 0 where
@@ -29,7 +31,9 @@ pub record IsCore (run : Run) (kept : History) (state : SchedulerState) (parts :
   pub machine : state ≡ state_of run
   pub room : length parts ≡ 32
 
--- what each core keeps: its parts stand for its run, and the commands are still to come whose ticks no entry has begun
-pub record IsCoreWith (run : Run) (kept : History) (state : SchedulerState) (parts : List PartFacts) (commands : List (ℕ × CommandRow)) : Type 0 where
+-- what each core keeps: its parts stand for its run, the commands are still to come whose ticks no entry has begun, and in
+-- the queues are the ready threads
+pub record IsCoreWith (run : Run) (kept : History) (state : SchedulerState) (parts : List PartFacts) (ready : List (Option Contender)) (commands : List (ℕ × CommandRow)) : Type 0 where
   pub core : IsCore run kept state parts
   pub pending : IsPending run.setup.scenario run.setup.scenario.shape.tick run.entries commands
+  pub seats : ready ≡ seats_of state

@@ -5,7 +5,8 @@ pub mod Room
 pub mod Ready
 pub mod Small
 pub mod Part
-pub mod Scan
+pub mod Seats
+pub mod Touched
 pub mod Machine
 pub mod MachineView
 pub mod Run

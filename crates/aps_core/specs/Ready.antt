@@ -6,9 +6,12 @@ use Rattle.aps_model.specs.Scenario.{Scenario}
 use Rattle.aps_model.specs.SchedulerState.{SchedulerState, cpu_at, thread_at}
 use Rattle.aps_model.specs.Shape.{horizon}
 use Rattle.aps_laws.specs.Between.{after_bill, after_tick, before_pick}
+use Rattle.aps_laws.specs.Servers.{IsNobodysClient}
+use Rattle.aps_laws.specs.Stamps.{IsStamped}
 use Rattle.aps_core.specs.Room.{HasRoom, HasRoomToWake, changes_of_a_run, last_place, stamps_before}
 
--- what a step of processor c rests on: the processor exists, its moments fit, and so does what its parts make greater
+-- what a step of processor c rests on: the processor exists, its moments fit, so does what its parts make greater,
+-- its thread is nobody's client, and stamps differ
 pub record IsReady (scenario : Scenario) (s : SchedulerState) (h : List Entry) (c : ℕ) : Type 0 where
   pub exists : c < length s.cpus
   pub forward : last_end h c ≤ due s h c
@@ -23,4 +26,9 @@ pub record IsReady (scenario : Scenario) (s : SchedulerState) (h : List Entry) (
   pub changes_billed : length (after_bill scenario s h c).changes ≤ changes_of_a_run
   pub within_ticked : due s h c ≤ horizon (after_tick scenario s h c).shape
   pub within_settled : due s h c ≤ horizon (before_pick scenario s h c).shape
+  pub free_billed : (p : Pick) → (cpu_at s c).running ≡ Some p → IsNobodysClient (after_bill scenario s h c).triples p.thread
+  pub count_billed : length (after_bill scenario s h c).threads ≡ length s.threads
+  pub count_settled : length (before_pick scenario s h c).threads ≡ length s.threads
+  pub stamped_billed : IsStamped (after_bill scenario s h c).threads (after_bill scenario s h c).stamps
+  pub stamped_settled : IsStamped (before_pick scenario s h c).threads (before_pick scenario s h c).stamps
   pub exists_settled : c < length (before_pick scenario s h c).cpus

@@ -1,7 +1,2 @@
-use Rattle.std.specs.Prelude.{◌≤◌}
-use Rattle.aps_model.specs.declared.merit.PartFacts.{PartFacts}
-
--- the numbers of a partition are small enough to be multiplied
-pub record IsSmall (part : PartFacts) : Type 0 where
-  pub used : part.used ≤ 100000000000000
-  pub budget : part.budget ≤ 1000
+-- The numbers of a partition are small enough to be multiplied.
+pub use Rattle.aps_ready.specs.Small.{IsSmall}

@@ -10,6 +10,7 @@ ghost use Rattle.aps_core.specs.Kept.{IsKept};
 ghost use Rattle.aps_core.specs.Pending.{IsPending};
 ghost use Rattle.aps_core.specs.Ready.{IsReady};
 ghost use Rattle.aps_core.specs.Rising.{IsRising};
+ghost use Rattle.aps_core.specs.Seats.{seats_of};
 
 mod bankruptcy;
 mod bill;
@@ -22,8 +23,10 @@ mod messages;
 mod operation;
 mod pick;
 mod reading;
+mod seats;
 mod settle;
 mod start;
+mod sync;
 mod threads;
 mod triple;
 pub mod wake;
@@ -34,6 +37,7 @@ use aps_model::{
     Change, Contender, CpuId, CpuNow, Entry, Nanos, PartFacts, PartitionId, PartitionRow, Reply,
     Scenario, Shape, ThreadId, ThreadNow,
 };
+use aps_ready::{Gates, Ready};
 use aps_tree::Tree;
 use channel::Channel;
 use std::marker::Model;
@@ -116,7 +120,14 @@ impl Machine {
 
     /// The pick of the processor after this entry, which has its operation, and then the flag. The answer is the
     /// entry with both.
-    fn pick(&mut self, entries: &[Entry], parts: &mut [PartFacts], cpu: CpuId, e: Entry) -> Entry
+    fn pick(
+        &mut self,
+        entries: &[Entry],
+        parts: &mut [PartFacts],
+        ready: &mut Ready,
+        cpu: CpuId,
+        e: Entry,
+    ) -> Entry
         requires one_each { length parts.old ≡ length self.old.rows }
         requires cpu { cpu < length self.old.cpus }
         requires entries { All IsEntry entries.now }
@@ -124,18 +135,22 @@ impl Machine {
         requires few { length entries.now ≤ 4000000 }
         requires entry { IsEntry e }
         requires within { e.to ≤ horizon self.old.shape }
+        requires seats { ready.old ≡ seats_of self.old }
         ensures same { pick self.old entries.now cpu e.to e ≡ record { entry = result; state = self.new; reboot = None } }
         ensures parts { length parts.new ≡ length parts.old }
         ensures kept { IsKept self.old self.new }
+        ensures seats { ready.new ≡ seats_of self.new }
     {
         let now = e.to;
         let tick = self.tick_of(now);
         usage::fill_parts(&self.shape, self.tree.rows(), entries, &e, tick, parts);
-        let starved = self.missing(parts);
-        let best = self.greatest(parts);
+        let gates = Gates::of(parts);
+        let starved = ready.missing_by(gates);
+        let best = self.greatest(ready, gates, parts);
         let picked = thread_of(&best);
         self.choose(parts, cpu, best);
-        let left = self.greatest(parts);
+        seats::take_picked(ready, &picked);
+        let left = self.greatest(ready, gates, parts);
         let flagged = self.flag_for(entries, parts, cpu, now, &left);
         self.flag(now, &flagged);
         Entry {
@@ -170,6 +185,7 @@ impl Machine {
         scenario: &Scenario,
         entries: &[Entry],
         parts: &mut [PartFacts],
+        ready: &mut Ready,
         sleepers: &mut Sleepers,
         ctl: &mut Ctl,
         cpu: CpuId,
@@ -178,29 +194,40 @@ impl Machine {
         requires ready { IsReady scenario.now self.old entries.now cpu }
         requires pending { IsPending scenario.now self.old.shape.tick entries.now ctl.old }
         requires room { length parts.old ≡ 32 }
+        requires seats { ready.old ≡ seats_of self.old }
         requires entries { All IsEntry entries.now }
         requires rising { IsRising entries.now }
         requires few { length entries.now ≤ 4000000 }
         ensures same { step scenario.now self.old entries.now cpu ≡ record { entry = result.0; state = self.new; reboot = result.1 } }
         ensures pending { IsPending scenario.now self.old.shape.tick (entries.now ++ result.0 ∷ []) ctl.new }
         ensures parts { length parts.new ≡ length parts.old }
+        ensures seats { ready.new ≡ seats_of self.new }
     {
         let now = self.due(entries, cpu);
         let from = due::last_end(entries, cpu);
         let running = self.begin(cpu);
-        self.work_tick(scenario, entries, sleepers, ctl, now);
+        let worked = self.work_tick(scenario, entries, sleepers, ctl, now);
         let e = bill::bill_of(cpu, from, now, &running);
         self.bill(&e, &running);
         let reboot = self.test(entries, &e);
         if reboot.is_some() {
+            self.sync_all(ready);
             return (e, reboot);
         }
         if now == self.horizon() {
+            self.sync_all(ready);
             return (e, None);
         }
         let done = self.settle(scenario, now, &running);
+        self.sync(ready, worked, &e.ran, &done);
         let count = self.tree.count() as usize;
-        let picked = self.pick(entries, &mut parts[..count], cpu, Entry { done, ..e });
+        let picked = self.pick(
+            entries,
+            &mut parts[..count],
+            ready,
+            cpu,
+            Entry { done, ..e },
+        );
         (picked, None)
     }
 

@@ -1,13 +1,12 @@
 ghost use Rattle.std.specs.Prelude.{◌≡◌, ℕ, ◌<◌, ◌≤◌, length, All, IfSome};
 ghost use Rattle.aps_model.specs.Budget.{part_at};
 ghost use Rattle.aps_model.specs.Flag.{at_most, lower_ranked};
-ghost use Rattle.aps_model.specs.Merit.{is_candidate, is_critical_pick};
+ghost use Rattle.aps_model.specs.Merit.{is_critical_pick};
 ghost use Rattle.aps_model.specs.Pick.{merit_among};
-ghost use Rattle.aps_core.specs.Scan.{better_candidate};
 ghost use Rattle.aps_core.specs.Small.{IsSmall};
 
-use aps_merit::{is_candidate, is_critical_pick, is_greater, merit_of};
-use aps_model::{Contender, CpuId, Free, Merit, PartFacts, PartitionId, Rank};
+use aps_merit::{is_critical_pick, merit_of};
+use aps_model::{Contender, CpuId, Merit, PartFacts, PartitionId, Rank};
 
 /// How a partition stands.
 pub fn part_at(parts: &[PartFacts], p: PartitionId) -> PartFacts
@@ -37,45 +36,12 @@ pub fn merit_among(parts: &[PartFacts], c: &Contender) -> Merit
     merit_of(facts, c.stamp, &part_at(parts, facts.partition))
 }
 
-/// Whether a ready thread is a candidate.
-pub fn is_candidate_among(parts: &[PartFacts], c: &Contender) -> bool
-    ensures { result ≡ is_candidate c.now.facts (part_at parts.now c.now.facts.partition) }
-{
-    let facts = c.facts;
-    is_candidate(facts, &part_at(parts, facts.partition))
-}
-
 /// Whether the pick of a ready thread is critical.
 pub fn is_critical_among(parts: &[PartFacts], c: &Contender) -> bool
     ensures { result ≡ is_critical_pick c.now.facts (part_at parts.now c.now.facts.partition) }
 {
     let facts = c.facts;
     is_critical_pick(facts, &part_at(parts, facts.partition))
-}
-
-/// The greater of the best candidate so far and one more ready thread, if that is a candidate.
-pub fn better(
-    parts: &[PartFacts],
-    free: Free,
-    best: Option<Contender>,
-    c: Contender,
-) -> Option<Contender>
-    requires { All IsSmall parts.now }
-    ensures { result ≡ better_candidate free parts.now best c }
-{
-    if !is_candidate_among(parts, &c) {
-        return best;
-    }
-    match best {
-        None => Some(c),
-        Some(b) => {
-            if is_greater(&merit_among(parts, &c), &merit_among(parts, &b), free) {
-                Some(c)
-            } else {
-                Some(b)
-            }
-        }
-    }
 }
 
 /// Of the processors so far and one more, the one of least rank, and of equal ranks the later.

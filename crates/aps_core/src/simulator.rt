@@ -24,6 +24,7 @@ use crate::rooms::Room;
 use crate::turn::Turn;
 use aps_ctl::Ctl;
 use aps_model::{CpuId, End, Entry, History, Nanos, NoMemory, Order, PartFacts, Scenario};
+use aps_ready::Ready;
 use std::alloc::Global;
 use std::marker::Model;
 
@@ -36,6 +37,7 @@ pub struct Core {
     limit: u32,
     machine: Machine,
     parts: Vec<PartFacts>,
+    ready: Ready,
     sleepers: Sleepers,
     ctl: Ctl,
 }
@@ -67,6 +69,7 @@ impl Core {
     {
         let machine = Machine::boot(alloc, &scenario)?;
         let parts = start_parts(alloc, MOST_PARTITIONS)?;
+        let ready = machine.start_ready(alloc)?;
         let sleepers = Sleepers::new(alloc)?;
         let ctl = Ctl::new(alloc, &scenario)?;
         let replies = scenario.commands().len() as u16;
@@ -78,6 +81,7 @@ impl Core {
             limit,
             machine,
             parts,
+            ready,
             sleepers,
             ctl,
         })
@@ -235,6 +239,7 @@ impl Core {
             self.history.scenario(),
             self.history.entries(),
             self.parts.as_mut_slice(),
+            &mut self.ready,
             &mut self.sleepers,
             &mut self.ctl,
             cpu,

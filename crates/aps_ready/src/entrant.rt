@@ -1,9 +1,10 @@
 //! Who takes part in a bracket, and which of two goes first.
-ghost use Rattle.std.specs.Prelude.{◌≡◌, ◌≤◌};
+ghost use Rattle.std.specs.Prelude.{◌≡◌, ◌<◌, ◌≤◌};
 ghost use Rattle.aps_model.specs.declared.state.Facts.{Facts};
 ghost use Rattle.aps_ready.specs.Entrant.{goes_before, first_of, vacant, entrant_of};
+ghost use Rattle.aps_ready.specs.Ready.{seat_of};
 
-use aps_model::{Facts, ThreadId};
+use aps_model::{Contender, Facts, PartitionId, ThreadId};
 
 /// Who takes part: a thread, its group, its level (the lower goes first), and its stamp, which decides between equal
 /// levels. It is sixteen bytes of plain numbers, so that one is copied and compared in a few instructions.
@@ -47,6 +48,29 @@ pub fn entrant_of(x: ThreadId, facts: Facts, stamp: u64) -> Entrant
         },
         thread: x.index() as u16,
         stamp,
+    }
+}
+
+/// What is known of thread `x`, which takes part so, or not at all.
+#[inline(always)]
+pub fn seat_of(e: &Entrant, x: ThreadId) -> Option<Contender>
+    requires { e.now.group < 64 → e.now.thread ≡ x }
+    ensures { result ≡ seat_of e.now }
+{
+    if e.group < 64 {
+        let partition = PartitionId::at((e.group % 32) as usize);
+        let facts = Facts {
+            partition,
+            priority: 255u16.saturating_sub(e.level) as u8,
+            critical: 31 < e.group,
+        };
+        Some(Contender {
+            thread: x,
+            facts,
+            stamp: e.stamp,
+        })
+    } else {
+        None
     }
 }
 

@@ -14,12 +14,12 @@ ghost use Rattle.aps_ready.specs.declared.entrant.Entrant.{Entrant};
 
 use crate::bracket::Bracket;
 use crate::choice::ahead_of;
-use crate::entrant::{Entrant, entrant_of, vacant};
+use crate::entrant::{Entrant, entrant_of, seat_of, vacant};
 use crate::gates::{Gates, PARTITIONS};
 use crate::index::Index;
 use crate::seat::{GROUPS, seat};
 use aps_levels::Bits64;
-use aps_model::{Facts, Free, NoMemory, PartFacts, PartitionId, ThreadId};
+use aps_model::{Contender, Facts, Free, NoMemory, PartFacts, PartitionId, ThreadId};
 use std::alloc::Global;
 use std::marker::Model;
 
@@ -70,6 +70,18 @@ impl Ready {
             brackets,
             index,
         })
+    }
+
+    /// What is known of a thread, if it is in.
+    pub fn at(&self, x: ThreadId) -> Option<Contender>
+        ensures { result ≡ slice_index_or self.now x None }
+    {
+        let index = x.index();
+        if index < self.row.len() {
+            seat_of(&self.row[index], x)
+        } else {
+            None
+        }
     }
 
     /// Puts a thread in, with its inherited values and a stamp that no other has.

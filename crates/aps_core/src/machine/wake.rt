@@ -1,4 +1,4 @@
-ghost use Rattle.std.specs.Prelude.{◌≡◌, ◌+◌, ◌/◌, ◌%◌, ◌<◌, ◌≤◌, ◌^◌, ◌++◌, [], ◌∷◌, length, All, IfOk, vec_capacity};
+ghost use Rattle.std.specs.Prelude.{◌≡◌, ◌+◌, ◌/◌, ◌%◌, ◌<◌, ◌≤◌, ◌^◌, ◌++◌, [], ◌∷◌, length, All, IfOk, vec_capacity, false};
 ghost use Rattle.std.specs.Prelude.{nat_eq, slice_index_or};
 ghost use Rattle.std.specs.List.{list_any};
 ghost use Rattle.aps_model.specs.declared.entry.Entry.{Entry as EntryOf};
@@ -156,7 +156,8 @@ impl Machine {
         now % self.shape.tick == 0 && now < self.horizon() && !due::is_met(entries, now)
     }
 
-    /// The work of the tick, if it begins with this step: the commands of the tick, and then the wakes.
+    /// The work of the tick, if it begins with this step: the commands of the tick, and then the wakes. The answer is
+    /// whether it does; else nothing changes.
     pub fn work_tick(
         &mut self,
         scenario: &Scenario,
@@ -164,7 +165,7 @@ impl Machine {
         sleepers: &mut Sleepers,
         ctl: &mut Ctl,
         now: Nanos,
-    )
+    ) -> bool
         requires valid { IsScenario scenario.now }
         requires pending { IsPending scenario.now self.old.shape.tick entries.now ctl.old }
         requires entries { All IsEntry entries.now }
@@ -175,12 +176,15 @@ impl Machine {
         requires replies { length (tick_work scenario.now self.old entries.now now).replies ≤ 1024 }
         requires changes { length (tick_work scenario.now self.old entries.now now).changes ≤ changes_of_a_run }
         ensures same { self.new ≡ tick_work scenario.now self.old entries.now now }
+        ensures idle { result ≡ false → self.new ≡ self.old }
         ensures pending { (e : EntryOf) → e.to ≡ now → IsPending scenario.now self.old.shape.tick (entries.now ++ e ∷ []) ctl.new }
     {
         if self.has_tick_work(entries, now) {
             let tick = self.tick_of(now);
             self.do_commands(entries, ctl, tick);
             self.wake_all(scenario, now, sleepers);
+            return true;
         }
+        false
     }
 }

@@ -1,8 +1,17 @@
-use Rattle.std.proofs.Common.{ap, refl}
+use Rattle.std.proofs.Common.{ap, refl, subst, sym}
+use Rattle.aps_model.specs.SchedulerState.{SchedulerState}
+use Rattle.aps_model.specs.Valid.{IsScenario}
 use Rattle.aps_ctl.specs.Pending.{all_at}
+use Rattle.aps_laws.specs.Stamps.{IsStamped}
 use Rattle.aps_core.specs.Run.{Setup}
+use Rattle.aps_core.proofs.Boot.{opening_stamped}
 use Rattle.aps_core.proofs.Kept.{begun_core}
 use Rattle.aps_core.proofs.simulator.Core.boot.Goals as goal
+
+pub start_ready-requires : goal.start_ready-requires
+start_ready-requires c =
+    subst (λ (s : SchedulerState). IsStamped s.threads s.stamps) (sym c.in_ok-machine.ensures)
+    (opening_stamped c.args.scenario c.args.order (subst IsScenario c.scenario.view_is c.scenario.invariant))
 
 pub invariant_of-result : goal.invariant_of-result
 invariant_of-result c =
@@ -16,4 +25,5 @@ invariant_of-result c =
           c.in_ok-machine.ensures
           c.in_ok-parts.ensures;
       pending = λ j none. ap (all_at j) c.in_ok-ctl.ensures;
+      seats = c.in_ok-ready.ensures;
     })

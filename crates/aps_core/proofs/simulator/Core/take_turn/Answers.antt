@@ -79,4 +79,5 @@ invariant_of-self c = record {
       (tick_of_core (run_of c.self.inside) c.self.inside.history c.self.inside.machine c.self.inside.parts.items c.self.invariant.core ∙ ap (λ (s : Scenario). s.shape.tick) (sym c.scenario.ensures))
       (ap (λ (h : History). h.entries) c.record.ensures ∙ ap (λ h. h ++ c.step.result.0 ∷ []) (sym c.entries.ensures.same))
       c.step.ensures.pending;
+  seats = c.step.ensures.seats;
 }

@@ -1,0 +1,133 @@
+ghost use Rattle.std.specs.Prelude.{◌≡◌, ◌≢◌, ℕ, length, Some, None, true, false};
+ghost use Rattle.aps_model.specs.Inherit.{client_of};
+ghost use Rattle.aps_core.specs.Seats.{seats_of, IsRight, IsSeated};
+ghost use Rattle.aps_core.specs.Touched.{peer_of, is_at_channel, is_exit, IsTouched};
+ghost use Rattle.aps_laws.specs.Stamps.{IsStamped};
+
+use super::Machine;
+use aps_model::{Done, ThreadId};
+use aps_ready::Ready;
+
+impl Machine {
+    /// The queues have the ready threads after an operation of this thread, if it is one, where they had all whose seat
+    /// the operation doesn't touch; or where anything can have changed.
+    pub fn sync(&self, ready: &mut Ready, is_any: bool, own: &Option<ThreadId>, done: &Done)
+        requires count { length ready.old ≡ length self.now.threads }
+        requires stamped { IsStamped self.now.threads self.now.stamps }
+        requires tied { is_any ≡ false → is_exit done.now ≡ false → (y : ℕ)
+            → (IsTouched own.now (peer_of done.now) (is_at_channel done.now) self.now.triples y → ⊥)
+            → IsRight self.now ready.old y }
+        ensures { ready.new ≡ seats_of self.now }
+    {
+        if is_any || is_exit(done) {
+            self.sync_all(ready);
+        } else {
+            let peer = peer_of(done);
+            self.sync_some(ready, own, &peer, is_at_channel(done));
+        }
+    }
+
+    /// The queues have the ready threads, where they had them but for the two threads, and the servers if these count.
+    fn sync_some(
+        &self,
+        ready: &mut Ready,
+        own: &Option<ThreadId>,
+        peer: &Option<ThreadId>,
+        servers: bool,
+    )
+        requires count { length ready.old ≡ length self.now.threads }
+        requires stamped { IsStamped self.now.threads self.now.stamps }
+        requires tied { (y : ℕ) → (IsTouched own.now peer.now servers self.now.triples y → ⊥) → IsRight self.now ready.old y }
+        ensures { ready.new ≡ seats_of self.now }
+    {
+        self.leave_one(ready, own);
+        self.leave_one(ready, peer);
+        self.leave_servers(ready, servers);
+        self.enter_one(ready, own);
+        self.enter_one(ready, peer);
+        self.enter_servers(ready, servers);
+    }
+
+    /// The thread, if there is one, isn't in, unless it is as it should be.
+    fn leave_one(&self, ready: &mut Ready, one: &Option<ThreadId>)
+        ensures own { (x : ℕ) → one.now ≡ Some x → IsSeated self.now ready.new x }
+        ensures seated { (y : ℕ) → IsSeated self.now ready.old y → IsSeated self.now ready.new y }
+        ensures right { (y : ℕ) → IsRight self.now ready.old y → IsRight self.now ready.new y }
+        ensures count { length ready.new ≡ length ready.old }
+    {
+        if let Some(x) = one {
+            self.leave(ready, *x);
+        }
+    }
+
+    /// The thread, if there is one, is in, if it should be, where it isn't in otherwise.
+    fn enter_one(&self, ready: &mut Ready, one: &Option<ThreadId>)
+        requires count { length ready.old ≡ length self.now.threads }
+        requires stamped { IsStamped self.now.threads self.now.stamps }
+        requires seated { (y : ℕ) → IsSeated self.now ready.old y }
+        ensures own { (x : ℕ) → one.now ≡ Some x → IsRight self.now ready.new x }
+        ensures seated { (y : ℕ) → IsSeated self.now ready.new y }
+        ensures right { (y : ℕ) → IsRight self.now ready.old y → IsRight self.now ready.new y }
+        ensures count { length ready.new ≡ length ready.old }
+    {
+        if let Some(x) = one {
+            self.enter(ready, *x);
+        }
+    }
+
+    /// Each server, if they count, isn't in, unless it is as it should be.
+    fn leave_servers(&self, ready: &mut Ready, servers: bool)
+        ensures own { servers ≡ true → (x : ℕ) → client_of self.now.triples x ≢ None → IsSeated self.now ready.new x }
+        ensures seated { (y : ℕ) → IsSeated self.now ready.old y → IsSeated self.now ready.new y }
+        ensures right { (y : ℕ) → IsRight self.now ready.old y → IsRight self.now ready.new y }
+        ensures count { length ready.new ≡ length ready.old }
+    {
+        if servers {
+            for t in self.triples.as_slice() {
+                self.leave(ready, t.server());
+            }
+        }
+    }
+
+    /// Each server, if they count, is in, if it should be, where it isn't in otherwise.
+    fn enter_servers(&self, ready: &mut Ready, servers: bool)
+        requires count { length ready.old ≡ length self.now.threads }
+        requires stamped { IsStamped self.now.threads self.now.stamps }
+        requires seated { (y : ℕ) → IsSeated self.now ready.old y }
+        ensures own { servers ≡ true → (x : ℕ) → client_of self.now.triples x ≢ None → IsRight self.now ready.new x }
+        ensures right { (y : ℕ) → IsRight self.now ready.old y → IsRight self.now ready.new y }
+        ensures count { length ready.new ≡ length ready.old }
+    {
+        if servers {
+            for t in self.triples.as_slice() {
+                self.enter(ready, t.server());
+            }
+        }
+    }
+}
+
+/// The other thread with whose wait or values the operation had to do.
+fn peer_of(done: &Done) -> Option<ThreadId>
+    ensures { result ≡ peer_of done.now }
+{
+    match done {
+        Done::SendTo(y) => Some(*y),
+        Done::ReceiveGot(y) => Some(*y),
+        Done::ReplyFreed(y) => Some(*y),
+        _ => None,
+    }
+}
+
+/// Whether the operation may change what waits at a channel, and so what busy servers inherit.
+fn is_at_channel(done: &Done) -> bool
+    ensures { result ≡ is_at_channel done.now }
+{
+    matches!(done, Done::SendBlocked | Done::ReceiveGot(_))
+}
+
+/// Whether the operation doesn't tell whom it freed.
+fn is_exit(done: &Done) -> bool
+    ensures { result ≡ is_exit done.now }
+{
+    matches!(done, Done::Exit)
+}
