@@ -15,3 +15,4 @@ pub mod Classes
 pub mod ServedPicks
 pub mod OwnShares
 pub mod Responds
+pub mod Rows

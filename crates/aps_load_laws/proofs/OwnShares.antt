@@ -1,7 +1,7 @@
 -- A partition that has work gets its share.
 use Rattle.std.proofs.Common.{◌≡◌, ℕ, ◌+◌, ◌-◌, ◌*◌, ◌/◌, ◌<◌, ◌≤◌, List, [], ◌∷◌, ◌++◌, length, refl, sym, ◌∙◌, ap, subst, append_assoc, Bool, true, false, if◌then◌else◌, nat_eq, nat_lt, arith, ◌⊎◌, inl, inr}
 use Rattle.std.specs.List.{range_with_len}
-use Rattle.std.proofs.Math.Nat.{mul-le-mul_left, mul-le-mul_right}
+use Rattle.std.proofs.Math.Nat.{mul-le-mul_left, mul-le-mul_right, mul-zero}
 use Rattle.std.proofs.lemmas.Bool.Decides.{nat_tests}
 use Rattle.std.proofs.lemmas.List.Sums.{sum_by-append, sum_by-cons}
 use Rattle.aps_model.specs.declared.entry.Entry.{Entry}
@@ -196,5 +196,10 @@ supply scenario order h r legal a b p up short finished none inside supplied =
     let others : others_leeway scenario s.shape s.rows h a b p ≡ others_margin s.shape s.rows h a b p =
     sum_alike (λ q. if nat_eq q p then 0 else leeway scenario s.shape s.rows h a b q) (λ q. if nat_eq q p then 0 else margin s.shape s.rows h a b q)
     (λ q. ap (λ n. if nat_eq q p then 0 else n) (omega (arith, free_none q))) (range_with_len 0 (length s.rows)) in
+    let rest : s.shape.parts * (s.shape.cpus * ((b - a) * s.shape.tick)) ≤ s.shape.parts * used s.shape.tick h p a b + (s.shape.parts - (row_or_none s.rows p).budget) * whole s.shape + s.shape.parts * others_margin s.shape s.rows h a b p =
     subst (λ k. s.shape.parts * (s.shape.cpus * ((b - a) * s.shape.tick)) ≤ s.shape.parts * used s.shape.tick h p a b + (s.shape.parts - (row_or_none s.rows p).budget) * whole s.shape + s.shape.parts * k)
-    (omega (arith, others, idle_none)) line
+    (omega (arith, others, idle_none)) line in
+    record { rest = rest; few = λ none. few s.shape.parts _ _ _ _ none rest }
+  where
+    few : (parts all spent others margins : ℕ) → spent ≡ 0 → parts * all ≤ parts * spent + others + margins → parts * all ≤ others + margins
+    few parts all spent others margins none line = let zero' : parts * spent ≡ 0 = ap (λ n. parts * n) none ∙ mul-zero parts in omega (arith, line, zero')

@@ -19,10 +19,11 @@ use Rattle.aps_model.specs.Shape.{horizon, whole}
 use Rattle.aps_model.specs.Usage.{names, overlap, used}
 use Rattle.aps_model.specs.Valid.{IsScenario}
 use Rattle.aps_laws.specs.Window.{Kept, bills_of}
+use Rattle.aps_bound_laws.specs.Lanes.{is_of}
 use Rattle.aps_load_laws.specs.Excess.{leeway, others_leeway}
 use Rattle.aps_load_laws.specs.FreeTime.{free_by, free_used, idle_by, idle_time, sum_along}
-use Rattle.aps_load_laws.specs.Kinds.{Kind, Kind.idle, Kind.funded, Kind.critical, Kind.free, is_free, is_funded, is_served, kind_by, last_kind}
-use Rattle.aps_load_laws.specs.Served.{FillsServed, IsFull, IsServed, IsServedPick, KeepsServedBound, ServesSteady}
+use Rattle.aps_load_laws.specs.Kinds.{Kind, Kind.idle, Kind.funded, Kind.critical, Kind.free, is_free, is_funded, is_served, kind_by, kind_of, last_kind}
+use Rattle.aps_load_laws.specs.Served.{FillsServed, HasNoFreePick, HasNoFreeTime, IsFull, IsServed, IsServedPick, KeepsServedBound, ServesSteady}
 use Rattle.aps_load_laws.proofs.Below.{excess}
 use Rattle.aps_load_laws.proofs.Runs.{bills_last, runs_pick}
 use Rattle.aps_load_laws.proofs.Spans.{funded_there, inside_window, span_of, window_ends}
@@ -122,6 +123,48 @@ module _ (scenario : Scenario) (order : Order) (h : List Entry) (r : IsScenario 
 
 pub served_is_full : (scenario : Scenario) (order : Order) (h : List Entry) → IsScenario scenario → IsLegal scenario order h → FillsServed scenario h
 served_is_full scenario order h r legal a b served = full scenario order h r legal a b served
+
+-- ---- no free pick of a partition
+
+named_of : (p : ℕ) (e : Entry) (kept : Kept) → bills_of e ≡ kept → names e.billed p ≡ true → is_of p kept ≡ true
+named_of p e kept is named = sym (ap (is_of p) is) ∙ by_billed e.billed named
+  where
+    by_billed : (o : Option ℕ) → names o p ≡ true → is_of p (bills_of (record e { billed = o })) ≡ true
+    by_billed None named = absurd cc
+    by_billed (Some q) named = named
+
+module _ (scenario : Scenario) (order : Order) (h : List Entry) (r : IsScenario scenario) (legal : IsLegal scenario order h) (a b p : ℕ) (never : HasNoFreePick scenario h p a b) where
+  not_free : (before later : List Entry) (e : Entry) → h ≡ before ++ e ∷ later → 0 < overlap scenario.shape.tick a b e.from e.to
+      → (names e.billed p && is_free (last_kind scenario before e.cpu)) ≡ false
+  not_free before later e same some =
+      let runs = runs_pick scenario order h r legal a b before later e same some in
+      let last = runs.last in
+      let ends = window_ends scenario.shape.tick a b last.e.to runs.inside in
+      let pick = never last.before (last.later ++ e ∷ later) last.e runs.split ends.0 ends.1 in
+      let bills = bills_last scenario order h r legal a b before later e same ∙ last.keeps in
+      by_tests (kind_of scenario last.before last.e) (wide_at scenario last.before last.e).keeps (names e.billed p) (is_free (last_kind scenario before e.cpu)) refl refl
+      (λ named. named_of p e (wide_at scenario last.before last.e).keeps bills named) (ap is_free (sym last.kind)) pick
+    where
+      clash : true ≡ false → ⊥
+      clash e = cc
+
+      by_tests : (kind : Kind) (kept : Kept) (one two : Bool) → names e.billed p ≡ one → is_free (last_kind scenario before e.cpu) ≡ two
+          → (names e.billed p ≡ true → is_of p kept ≡ true) → is_free kind ≡ is_free (last_kind scenario before e.cpu)
+          → (is_free kind && is_of p kept) ≡ false → (one && two) ≡ false
+      by_tests kind kept true true x y f g never =
+          absurd (clash (sym (ap (λ t. t && is_of p kept) (g ∙ y) ∙ f x) ∙ never))
+      by_tests kind kept true false x y f g never = refl
+      by_tests kind kept false two x y f g never = refl
+
+  none_of_it : (g es : List Entry) → h ≡ g ++ es → sum_along (free_by scenario scenario.shape.tick p a b) g es ≡ 0
+  none_of_it g [] same = refl
+  none_of_it g (e ∷ es) same =
+      let here : free_by scenario scenario.shape.tick p a b g e ≡ 0 =
+      no_time (overlap scenario.shape.tick a b e.from e.to) (names e.billed p && is_free (last_kind scenario g e.cpu)) (not_free g es e same) in
+      omega (arith, here, none_of_it (g ++ e ∷ []) es (same ∙ sym (append_assoc g (e ∷ []) es)))
+
+pub free_picks_make_free_time : (scenario : Scenario) (order : Order) (h : List Entry) → IsScenario scenario → IsLegal scenario order h → HasNoFreeTime scenario h
+free_picks_make_free_time scenario order h r legal a b p never = none_of_it scenario order h r legal a b p never [] h refl
 
 -- ---- so they keep the bound
 

@@ -96,12 +96,13 @@ IsSupplied scenario h p a b =
     → (is_funded scenario (before ++ e ∷ []) p ≡ true) × HasWork scenario before e p
 
 -- in ticks a to b-1 the partition gets what is left of the time of all processors when the others have had their budgets
--- and their margins
-abbrev pub GetsTheRest : Shape → List PartitionRow → List Entry → ℕ → ℕ → ℕ → Type 0
-GetsTheRest shape rows h a b p =
-    shape.parts * (shape.cpus * ((b - a) * shape.tick))
-    ≤ shape.parts * used shape.tick h p a b + (shape.parts - (row_or_none rows p).budget) * whole shape
-    + shape.parts * others_margin shape rows h a b p
+-- and their margins; so they are few where it gets no time at all
+pub record GetsTheRest (shape : Shape) (rows : List PartitionRow) (h : List Entry) (a b p : ℕ) : Type 0 where
+  pub rest : shape.parts * (shape.cpus * ((b - a) * shape.tick))
+      ≤ shape.parts * used shape.tick h p a b + (shape.parts - (row_or_none rows p).budget) * whole shape
+      + shape.parts * others_margin shape rows h a b p
+  pub few : used shape.tick h p a b ≡ 0 → shape.parts * (shape.cpus * ((b - a) * shape.tick))
+      ≤ (shape.parts - (row_or_none rows p).budget) * whole shape + shape.parts * others_margin shape rows h a b p
 
 -- such a partition does, in finished ticks without a change, at most as many as a window has
 abbrev pub KeepsSupply : Scenario → List Entry → Type 0

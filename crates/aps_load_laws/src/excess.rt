@@ -11,5 +11,8 @@ ghost use Rattle.aps_load_laws.specs.Excess.{KeepsExcess};
 /// time, by critical time and by less than one tick for each processor; it falls short of it only by what the others so
 /// took and by idle time. It need not have had work, nor need anybody else.
 pub fn excess()
-    ensures { (scenario : Scenario) (order : Order) (h : List Entry) → IsScenario scenario → IsLegal scenario order h → KeepsExcess scenario h }
+    ensures { (scenario : Scenario) (order : Order) (h : List Entry)
+        → IsScenario scenario
+        → IsLegal scenario order h
+        → KeepsExcess scenario h }
 {}

@@ -12,5 +12,9 @@ ghost use Rattle.aps_load_laws.specs.Passing.{PassesNobodyOver, PassesTime};
 /// run and has a higher class, or the same class and a higher priority. (Of two threads of class 0 the priority counts
 /// only where free time goes by priority.)
 pub fn nobody_passed_over()
-    ensures { (scenario : Scenario) (order : Order) (h : List Entry) (e : Entry) → IsScenario scenario → IsLegal scenario order (h ++ e ∷ []) → PassesTime scenario h e → PassesNobodyOver (state_after scenario (h ++ e ∷ [])) (h ++ e ∷ []) }
+    ensures { (scenario : Scenario) (order : Order) (h : List Entry) (e : Entry)
+        → IsScenario scenario
+        → IsLegal scenario order (h ++ e ∷ [])
+        → PassesTime scenario h e
+        → PassesNobodyOver (state_after scenario (h ++ e ∷ [])) (h ++ e ∷ []) }
 {}

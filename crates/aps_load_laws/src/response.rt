@@ -12,12 +12,20 @@ ghost use Rattle.aps_load_laws.specs.Response.{ClassOneMayRun, IsResponsive, cla
 
 /// A thread of class 1 is never kept from running by the limit, under any policy.
 pub fn class_one_may_run()
-    ensures { (scenario : Scenario) (order : Order) (h : List Entry) → IsScenario scenario → IsLegal scenario order h → ClassOneMayRun (state_after scenario h) h }
+    ensures { (scenario : Scenario) (order : Order) (h : List Entry)
+        → IsScenario scenario
+        → IsLegal scenario order h
+        → ClassOneMayRun (state_after scenario h) h }
 {}
 
 /// While time passes, a thread of class 1 either runs, or every processor runs a thread of class 1 with at least its
 /// priority. So where fewer threads than there are processors outrank it, it runs: from the very moment on at which it
 /// became ready, without any delay. What counts is its class after the last entry of the moment.
 pub fn class_one_responds()
-    ensures { (scenario : Scenario) (order : Order) (h : List Entry) (e : Entry) (x : ℕ) → IsScenario scenario → IsLegal scenario order (h ++ e ∷ []) → PassesTime scenario h e → class_now (state_after scenario (h ++ e ∷ [])) (h ++ e ∷ []) x ≡ 1 → IsResponsive (state_after scenario (h ++ e ∷ [])) (h ++ e ∷ []) x }
+    ensures { (scenario : Scenario) (order : Order) (h : List Entry) (e : Entry) (x : ℕ)
+        → IsScenario scenario
+        → IsLegal scenario order (h ++ e ∷ [])
+        → PassesTime scenario h e
+        → class_now (state_after scenario (h ++ e ∷ [])) (h ++ e ∷ []) x ≡ 1
+        → IsResponsive (state_after scenario (h ++ e ∷ [])) (h ++ e ∷ []) x }
 {}

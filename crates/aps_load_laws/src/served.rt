@@ -6,29 +6,50 @@ ghost use Rattle.aps_model.specs.After.{after, state_after};
 ghost use Rattle.aps_model.specs.Scenario.{Scenario};
 ghost use Rattle.aps_model.specs.Valid.{IsScenario};
 ghost use Rattle.aps_model.specs.Legal.{IsLegal};
-ghost use Rattle.aps_load_laws.specs.Served.{FillsServed, KeepsServedBound, ServesSteady};
+ghost use Rattle.aps_load_laws.specs.Served.{FillsServed, HasNoFreeTime, KeepsServedBound, ServesSteady};
 ghost use Rattle.aps_load_laws.specs.Work.{ServesClassOne};
 ghost use Rattle.aps_laws.specs.Choices.{MadeNoPick};
 
+/// A partition that no entry of some ticks picks in free time has no free time in them. So in the upper line of the excess
+/// nothing is left for it but its critical time and one tick for each processor.
+pub fn free_picks_make_free_time()
+    ensures { (scenario : Scenario) (order : Order) (h : List Entry)
+        → IsScenario scenario
+        → IsLegal scenario order h
+        → HasNoFreeTime scenario h }
+{}
+
 /// In served ticks there is no free time, and no processor stands idle.
 pub fn served_is_full()
-    ensures { (scenario : Scenario) (order : Order) (h : List Entry) → IsScenario scenario → IsLegal scenario order h → FillsServed scenario h }
+    ensures { (scenario : Scenario) (order : Order) (h : List Entry)
+        → IsScenario scenario
+        → IsLegal scenario order h
+        → FillsServed scenario h }
 {}
 
 /// So a finished window of served ticks without a change keeps the window bound: usage exceeds a budget by at most one
 /// tick for each processor and critical time, and falls short by at most the same of all others. Partitions that sleep
 /// don't spoil it, as long as each pick finds somebody of class 1.
 pub fn served_window_bound()
-    ensures { (scenario : Scenario) (order : Order) (h : List Entry) → IsScenario scenario → IsLegal scenario order h → KeepsServedBound scenario h }
+    ensures { (scenario : Scenario) (order : Order) (h : List Entry)
+        → IsScenario scenario
+        → IsLegal scenario order h
+        → KeepsServedBound scenario h }
 {}
 
 /// Where no partition with a budget lacks a candidate at a pick of finished ticks, these are served.
 pub fn steady_is_served()
-    ensures { (scenario : Scenario) (order : Order) (h : List Entry) → IsScenario scenario → IsLegal scenario order h → ServesSteady scenario h }
+    ensures { (scenario : Scenario) (order : Order) (h : List Entry)
+        → IsScenario scenario
+        → IsLegal scenario order h
+        → ServesSteady scenario h }
 {}
 
 /// A pick is of class 1 exactly where some ready thread is, and so it is wherever a partition that is in budget has work,
 /// limit or no limit; unless the entry makes no pick, since it stands at the horizon or ended the run.
 pub fn class_one_is_served()
-    ensures { (scenario : Scenario) (order : Order) (h : List Entry) (e : Entry) → IsScenario scenario → IsLegal scenario order (h ++ e ∷ []) → MadeNoPick (state_after scenario h) e (after scenario (h ++ e ∷ [])).reboot ⊎ ServesClassOne scenario h e }
+    ensures { (scenario : Scenario) (order : Order) (h : List Entry) (e : Entry)
+        → IsScenario scenario
+        → IsLegal scenario order (h ++ e ∷ [])
+        → MadeNoPick (state_after scenario h) e (after scenario (h ++ e ∷ [])).reboot ⊎ ServesClassOne scenario h e }
 {}

@@ -17,12 +17,18 @@ ghost use Rattle.aps_load_laws.specs.OwnShare.{KeepsOwnShare, KeepsSupply};
 /// general: what it was denied while it was out of budget isn't given back, so a partition that always has work may get
 /// little more than half of its budget in the long run, where free time goes by priority.
 pub fn own_share()
-    ensures { (scenario : Scenario) (order : Order) (h : List Entry) → IsScenario scenario → IsLegal scenario order h → KeepsOwnShare scenario h }
+    ensures { (scenario : Scenario) (order : Order) (h : List Entry)
+        → IsScenario scenario
+        → IsLegal scenario order h
+        → KeepsOwnShare scenario h }
 {}
 
 /// A partition that is in budget and has work at each pick of some ticks, at most as many as a window has, gets the time
 /// that is left in them when the others have had their budgets, their critical time and one tick for each processor. So
 /// it isn't long without any time.
 pub fn supply()
-    ensures { (scenario : Scenario) (order : Order) (h : List Entry) → IsScenario scenario → IsLegal scenario order h → KeepsSupply scenario h }
+    ensures { (scenario : Scenario) (order : Order) (h : List Entry)
+        → IsScenario scenario
+        → IsLegal scenario order h
+        → KeepsSupply scenario h }
 {}

@@ -1,0 +1,2 @@
+pub mod FreeExcess
+pub mod ServedUnsteady
