@@ -1,2 +1,5 @@
 pub mod Retraced
 pub mod Longer
+pub mod Bounds
+pub mod Rows
+pub mod Lines
