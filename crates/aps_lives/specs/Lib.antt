@@ -3,3 +3,4 @@ pub mod Life
 pub mod Cycle
 pub mod Room
 pub mod Text
+pub mod Whole

@@ -3,6 +3,7 @@
 
 mod cycle;
 mod doing;
+pub mod laws;
 mod life;
 mod retracing;
 pub mod text;
