@@ -266,3 +266,9 @@ in_range scenario j valid =
     (numbered_in_range 0 scenario.commands
     (All-weaker (IsCommand scenario.shape.parts scenario.shape.ticks (length scenario.threads)) (λ (r : CommandRow). IsInRange r.call)
     (λ row fits. (scenario.shape.parts, length scenario.threads, fits.call)) scenario.commands valid.commands))
+
+-- where no reply comes, no command does
+pub quiet_commands : (h : List Entry) (j : ℕ) (cs : List (ℕ × CommandRow)) (s : SchedulerState) → length (fold (do_command h j) s cs).replies ≤ length s.replies → fold (do_command h j) s cs ≡ s
+quiet_commands h j [] s few = refl
+quiet_commands h j (c ∷ cs) s few =
+    absurd (let more = more_replies h j s c in let all = all_replies h j cs (do_command h j s c) in omega (arith, more, all, few))

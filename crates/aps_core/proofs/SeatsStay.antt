@@ -1,5 +1,6 @@
 -- Whose seats the parts of a step leave as they are.
-use Rattle.std.proofs.Common.{◌≡◌, ◌≢◌, ℕ, zero, suc, max, List, [], ◌∷◌, ◌++◌, map, get_or, set, refl, sym, ◌∙◌, ap, subst, cond, Bool, true, false, nat_eq, Option, Some, None, get_or-set_other, inl, inr}
+use Rattle.std.proofs.Common.{◌≡◌, ◌≢◌, ℕ, zero, suc, max, List, [], ◌∷◌, ◌++◌, map, get_or, set, refl, sym, ◌∙◌, ap, subst, cond, Bool, true, false, ◌||◌, nat_eq, Option, Some, None, get_or-set_other, inl, inr}
+use Rattle.std.specs.List.{fold}
 use Rattle.std.specs.Option.{option_map}
 use Rattle.std.proofs.lemmas.List.{map-set}
 use Rattle.aps_model.specs.declared.entry.Done.{Done}
@@ -23,14 +24,15 @@ use Rattle.aps_model.specs.Pick.{is_ready}
 use Rattle.aps_model.specs.Scenario.{Scenario, op_at, thread_row}
 use Rattle.aps_model.specs.SchedulerState.{ChannelNow, Message, SchedulerState, Triple, channel_at, no_channel, no_facts, thread_at, with_channel, with_cpu, with_state, with_thread, with_triple}
 use Rattle.aps_model.specs.Step.{billed, enter_next, finish_op, give_back, settled, tested}
+use Rattle.aps_model.specs.TickWork.{wake_all, waking}
 use Rattle.aps_laws.specs.Servers.{IsNobodysClient}
 use Rattle.aps_laws.proofs.Chains.{own_at}
 use Rattle.aps_laws.proofs.Mid.{tested_by}
 use Rattle.aps_laws.proofs.Servers.{changes_only}
 use Rattle.aps_laws.proofs.ThreadFacts.{go_on_by, set_other}
-use Rattle.aps_laws.proofs.WaitFacts.{test_ne}
+use Rattle.aps_laws.proofs.WaitFacts.{test_eq, test_ne}
 use Rattle.aps_core.specs.Seats.{seat_at}
-use Rattle.aps_core.specs.Touched.{IsTouched, is_at_channel, is_exit, peer_of}
+use Rattle.aps_core.specs.Touched.{IsTouched, is_at_channel, is_exit, peer_of, woke}
 use Rattle.aps_core.proofs.Seats.{seat_stays}
 
 -- the seat of a thread with these values
@@ -118,16 +120,16 @@ record IsApart (x : ℕ) (done : Done) (triples : List Triple) (y : ℕ) : Type 
   peer : peer_of done ≡ Some y → ⊥
   server : is_at_channel done ≡ true → client_of triples y ≡ None
 
-apart_of : (x : ℕ) (done : Done) (triples : List Triple) (y : ℕ) → (IsTouched (Some x) (peer_of done) (is_at_channel done) triples y → ⊥) → IsApart x done triples y
-apart_of x done triples y apart = record {
-  own = λ e. apart (inl (ap (λ z. Some z) (sym e)));
-  peer = λ e. apart (inr (inl e));
+apart_of : (woken : List (ℕ × ℕ)) (x : ℕ) (done : Done) (triples : List Triple) (y : ℕ) → (IsTouched woken (Some x) (peer_of done) (is_at_channel done) triples y → ⊥) → IsApart x done triples y
+apart_of woken x done triples y apart = record {
+  own = λ e. apart (inr (inl (ap (λ z. Some z) (sym e))));
+  peer = λ e. apart (inr (inr (inl e)));
   server = λ counts. by_client (client_of triples y) refl counts;
 }
   where
     by_client : (o : Option ℕ) → client_of triples y ≡ o → is_at_channel done ≡ true → client_of triples y ≡ None
     by_client None is counts = is
-    by_client (Some k) is counts = absurd (apart (inr (inr (counts, λ none. some_none k (sym is ∙ none)))))
+    by_client (Some k) is counts = absurd (apart (inr (inr (inr (counts, λ none. some_none k (sym is ∙ none))))))
       where
         some_none : (k : ℕ) → Some k ≡ None → ⊥
         some_none k e = cc
@@ -266,25 +268,51 @@ billed_seat s e y (Some p) apart = seat_stays s p.thread y _ (λ same. apart (ap
 tested_seat : (s : SchedulerState) (h : List Entry) (e : Entry) (y : ℕ) → seat_at (tested s h e).state y ≡ seat_at s y
 tested_seat s h e y = tested_by s.shape.bankruptcy s _ _ (λ u. seat_at u y ≡ seat_at s y) refl (λ p. refl)
 
--- ---- the step up to the pick, where no tick begins with it
+-- ---- the wakes
 
-pub step_seat : (scenario : Scenario) (s : SchedulerState) (h : List Entry) (c now y : ℕ) (cpu : CpuNow) (running : Option Pick) (e : Entry) (s1 s2 t0 t : SchedulerState) (reboot : Option ℕ) (did : Effect)
-    → s1 ≡ with_cpu s c cpu → s2 ≡ s1 → t0 ≡ billed s2 e running → tested t0 h e ≡ record { state = t; reboot = reboot } → settled scenario t now running ≡ did
+-- those who don't wake sit as before
+pub woken_seats : (scenario : Scenario) (now y : ℕ) (sleepers : List (ℕ × ℕ)) (s : SchedulerState) → woke sleepers y ≡ false
+    → seat_at (fold (λ state (sleeper : ℕ × ℕ). go_on scenario state sleeper.1 now) s sleepers) y ≡ seat_at s y
+woken_seats scenario now y [] s not = refl
+woken_seats scenario now y (z ∷ zs) s not =
+    woken_seats scenario now y zs (go_on scenario s z.1 now) (parts (nat_eq z.1 y) (woke zs y) not).1
+    ∙ woken_seat scenario s z.1 now y (λ e. clash (sym (test_eq z.1 y (sym e)) ∙ (parts (nat_eq z.1 y) (woke zs y) not).0))
+  where
+    clash : true ≡ false → ⊥
+    clash e = cc
+
+    parts : (a b : Bool) → (a || b) ≡ false → (a ≡ false) × (b ≡ false)
+    parts true b e = absurd cc
+    parts false b e = (refl, e)
+
+pub wakes_seats : (scenario : Scenario) (now y : ℕ) (sleepers : List (ℕ × ℕ)) (s t : SchedulerState) → t ≡ wake_all scenario now s → sleepers ≡ waking s now → woke sleepers y ≡ false → seat_at t y ≡ seat_at s y
+wakes_seats scenario now y sleepers s t wakes are not =
+    ap (λ (u : SchedulerState). seat_at u y) wakes ∙ woken_seats scenario now y (waking s now) s (ap (λ l. woke l y) (sym are) ∙ not)
+
+-- ---- the step up to the pick, where no command comes first
+
+pub step_seat : (scenario : Scenario) (s : SchedulerState) (h : List Entry) (c now y : ℕ) (cpu : CpuNow) (running : Option Pick) (e : Entry) (s1 s2 t0 t : SchedulerState) (reboot : Option ℕ) (did : Effect) (woken : List (ℕ × ℕ))
+    → s1 ≡ with_cpu s c cpu → (woke woken y ≡ false → seat_at s2 y ≡ seat_at s1 y) → t0 ≡ billed s2 e running → tested t0 h e ≡ record { state = t; reboot = reboot } → settled scenario t now running ≡ did
     → ((p : Pick) → running ≡ Some p → IsNobodysClient t.triples p.thread) → is_exit did.done ≡ false
-    → (IsTouched (option_map (λ (p : Pick). p.thread) running) (peer_of did.done) (is_at_channel did.done) did.state.triples y → ⊥)
+    → (IsTouched woken (option_map (λ (p : Pick). p.thread) running) (peer_of did.done) (is_at_channel did.done) did.state.triples y → ⊥)
     → seat_at did.state y ≡ seat_at s y
-step_seat scenario s h c now y cpu running e s1 s2 t0 t reboot did e1 e2 e3 e4 e5 free calm apart =
+step_seat scenario s h c now y cpu running e s1 s2 t0 t reboot did woken e1 e2 e3 e4 e5 free calm apart =
     by_running running refl
     ∙ sym (ap (λ (z : Tested). seat_at z.state y) e4)
     ∙ tested_seat t0 h e y
     ∙ ap (λ (z : SchedulerState). seat_at z y) e3
-    ∙ billed_seat s2 e y running (λ own. apart (inl own))
-    ∙ ap (λ (z : SchedulerState). seat_at z y) (e2 ∙ e1)
+    ∙ billed_seat s2 e y running (λ own. apart (inr (inl own)))
+    ∙ e2 (asleep (woke woken y) refl)
+    ∙ ap (λ (z : SchedulerState). seat_at z y) e1
   where
+    asleep : (b : Bool) → woke woken y ≡ b → woke woken y ≡ false
+    asleep true is = absurd (apart (inl is))
+    asleep false is = is
+
     by_running : (o : Option Pick) → running ≡ o → seat_at did.state y ≡ seat_at t y
     by_running None is = sym (ap (λ (z : Effect). seat_at z.state y) (ap (settled scenario t now) (sym is) ∙ e5))
     by_running (Some p) is =
         let same : settled scenario t now (Some p) ≡ did = ap (settled scenario t now) (sym is) ∙ e5 in
-        let touched : IsTouched (Some p.thread) (peer_of did.done) (is_at_channel did.done) did.state.triples y → ⊥ =
-        subst (λ (o : Option Pick). IsTouched (option_map (λ (q : Pick). q.thread) o) (peer_of did.done) (is_at_channel did.done) did.state.triples y → ⊥) is apart in
-        subst (λ (z : Effect). StaysIn t p.thread y z) same (settled_seat scenario t p.thread now y p refl (free p is)) calm (apart_of p.thread did.done did.state.triples y touched)
+        let touched : IsTouched woken (Some p.thread) (peer_of did.done) (is_at_channel did.done) did.state.triples y → ⊥ =
+        subst (λ (o : Option Pick). IsTouched woken (option_map (λ (q : Pick). q.thread) o) (peer_of did.done) (is_at_channel did.done) did.state.triples y → ⊥) is apart in
+        subst (λ (z : Effect). StaysIn t p.thread y z) same (settled_seat scenario t p.thread now y p refl (free p is)) calm (apart_of woken p.thread did.done did.state.triples y touched)

@@ -3,7 +3,7 @@ use Rattle.std.proofs.Common.{◌≡◌, ◌≢◌, ◌⊎◌, inl, inr, ℕ, Bo
 use Rattle.std.proofs.lemmas.Bool.{cases_eq}
 use Rattle.aps_model.specs.Inherit.{client_of}
 use Rattle.aps_model.specs.SchedulerState.{Triple}
-use Rattle.aps_core.specs.Touched.{IsTouched}
+use Rattle.aps_core.specs.Touched.{IsTouched, woke}
 
 some_number : (a b : ℕ) → Some a ≡ Some b → a ≡ b
 some_number a b e = cc
@@ -23,17 +23,28 @@ serves_or_not false o = inr (λ both. clash both.0)
 serves_or_not true None = inr (λ both. both.1 refl)
 serves_or_not true (Some y) = inl (refl, λ e. cc)
 
-pub touched_or_not : (own peer : Option ℕ) (servers : Bool) (triples : List Triple) (x : ℕ) → IsTouched own peer servers triples x ⊎ (IsTouched own peer servers triples x → ⊥)
-touched_or_not own peer servers triples x = elim (is_or_not own x) [
-  | inl is_own ↦ inl (inl is_own)
-  | inr not_own ↦ elim (is_or_not peer x) [
-    | inl is_peer ↦ inl (inr (inl is_peer))
-    | inr not_peer ↦ elim (serves_or_not servers (client_of triples x)) [
-      | inl serves ↦ inl (inr (inr serves))
-      | inr serves_not ↦ inr (λ touched. elim touched [
-        | inl is_own ↦ not_own is_own
-        | inr rest ↦ elim rest [ inl is_peer ↦ not_peer is_peer | inr serves ↦ serves_not serves ]
-      ])
+woke_or_not : (b : Bool) → (b ≡ true) ⊎ (b ≡ true → ⊥)
+woke_or_not true = inl refl
+woke_or_not false = inr (λ e. cc)
+
+pub touched_or_not : (woken : List (ℕ × ℕ)) (own peer : Option ℕ) (servers : Bool) (triples : List Triple) (x : ℕ)
+    → IsTouched woken own peer servers triples x ⊎ (IsTouched woken own peer servers triples x → ⊥)
+touched_or_not woken own peer servers triples x = elim (woke_or_not (woke woken x)) [
+  | inl is_woken ↦ inl (inl is_woken)
+  | inr not_woken ↦ elim (is_or_not own x) [
+    | inl is_own ↦ inl (inr (inl is_own))
+    | inr not_own ↦ elim (is_or_not peer x) [
+      | inl is_peer ↦ inl (inr (inr (inl is_peer)))
+      | inr not_peer ↦ elim (serves_or_not servers (client_of triples x)) [
+        | inl serves ↦ inl (inr (inr (inr serves)))
+        | inr serves_not ↦ inr (λ touched. elim touched [
+          | inl is_woken ↦ not_woken is_woken
+          | inr two ↦ elim two [
+            | inl is_own ↦ not_own is_own
+            | inr rest ↦ elim rest [ inl is_peer ↦ not_peer is_peer | inr serves ↦ serves_not serves ]
+          ]
+        ])
+      ]
     ]
   ]
 ]

@@ -1,5 +1,5 @@
 -- Whose seat an operation may change.
-use Rattle.std.specs.Prelude.{◌≡◌, ◌≢◌, ◌⊎◌, ℕ, Bool, true, false, List, Option, Some, None}
+use Rattle.std.specs.Prelude.{◌≡◌, ◌≢◌, ◌⊎◌, ℕ, Bool, true, false, ◌||◌, nat_eq, List, [], ◌∷◌, Option, Some, None}
 use Rattle.aps_model.specs.declared.entry.Done.{Done}
 use Rattle.aps_model.specs.declared.entry.Done.TheVariants.{SendBlocked, SendTo, ReceiveGot, ReplyFreed, Exit}
 use Rattle.aps_model.specs.Inherit.{client_of}
@@ -23,6 +23,12 @@ abbrev pub is_exit : Done → Bool
 is_exit Exit = true
 is_exit done = false
 
--- the thread is the own one or the other one; or all servers count, and it is one
-abbrev pub IsTouched : Option ℕ → Option ℕ → Bool → List Triple → ℕ → Type 0
-IsTouched own peer servers triples x = (own ≡ Some x) ⊎ (peer ≡ Some x) ⊎ ((servers ≡ true) × (client_of triples x ≢ None))
+-- the thread is one of the sleepers that woke
+abbrev pub woke : List (ℕ × ℕ) → ℕ → Bool
+woke [] x = false
+woke (sleeper ∷ sleepers) x = nat_eq sleeper.1 x || woke sleepers x
+
+-- the thread woke; or it is the own one or the other one; or all servers count, and it is one
+abbrev pub IsTouched : List (ℕ × ℕ) → Option ℕ → Option ℕ → Bool → List Triple → ℕ → Type 0
+IsTouched woken own peer servers triples x =
+    (woke woken x ≡ true) ⊎ (own ≡ Some x) ⊎ (peer ≡ Some x) ⊎ ((servers ≡ true) × (client_of triples x ≢ None))

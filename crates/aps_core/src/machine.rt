@@ -206,7 +206,7 @@ impl Machine {
         let now = self.due(entries, cpu);
         let from = due::last_end(entries, cpu);
         let running = self.begin(cpu);
-        let worked = self.work_tick(scenario, entries, sleepers, ctl, now);
+        let commanded = self.work_tick(scenario, entries, sleepers, ctl, now);
         let e = bill::bill_of(cpu, from, now, &running);
         self.bill(&e, &running);
         let reboot = self.test(entries, &e);
@@ -219,7 +219,7 @@ impl Machine {
             return (e, None);
         }
         let done = self.settle(scenario, now, &running);
-        self.sync(ready, worked, &e.ran, &done);
+        self.sync(ready, commanded, sleepers, &e.ran, &done);
         let count = self.tree.count() as usize;
         let picked = self.pick(
             entries,

@@ -1,21 +1,29 @@
 ghost use Rattle.std.specs.Prelude.{◌≡◌, ◌≢◌, ℕ, length, Some, None, true, false};
 ghost use Rattle.aps_model.specs.Inherit.{client_of};
 ghost use Rattle.aps_core.specs.Seats.{seats_of, IsRight, IsSeated};
-ghost use Rattle.aps_core.specs.Touched.{peer_of, is_at_channel, is_exit, IsTouched};
+ghost use Rattle.aps_core.specs.Touched.{peer_of, is_at_channel, is_exit, woke, IsTouched};
 ghost use Rattle.aps_laws.specs.Stamps.{IsStamped};
 
 use super::Machine;
+use super::wake::Sleepers;
 use aps_model::{Done, ThreadId};
 use aps_ready::Ready;
 
 impl Machine {
-    /// The queues have the ready threads after an operation of this thread, if it is one, where they had all whose seat
-    /// the operation doesn't touch; or where anything can have changed.
-    pub fn sync(&self, ready: &mut Ready, is_any: bool, own: &Option<ThreadId>, done: &Done)
+    /// The queues have the ready threads after sleepers woke and this thread, if it is one, did its operation, where
+    /// they had all whose seat that doesn't touch; or where anything can have changed.
+    pub fn sync(
+        &self,
+        ready: &mut Ready,
+        is_any: bool,
+        woken: &Sleepers,
+        own: &Option<ThreadId>,
+        done: &Done,
+    )
         requires count { length ready.old ≡ length self.now.threads }
         requires stamped { IsStamped self.now.threads self.now.stamps }
         requires tied { is_any ≡ false → is_exit done.now ≡ false → (y : ℕ)
-            → (IsTouched own.now (peer_of done.now) (is_at_channel done.now) self.now.triples y → ⊥)
+            → (IsTouched woken.now own.now (peer_of done.now) (is_at_channel done.now) self.now.triples y → ⊥)
             → IsRight self.now ready.old y }
         ensures { ready.new ≡ seats_of self.now }
     {
@@ -23,29 +31,60 @@ impl Machine {
             self.sync_all(ready);
         } else {
             let peer = peer_of(done);
-            self.sync_some(ready, own, &peer, is_at_channel(done));
+            self.sync_some(ready, woken, own, &peer, is_at_channel(done));
         }
     }
 
-    /// The queues have the ready threads, where they had them but for the two threads, and the servers if these count.
+    /// The queues have the ready threads, where they had them but for those who woke, the two threads, and the servers if
+    /// these count.
     fn sync_some(
         &self,
         ready: &mut Ready,
+        woken: &Sleepers,
         own: &Option<ThreadId>,
         peer: &Option<ThreadId>,
         servers: bool,
     )
         requires count { length ready.old ≡ length self.now.threads }
         requires stamped { IsStamped self.now.threads self.now.stamps }
-        requires tied { (y : ℕ) → (IsTouched own.now peer.now servers self.now.triples y → ⊥) → IsRight self.now ready.old y }
+        requires tied { (y : ℕ) → (IsTouched woken.now own.now peer.now servers self.now.triples y → ⊥) → IsRight self.now ready.old y }
         ensures { ready.new ≡ seats_of self.now }
     {
+        self.leave_woken(ready, woken);
         self.leave_one(ready, own);
         self.leave_one(ready, peer);
         self.leave_servers(ready, servers);
+        self.enter_woken(ready, woken);
         self.enter_one(ready, own);
         self.enter_one(ready, peer);
         self.enter_servers(ready, servers);
+    }
+
+    /// Each of those who woke isn't in, unless it is as it should be.
+    fn leave_woken(&self, ready: &mut Ready, woken: &Sleepers)
+        ensures own { (x : ℕ) → woke woken.now x ≡ true → IsSeated self.now ready.new x }
+        ensures seated { (y : ℕ) → IsSeated self.now ready.old y → IsSeated self.now ready.new y }
+        ensures right { (y : ℕ) → IsRight self.now ready.old y → IsRight self.now ready.new y }
+        ensures count { length ready.new ≡ length ready.old }
+    {
+        for sleeper in woken.as_slice() {
+            self.leave(ready, sleeper.thread());
+        }
+    }
+
+    /// Each of those who woke is in, if it should be, where it isn't in otherwise.
+    fn enter_woken(&self, ready: &mut Ready, woken: &Sleepers)
+        requires count { length ready.old ≡ length self.now.threads }
+        requires stamped { IsStamped self.now.threads self.now.stamps }
+        requires seated { (y : ℕ) → IsSeated self.now ready.old y }
+        ensures own { (x : ℕ) → woke woken.now x ≡ true → IsRight self.now ready.new x }
+        ensures seated { (y : ℕ) → IsSeated self.now ready.new y }
+        ensures right { (y : ℕ) → IsRight self.now ready.old y → IsRight self.now ready.new y }
+        ensures count { length ready.new ≡ length ready.old }
+    {
+        for sleeper in woken.as_slice() {
+            self.enter(ready, sleeper.thread());
+        }
     }
 
     /// The thread, if there is one, isn't in, unless it is as it should be.

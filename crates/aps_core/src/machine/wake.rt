@@ -1,4 +1,4 @@
-ghost use Rattle.std.specs.Prelude.{◌≡◌, ◌+◌, ◌/◌, ◌%◌, ◌<◌, ◌≤◌, ◌^◌, ◌++◌, [], ◌∷◌, length, All, IfOk, vec_capacity, false};
+ghost use Rattle.std.specs.Prelude.{◌≡◌, ℕ, ◌+◌, ◌/◌, ◌%◌, ◌<◌, ◌≤◌, ◌^◌, ◌++◌, [], ◌∷◌, length, All, IfOk, vec_capacity, false};
 ghost use Rattle.std.specs.Prelude.{nat_eq, slice_index_or};
 ghost use Rattle.std.specs.List.{list_any};
 ghost use Rattle.aps_model.specs.declared.entry.Entry.{Entry as EntryOf};
@@ -9,6 +9,8 @@ ghost use Rattle.aps_model.specs.SchedulerState.{thread_at};
 ghost use Rattle.aps_model.specs.TickWork.{has_tick_work, insert_sleeper, is_earlier, tick_work, wake_all, waking, wakes_at};
 ghost use Rattle.aps_core.specs.Rising.{IsRising};
 ghost use Rattle.aps_core.specs.Room.{HasRoomToWake, changes_of_a_run, last_place, stamps_before};
+ghost use Rattle.aps_core.specs.Seats.{seat_at};
+ghost use Rattle.aps_core.specs.Touched.{woke};
 
 use super::Machine;
 use super::channel::MOST_THREADS;
@@ -34,6 +36,14 @@ impl Model for Sleeper {
     ghost view = { λ s. (s.until, s.thread) };
 
     ghost inverse = { λ s. record { until = s.0; thread = s.1 } };
+}
+
+impl Sleeper {
+    pub fn thread(&self) -> ThreadId
+        ensures { result ≡ self.now.1 }
+    {
+        self.thread
+    }
 }
 
 /// Whether the first sleeper wakes before the other: earlier, or at the same moment with the lower number.
@@ -90,6 +100,13 @@ impl Sleepers {
         insert_at(&mut self.list, place, sleeper);
     }
 
+    /// The sleepers, in that order.
+    pub fn as_slice(&self) -> &[Sleeper]
+        ensures { result.now ≡ self.now }
+    {
+        self.list.as_slice()
+    }
+
     /// How many there are.
     fn len(&self) -> usize
         ensures { result ≡ length self.now }
@@ -140,7 +157,8 @@ impl Machine {
     fn wake_all(&mut self, scenario: &Scenario, now: Nanos, sleepers: &mut Sleepers)
         requires now { now ≤ 10000000000000 }
         requires room { HasRoomToWake last_place stamps_before self.old }
-        ensures { self.new ≡ wake_all scenario.now now self.old }
+        ensures same { self.new ≡ wake_all scenario.now now self.old }
+        ensures woken { sleepers.new ≡ waking self.old now }
     {
         self.find_waking(now, sleepers);
         for i in 0..sleepers.len() {
@@ -157,7 +175,7 @@ impl Machine {
     }
 
     /// The work of the tick, if it begins with this step: the commands of the tick, and then the wakes. The answer is
-    /// whether it does; else nothing changes.
+    /// whether there was a command; else no thread's seat changes but of those who woke, who are told.
     pub fn work_tick(
         &mut self,
         scenario: &Scenario,
@@ -176,15 +194,18 @@ impl Machine {
         requires replies { length (tick_work scenario.now self.old entries.now now).replies ≤ 1024 }
         requires changes { length (tick_work scenario.now self.old entries.now now).changes ≤ changes_of_a_run }
         ensures same { self.new ≡ tick_work scenario.now self.old entries.now now }
-        ensures idle { result ≡ false → self.new ≡ self.old }
+        ensures idle { result ≡ false → (x : ℕ) → woke sleepers.new x ≡ false → seat_at self.new x ≡ seat_at self.old x }
         ensures pending { (e : EntryOf) → e.to ≡ now → IsPending scenario.now self.old.shape.tick (entries.now ++ e ∷ []) ctl.new }
     {
         if self.has_tick_work(entries, now) {
             let tick = self.tick_of(now);
+            let before = self.replies().len();
             self.do_commands(entries, ctl, tick);
+            let commanded = before < self.replies().len();
             self.wake_all(scenario, now, sleepers);
-            return true;
+            return commanded;
         }
+        sleepers.clear();
         false
     }
 }

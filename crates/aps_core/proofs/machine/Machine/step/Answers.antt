@@ -19,26 +19,26 @@ use Rattle.aps_core.proofs.machine.Machine.step.Goals as goal
 
 -- ---- the work of the tick
 
-pub work_tick-worked-requires-clause-now : goal.work_tick-worked-requires-clause-now
-work_tick-worked-requires-clause-now c = rw c.due-now.ensures c.requires.ready.early
+pub work_tick-commanded-requires-clause-now : goal.work_tick-commanded-requires-clause-now
+work_tick-commanded-requires-clause-now c = rw c.due-now.ensures c.requires.ready.early
 
-pub work_tick-worked-requires-clause-room : goal.work_tick-worked-requires-clause-room
-work_tick-worked-requires-clause-room c =
+pub work_tick-commanded-requires-clause-room : goal.work_tick-commanded-requires-clause-room
+work_tick-commanded-requires-clause-room c =
     subst (HasRoomToWake 256 6000000000) (sym c.begin-running.ensures.same)
     (record { places = c.requires.ready.wakes.places; stamps = c.requires.ready.wakes.stamps })
 
-pub work_tick-worked-requires-clause-replies : goal.work_tick-worked-requires-clause-replies
-work_tick-worked-requires-clause-replies c =
+pub work_tick-commanded-requires-clause-replies : goal.work_tick-commanded-requires-clause-replies
+work_tick-commanded-requires-clause-replies c =
     subst (λ (s : SchedulerState). length s.replies ≤ 1024)
     (sym (ticked_by c.args.scenario.now c.args.self.now c.args.entries.now c.args.cpu _ _ _ c.due-now.ensures c.begin-running.ensures.same refl)) c.requires.ready.replies
 
-pub work_tick-worked-requires-clause-changes : goal.work_tick-worked-requires-clause-changes
-work_tick-worked-requires-clause-changes c =
+pub work_tick-commanded-requires-clause-changes : goal.work_tick-commanded-requires-clause-changes
+work_tick-commanded-requires-clause-changes c =
     subst (λ (s : SchedulerState). length s.changes ≤ 2079)
     (sym (ticked_by c.args.scenario.now c.args.self.now c.args.entries.now c.args.cpu _ _ _ c.due-now.ensures c.begin-running.ensures.same refl)) c.requires.ready.changes_ticked
 
-pub work_tick-worked-requires-clause-pending : goal.work_tick-worked-requires-clause-pending
-work_tick-worked-requires-clause-pending c =
+pub work_tick-commanded-requires-clause-pending : goal.work_tick-commanded-requires-clause-pending
+work_tick-commanded-requires-clause-pending c =
     subst (λ (s : SchedulerState). IsPending c.args.scenario.now s.shape.tick c.args.entries.now c.args.ctl.now) (sym c.begin-running.ensures.same) c.requires.pending
 
 -- ---- the bill
@@ -52,7 +52,7 @@ bill-requires-clause-forward c = rw (c.bill_of-e.ensures.from, c.bill_of-e.ensur
 pub bill-requires-clause-since : goal.bill-requires-clause-since
 bill-requires-clause-since c =
     subst (λ (s : SchedulerState). (x : ℕ) → (thread_at s x).since ≤ 10000000000000)
-    (sym (ticked_by c.args.scenario.now c.args.self.now c.args.entries.now c.args.cpu _ _ _ c.due-now.ensures c.begin-running.ensures.same c.work_tick-worked.ensures.same))
+    (sym (ticked_by c.args.scenario.now c.args.self.now c.args.entries.now c.args.cpu _ _ _ c.due-now.ensures c.begin-running.ensures.same c.work_tick-commanded.ensures.same))
     c.requires.ready.since
 
 -- ---- the whole
@@ -61,7 +61,7 @@ pub returns-clause-same : goal.returns-clause-same
 returns-clause-same c =
     let b =
     tested_by c.args.scenario.now c.args.self.now c.args.entries.now c.args.cpu _ _ _ _ _ _ _ _ _
-    c.due-now.ensures c.last_end-from.ensures.same c.begin-running.ensures.running c.begin-running.ensures.same c.work_tick-worked.ensures.same c.bill_of-e.ensures.same c.bill.ensures c.test-reboot.ensures in
+    c.due-now.ensures c.last_end-from.ensures.same c.begin-running.ensures.running c.begin-running.ensures.same c.work_tick-commanded.ensures.same c.bill_of-e.ensures.same c.bill.ensures c.test-reboot.ensures in
     step_below c.args.scenario.now c.args.self.now c.args.entries.now c.args.cpu _ _ _ _ _ _ _ b
     (none_is c.test-reboot.result (sym c.is_some.ensures ∙ c.if-is_some.false))
     (λ there. c.if-now-horizon.false (there ∙ sym c.horizon.ensures.same)) c.settle-done.ensures c.bill_of-e.ensures.to c.pick-picked.ensures.same
@@ -70,7 +70,7 @@ pub settle-done-requires-clause-room : goal.settle-done-requires-clause-room
 settle-done-requires-clause-room c =
     let b =
     tested_by c.args.scenario.now c.args.self.now c.args.entries.now c.args.cpu _ _ _ _ _ _ _ _ _
-    c.due-now.ensures c.last_end-from.ensures.same c.begin-running.ensures.running c.begin-running.ensures.same c.work_tick-worked.ensures.same c.bill_of-e.ensures.same c.bill.ensures c.test-reboot.ensures in
+    c.due-now.ensures c.last_end-from.ensures.same c.begin-running.ensures.running c.begin-running.ensures.same c.work_tick-commanded.ensures.same c.bill_of-e.ensures.same c.bill.ensures c.test-reboot.ensures in
     λ some.
     subst HasRoom (sym (billed_by c.args.scenario.now c.args.self.now c.args.entries.now c.args.cpu _ _ _ _ _ b))
     (where_it_runs c.begin-running.result (cpu_at c.args.self.now c.args.cpu).running (HasRoom (after_bill c.args.scenario.now c.args.self.now c.args.entries.now c.args.cpu))
@@ -78,8 +78,8 @@ settle-done-requires-clause-room c =
 
 pub returns-clause-pending : goal.returns-clause-pending
 returns-clause-pending c =
-    subst (λ (s : SchedulerState). IsPending c.args.scenario.now s.shape.tick (c.args.entries.now ++ c.pick-picked.result ∷ []) c.work_tick-worked.new.ctl) c.begin-running.ensures.same
-    (c.work_tick-worked.ensures.pending c.pick-picked.result (sym (ap (λ (out : Step). out.entry.to) c.pick-picked.ensures.same) ∙ c.bill_of-e.ensures.to))
+    subst (λ (s : SchedulerState). IsPending c.args.scenario.now s.shape.tick (c.args.entries.now ++ c.pick-picked.result ∷ []) c.work_tick-commanded.new.ctl) c.begin-running.ensures.same
+    (c.work_tick-commanded.ensures.pending c.pick-picked.result (sym (ap (λ (out : Step). out.entry.to) c.pick-picked.ensures.same) ∙ c.bill_of-e.ensures.to))
 
 -- ---- the queues
 
@@ -87,7 +87,7 @@ pub sync_all-requires-clause-count : goal.sync_all-requires-clause-count
 sync_all-requires-clause-count c =
     let b =
     tested_by c.args.scenario.now c.args.self.now c.args.entries.now c.args.cpu _ _ _ _ _ _ _ _ _
-    c.due-now.ensures c.last_end-from.ensures.same c.begin-running.ensures.running c.begin-running.ensures.same c.work_tick-worked.ensures.same c.bill_of-e.ensures.same c.bill.ensures c.test-reboot.ensures in
+    c.due-now.ensures c.last_end-from.ensures.same c.begin-running.ensures.running c.begin-running.ensures.same c.work_tick-commanded.ensures.same c.bill_of-e.ensures.same c.bill.ensures c.test-reboot.ensures in
     ap length c.requires.seats ∙ seats_count c.args.self.now ∙ sym c.requires.ready.count_billed
     ∙ ap (λ (s : SchedulerState). length s.threads) (sym (billed_by c.args.scenario.now c.args.self.now c.args.entries.now c.args.cpu _ _ _ _ _ b))
 
@@ -95,7 +95,7 @@ pub sync_all-requires-then-now-horizon-clause-count : goal.sync_all-requires-the
 sync_all-requires-then-now-horizon-clause-count c =
     let b =
     tested_by c.args.scenario.now c.args.self.now c.args.entries.now c.args.cpu _ _ _ _ _ _ _ _ _
-    c.due-now.ensures c.last_end-from.ensures.same c.begin-running.ensures.running c.begin-running.ensures.same c.work_tick-worked.ensures.same c.bill_of-e.ensures.same c.bill.ensures c.test-reboot.ensures in
+    c.due-now.ensures c.last_end-from.ensures.same c.begin-running.ensures.running c.begin-running.ensures.same c.work_tick-commanded.ensures.same c.bill_of-e.ensures.same c.bill.ensures c.test-reboot.ensures in
     ap length c.requires.seats ∙ seats_count c.args.self.now ∙ sym c.requires.ready.count_billed
     ∙ ap (λ (s : SchedulerState). length s.threads) (sym (billed_by c.args.scenario.now c.args.self.now c.args.entries.now c.args.cpu _ _ _ _ _ b))
 
@@ -103,7 +103,7 @@ pub sync-requires-clause-count : goal.sync-requires-clause-count
 sync-requires-clause-count c =
     let b =
     tested_by c.args.scenario.now c.args.self.now c.args.entries.now c.args.cpu _ _ _ _ _ _ _ _ _
-    c.due-now.ensures c.last_end-from.ensures.same c.begin-running.ensures.running c.begin-running.ensures.same c.work_tick-worked.ensures.same c.bill_of-e.ensures.same c.bill.ensures c.test-reboot.ensures in
+    c.due-now.ensures c.last_end-from.ensures.same c.begin-running.ensures.running c.begin-running.ensures.same c.work_tick-commanded.ensures.same c.bill_of-e.ensures.same c.bill.ensures c.test-reboot.ensures in
     ap length c.requires.seats ∙ seats_count c.args.self.now ∙ sym c.requires.ready.count_settled
     ∙ ap (λ (s : SchedulerState). length s.threads)
     (sym (settled_by c.args.scenario.now c.args.self.now c.args.entries.now c.args.cpu _ _ _ _ _ _ b c.settle-done.ensures))
@@ -117,14 +117,14 @@ pub sync-requires-clause-tied : goal.sync-requires-clause-tied
 sync-requires-clause-tied c idle calm y apart =
     let b =
     tested_by c.args.scenario.now c.args.self.now c.args.entries.now c.args.cpu _ _ _ _ _ _ _ _ _
-    c.due-now.ensures c.last_end-from.ensures.same c.begin-running.ensures.running c.begin-running.ensures.same c.work_tick-worked.ensures.same c.bill_of-e.ensures.same c.bill.ensures c.test-reboot.ensures in
+    c.due-now.ensures c.last_end-from.ensures.same c.begin-running.ensures.running c.begin-running.ensures.same c.work_tick-commanded.ensures.same c.bill_of-e.ensures.same c.bill.ensures c.test-reboot.ensures in
     let billed = billed_by c.args.scenario.now c.args.self.now c.args.entries.now c.args.cpu _ _ _ _ _ b in
     let own : c.bill_of-e.result.ran ≡ option_map (λ (p : Pick). p.thread) c.begin-running.result =
     ap (λ (e : Entry). e.ran) c.bill_of-e.ensures.same ∙ ran c.args.cpu c.last_end-from.result c.due-now.result c.begin-running.result in
     ap (λ (l : List (Option Contender)). who_at l y) c.requires.seats ∙ who_seats c.args.self.now y
     ∙ sym (step_seat c.args.scenario.now c.args.self.now c.args.entries.now c.args.cpu c.due-now.result y _ c.begin-running.result c.bill_of-e.result _ _ _ _ c.test-reboot.result
-    (record { state = c.settle-done.new.self; done = c.settle-done.result })
-    c.begin-running.ensures.same (c.work_tick-worked.ensures.idle idle) c.bill.ensures c.test-reboot.ensures c.settle-done.ensures
+    (record { state = c.settle-done.new.self; done = c.settle-done.result }) c.work_tick-commanded.new.sleepers
+    c.begin-running.ensures.same (c.work_tick-commanded.ensures.idle idle y) c.bill.ensures c.test-reboot.ensures c.settle-done.ensures
     (λ p runs. subst (λ (s : SchedulerState). IsNobodysClient s.triples p.thread) (sym billed) (c.requires.ready.free_billed p (sym c.begin-running.ensures.running ∙ runs)))
     calm
-    (subst (λ o. IsTouched o (peer_of c.settle-done.result) (is_at_channel c.settle-done.result) c.settle-done.new.self.triples y → ⊥) own apart))
+    (subst (λ o. IsTouched c.work_tick-commanded.new.sleepers o (peer_of c.settle-done.result) (is_at_channel c.settle-done.result) c.settle-done.new.self.triples y → ⊥) own apart))
