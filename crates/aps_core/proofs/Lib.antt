@@ -16,5 +16,7 @@ pub mod Kept
 pub mod Finish
 pub mod Recent
 pub mod Rising
+pub mod LastEnds
+pub mod FirstDue
 pub mod Recorded
 pub mod Pending

@@ -1,4 +1,4 @@
-use Rattle.std.specs.Prelude.{◌≡◌, ℕ, ◌≤◌, List, length}
+use Rattle.std.specs.Prelude.{◌≡◌, ℕ, ◌≤◌, List, Option, length}
 use Rattle.aps_model.specs.declared.command.CommandRow.{CommandRow}
 use Rattle.aps_model.specs.declared.merit.PartFacts.{PartFacts}
 use Rattle.aps_model.specs.History.{History}
@@ -6,6 +6,7 @@ use Rattle.aps_model.specs.Legal.{IsLegal}
 use Rattle.aps_model.specs.SchedulerState.{SchedulerState}
 use Rattle.aps_model.specs.Valid.{IsScenario}
 use Rattle.aps_laws.specs.Runs.{EndsNoSooner}
+use Rattle.aps_core.specs.LastEnds.{AreEnds}
 use Rattle.aps_core.specs.Pending.{IsPending}
 use Rattle.aps_core.specs.Run.{Run, Setup, history_of, state_of}
 
@@ -29,7 +30,9 @@ pub record IsCore (run : Run) (kept : History) (state : SchedulerState) (parts :
   pub machine : state ≡ state_of run
   pub room : length parts ≡ 32
 
--- what each core keeps: its parts stand for its run, and the commands are still to come whose ticks no entry has begun
-pub record IsCoreWith (run : Run) (kept : History) (state : SchedulerState) (parts : List PartFacts) (commands : List (ℕ × CommandRow)) : Type 0 where
+-- what each core keeps: its parts stand for its run, the commands are still to come whose ticks no entry has begun, and the
+-- ends that it keeps are those of its entries
+pub record IsCoreWith (run : Run) (kept : History) (state : SchedulerState) (parts : List PartFacts) (commands : List (ℕ × CommandRow)) (ends : List (Option ℕ)) : Type 0 where
   pub core : IsCore run kept state parts
   pub pending : IsPending run.setup.scenario run.setup.scenario.shape.tick run.entries commands
+  pub lasts : AreEnds run.entries ends

@@ -1,5 +1,6 @@
 pub mod Calls
 pub mod Kept
+pub mod LastEnds
 pub mod Short
 pub mod Room
 pub mod Ready

@@ -6,6 +6,7 @@ ghost use Rattle.aps_model.specs.History.{IsEntry};
 ghost use Rattle.aps_model.specs.Shape.{horizon};
 ghost use Rattle.aps_model.specs.Step.{pick, step};
 ghost use Rattle.aps_model.specs.Valid.{IsScenario};
+ghost use Rattle.aps_core.specs.LastEnds.{AreEnds};
 ghost use Rattle.aps_core.specs.Kept.{IsKept};
 ghost use Rattle.aps_core.specs.Pending.{IsPending};
 ghost use Rattle.aps_core.specs.Ready.{IsReady};
@@ -27,6 +28,7 @@ mod threads;
 mod triple;
 pub mod wake;
 
+use crate::ends::Ends;
 use crate::{carried, due, usage};
 use aps_ctl::Ctl;
 use aps_model::{
@@ -70,9 +72,10 @@ impl Model for Machine {
 
 impl Machine {
     /// When the processor steps next.
-    pub fn due(&self, entries: &[Entry], cpu: CpuId) -> Nanos
+    pub fn due(&self, entries: &[Entry], ends: &Ends, cpu: CpuId) -> Nanos
         requires cpu { cpu < length self.now.cpus }
         requires entries { All IsEntry entries.now }
+        requires ends { AreEnds entries.now ends.now }
         ensures { result ≡ due self.now entries.now cpu }
     {
         let now = &self.cpus[cpu.index()];
@@ -80,34 +83,40 @@ impl Machine {
             None => None,
             Some(pick) => self.thread(pick.thread).left,
         };
-        due::due_at(&self.shape, now.flag, due::last_to(entries, cpu), left)
+        due::due_at(&self.shape, now.flag, ends.last_to(entries, cpu), left)
     }
 
     /// The lowest of the processors that are due least.
-    pub fn first_due(&self, entries: &[Entry]) -> CpuId
-        requires { All IsEntry entries.now }
+    pub fn first_due(&self, entries: &[Entry], ends: &Ends) -> CpuId
+        requires entries { All IsEntry entries.now }
+        requires ends { AreEnds entries.now ends.now }
         ensures same { result ≡ first_due self.now entries.now self.now.shape.cpus }
         ensures within { result < length self.now.cpus }
     {
+        let count = self.cpus.len();
         let mut first = CpuId::at(0);
-        for c in 0..self.cpus.len() {
+        let mut least = self.due(entries, ends, first);
+        for c in 0..count {
             let cpu = CpuId::at(c);
-            if self.due(entries, cpu) < self.due(entries, first) {
+            let due = self.due(entries, ends, cpu);
+            if due < least {
                 first = cpu;
+                least = due;
             }
         }
         first
     }
 
     /// Whether each processor has stepped at the horizon.
-    pub fn is_at_horizon(&self, entries: &[Entry]) -> bool
-        requires { All IsEntry entries.now }
+    pub fn is_at_horizon(&self, entries: &[Entry], ends: &Ends) -> bool
+        requires entries { All IsEntry entries.now }
+        requires ends { AreEnds entries.now ends.now }
         ensures { result ≡ is_at_horizon self.now entries.now }
     {
         let horizon = self.horizon();
         let mut all = true;
         for c in 0..self.cpus.len() {
-            let stands = due::stands_at(horizon, due::last_to(entries, CpuId::at(c)));
+            let stands = due::stands_at(horizon, ends.last_to(entries, CpuId::at(c)));
             all = carried::both(all, stands);
         }
         all
@@ -115,10 +124,18 @@ impl Machine {
 
     /// The pick of the processor after this entry, which has its operation, and then the flag. The answer is the
     /// entry with both.
-    fn pick(&mut self, entries: &[Entry], parts: &mut [PartFacts], cpu: CpuId, e: Entry) -> Entry
+    fn pick(
+        &mut self,
+        entries: &[Entry],
+        ends: &Ends,
+        parts: &mut [PartFacts],
+        cpu: CpuId,
+        e: Entry,
+    ) -> Entry
         requires one_each { length parts.old ≡ length self.old.rows }
         requires cpu { cpu < length self.old.cpus }
         requires entries { All IsEntry entries.now }
+        requires ends { AreEnds entries.now ends.now }
         requires rising { IsRising entries.now }
         requires few { length entries.now ≤ 4000000 }
         requires entry { IsEntry e }
@@ -135,7 +152,7 @@ impl Machine {
         let picked = thread_of(&best);
         self.choose(parts, cpu, best);
         let left = self.greatest(parts);
-        let flagged = self.flag_for(entries, parts, cpu, now, &left);
+        let flagged = self.flag_for(entries, ends, parts, cpu, now, &left);
         self.flag(now, &flagged);
         Entry {
             picked,
@@ -168,6 +185,7 @@ impl Machine {
         &mut self,
         scenario: &Scenario,
         entries: &[Entry],
+        ends: &Ends,
         parts: &mut [PartFacts],
         sleepers: &mut Sleepers,
         ctl: &mut Ctl,
@@ -178,14 +196,15 @@ impl Machine {
         requires pending { IsPending scenario.now self.old.shape.tick entries.now ctl.old }
         requires room { length parts.old ≡ 32 }
         requires entries { All IsEntry entries.now }
+        requires ends { AreEnds entries.now ends.now }
         requires rising { IsRising entries.now }
         requires few { length entries.now ≤ 4000000 }
         ensures same { step scenario.now self.old entries.now cpu ≡ record { entry = result.0; state = self.new; reboot = result.1 } }
         ensures pending { IsPending scenario.now self.old.shape.tick (entries.now ++ result.0 ∷ []) ctl.new }
         ensures parts { length parts.new ≡ length parts.old }
     {
-        let now = self.due(entries, cpu);
-        let from = due::last_end(entries, cpu);
+        let now = self.due(entries, ends, cpu);
+        let from = ends.last_end(entries, cpu);
         let running = self.begin(cpu);
         self.work_tick(scenario, entries, sleepers, ctl, now);
         let e = bill::bill_of(cpu, from, now, &running);
@@ -199,7 +218,7 @@ impl Machine {
         }
         let done = self.settle(scenario, now, &running);
         let count = self.tree.count() as usize;
-        let picked = self.pick(entries, &mut parts[..count], cpu, Entry { done, ..e });
+        let picked = self.pick(entries, ends, &mut parts[..count], cpu, Entry { done, ..e });
         (picked, None)
     }
 

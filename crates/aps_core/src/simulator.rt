@@ -15,6 +15,7 @@ ghost use Rattle.aps_core.specs.Core.{IsUnderWay};
 ghost use Rattle.aps_core.specs.Run.{IsLater, end_of_run, finished_run, history_of, most_changes, rooms_of, state_of, with_last};
 ghost use Rattle.aps_core.specs.Turn.{HasTurnIn, IsFed, IsOwn, IsTaken, IsTurn, after_turn, with_entry};
 
+use crate::ends::Ends;
 use crate::machine::Machine;
 use crate::machine::wake::Sleepers;
 use crate::recording;
@@ -33,6 +34,7 @@ pub struct Core {
     order: Order,
     limit: u32,
     machine: Machine,
+    ends: Ends,
     parts: Vec<PartFacts>,
     sleepers: Sleepers,
     ctl: Ctl,
@@ -64,6 +66,7 @@ impl Core {
         ensures { IfOk result (λ core. core ≡ record { setup = record { scenario = scenario; order = order; limit = limit }; entries = [] }) }
     {
         let machine = Machine::boot(alloc, &scenario)?;
+        let ends = Ends::new();
         let parts = start_parts(alloc, MOST_PARTITIONS)?;
         let sleepers = Sleepers::new(alloc)?;
         let ctl = Ctl::new(alloc, &scenario)?;
@@ -75,6 +78,7 @@ impl Core {
             order,
             limit,
             machine,
+            ends,
             parts,
             sleepers,
             ctl,
@@ -86,7 +90,7 @@ impl Core {
         requires { cpu < self.now.setup.scenario.shape.cpus }
         ensures { result ≡ due (state_of self.now) self.now.entries cpu }
     {
-        self.machine.due(self.history.entries(), cpu)
+        self.machine.due(self.history.entries(), &self.ends, cpu)
     }
 
     /// The end of the run, if it has come. Where several hold it is the first of these: by a reboot, where the last entry
@@ -195,7 +199,7 @@ impl Core {
         ensures exists { result < self.now.setup.scenario.shape.cpus }
         ensures keeps { IsUnderWay self.now }
     {
-        self.machine.first_due(self.history.entries())
+        self.machine.first_due(self.history.entries(), &self.ends)
     }
 
     /// Whether the processor has the turn, where this is the lowest that has it.
@@ -225,14 +229,23 @@ impl Core {
         let (e, reboot) = self.machine.step(
             self.history.scenario(),
             self.history.entries(),
+            &self.ends,
             self.parts.as_mut_slice(),
             &mut self.sleepers,
             &mut self.ctl,
             cpu,
         );
+        self.ends.add(&e);
         // the check wants a copy of its own of what is handed on and answered too
         let added = e;
-        recording::record(&mut self.history, added, &self.machine, reboot, self.limit);
+        recording::record(
+            &mut self.history,
+            added,
+            &self.machine,
+            &self.ends,
+            reboot,
+            self.limit,
+        );
         e
     }
 }

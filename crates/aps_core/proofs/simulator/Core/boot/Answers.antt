@@ -16,4 +16,5 @@ invariant_of-result c =
           c.in_ok-machine.ensures
           c.in_ok-parts.ensures;
       pending = λ j none. ap (all_at j) c.in_ok-ctl.ensures;
+      lasts = c.new-ends.ensures;
     })

@@ -4,6 +4,7 @@ use Rattle.aps_model.specs.History.{History}
 use Rattle.aps_model.specs.Scenario.{Scenario}
 use Rattle.aps_model.specs.Valid.{IsScenario}
 use Rattle.aps_core.specs.CoreView.{run_of}
+use Rattle.aps_core.specs.LastEnds.{AreEnds}
 use Rattle.aps_core.specs.Rising.{IsRising}
 use Rattle.aps_core.specs.Run.{end_of_run}
 use Rattle.aps_core.specs.declared.turn.Turn.TheVariants.{Took}
@@ -61,6 +62,12 @@ step-requires-clause-pending c =
     rw (c.scenario.ensures, c.entries.ensures.same, tick_of_core (run_of c.self.inside) c.self.inside.history c.self.inside.machine c.self.inside.parts.items c.self.invariant.core)
     c.self.invariant.pending
 
+pub step-requires-clause-ends : goal.step-requires-clause-ends
+step-requires-clause-ends c = subst (λ h. AreEnds h c.self.inside.ends) (sym c.entries.ensures.same) c.self.invariant.lasts
+
+pub record-requires-clause-ends : goal.record-requires-clause-ends
+record-requires-clause-ends c = c.add.ensures c.self.inside.history.entries c.self.invariant.lasts
+
 pub invariant_of-self : goal.invariant_of-self
 invariant_of-self c = record {
   core =
@@ -79,4 +86,7 @@ invariant_of-self c = record {
       (tick_of_core (run_of c.self.inside) c.self.inside.history c.self.inside.machine c.self.inside.parts.items c.self.invariant.core ∙ ap (λ (s : Scenario). s.shape.tick) (sym c.scenario.ensures))
       (ap (λ (h : History). h.entries) c.record.ensures ∙ ap (λ h. h ++ c.step.result.0 ∷ []) (sym c.entries.ensures.same))
       c.step.ensures.pending;
+  lasts =
+      subst (λ (k : History). AreEnds k.entries c.add.new.self) (sym c.record.ensures)
+      (c.add.ensures c.self.inside.history.entries c.self.invariant.lasts);
 }
