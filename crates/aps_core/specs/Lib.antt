@@ -6,6 +6,7 @@ pub mod Room
 pub mod Ready
 pub mod Small
 pub mod Part
+pub mod Counts
 pub mod Scan
 pub mod Machine
 pub mod MachineView

@@ -6,6 +6,8 @@ ghost use Rattle.aps_model.specs.History.{IsEntry};
 ghost use Rattle.aps_model.specs.Shape.{horizon};
 ghost use Rattle.aps_model.specs.Step.{pick, step};
 ghost use Rattle.aps_model.specs.Valid.{IsScenario};
+ghost use Rattle.aps_laws.specs.Moments.{moment};
+ghost use Rattle.aps_core.specs.Counts.{Counts};
 ghost use Rattle.aps_core.specs.LastEnds.{AreEnds};
 ghost use Rattle.aps_core.specs.Kept.{IsKept};
 ghost use Rattle.aps_core.specs.Pending.{IsPending};
@@ -36,6 +38,7 @@ use aps_model::{
     Scenario, Shape, ThreadId, ThreadNow,
 };
 use aps_tree::Tree;
+use aps_window::Window;
 use channel::Channel;
 use std::marker::Model;
 use triple::Triples;
@@ -128,6 +131,7 @@ impl Machine {
         &mut self,
         entries: &[Entry],
         ends: &Ends,
+        window: &Window,
         parts: &mut [PartFacts],
         cpu: CpuId,
         e: Entry,
@@ -136,17 +140,13 @@ impl Machine {
         requires cpu { cpu < length self.old.cpus }
         requires entries { All IsEntry entries.now }
         requires ends { AreEnds entries.now ends.now }
-        requires rising { IsRising entries.now }
-        requires few { length entries.now ≤ 4000000 }
-        requires entry { IsEntry e }
-        requires within { e.to ≤ horizon self.old.shape }
+        requires counts { Counts self.old.shape (entries.now ++ e ∷ []) (e.to / self.old.shape.tick) window.now }
         ensures same { pick self.old entries.now cpu e.to e ≡ record { entry = result; state = self.new; reboot = None } }
         ensures parts { length parts.new ≡ length parts.old }
         ensures kept { IsKept self.old self.new }
     {
         let now = e.to;
-        let tick = self.tick_of(now);
-        usage::fill_parts(&self.shape, self.tree.rows(), entries, &e, tick, parts);
+        usage::fill_parts(&self.shape, self.tree.rows(), window, parts);
         let starved = self.missing(parts);
         let best = self.greatest(parts);
         let picked = thread_of(&best);
@@ -186,6 +186,7 @@ impl Machine {
         scenario: &Scenario,
         entries: &[Entry],
         ends: &Ends,
+        window: &mut Window,
         parts: &mut [PartFacts],
         sleepers: &mut Sleepers,
         ctl: &mut Ctl,
@@ -198,18 +199,21 @@ impl Machine {
         requires entries { All IsEntry entries.now }
         requires ends { AreEnds entries.now ends.now }
         requires rising { IsRising entries.now }
-        requires few { length entries.now ≤ 4000000 }
+        requires counts { Counts self.old.shape entries.now (moment entries.now / self.old.shape.tick) window.old }
         ensures same { step scenario.now self.old entries.now cpu ≡ record { entry = result.0; state = self.new; reboot = result.1 } }
         ensures pending { IsPending scenario.now self.old.shape.tick (entries.now ++ result.0 ∷ []) ctl.new }
+        ensures counts { Counts self.new.shape (entries.now ++ result.0 ∷ []) (result.0.to / self.new.shape.tick) window.new }
         ensures parts { length parts.new ≡ length parts.old }
     {
         let now = self.due(entries, ends, cpu);
         let from = ends.last_end(entries, cpu);
+        usage::go_on(window, self.tick_of(now));
         let running = self.begin(cpu);
-        self.work_tick(scenario, entries, sleepers, ctl, now);
+        self.work_tick(scenario, entries, window, sleepers, ctl, now);
         let e = bill::bill_of(cpu, from, now, &running);
+        usage::add_time(window, &self.shape, &e);
         self.bill(&e, &running);
-        let reboot = self.test(entries, &e);
+        let reboot = self.test(entries, window, &e);
         if reboot.is_some() {
             return (e, reboot);
         }
@@ -218,7 +222,14 @@ impl Machine {
         }
         let done = self.settle(scenario, now, &running);
         let count = self.tree.count() as usize;
-        let picked = self.pick(entries, ends, &mut parts[..count], cpu, Entry { done, ..e });
+        let picked = self.pick(
+            entries,
+            ends,
+            window,
+            &mut parts[..count],
+            cpu,
+            Entry { done, ..e },
+        );
         (picked, None)
     }
 

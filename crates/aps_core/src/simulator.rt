@@ -23,6 +23,7 @@ use crate::rooms::Room;
 use crate::turn::Turn;
 use aps_ctl::Ctl;
 use aps_model::{CpuId, End, Entry, History, Nanos, NoMemory, Order, PartFacts, Scenario};
+use aps_window::Window;
 use std::alloc::Global;
 use std::marker::Model;
 
@@ -35,6 +36,7 @@ pub struct Core {
     limit: u32,
     machine: Machine,
     ends: Ends,
+    window: Window,
     parts: Vec<PartFacts>,
     sleepers: Sleepers,
     ctl: Ctl,
@@ -67,6 +69,7 @@ impl Core {
     {
         let machine = Machine::boot(alloc, &scenario)?;
         let ends = Ends::new();
+        let window = Window::new(alloc, scenario.shape().window)?;
         let parts = start_parts(alloc, MOST_PARTITIONS)?;
         let sleepers = Sleepers::new(alloc)?;
         let ctl = Ctl::new(alloc, &scenario)?;
@@ -79,6 +82,7 @@ impl Core {
             limit,
             machine,
             ends,
+            window,
             parts,
             sleepers,
             ctl,
@@ -230,6 +234,7 @@ impl Core {
             self.history.scenario(),
             self.history.entries(),
             &self.ends,
+            &mut self.window,
             self.parts.as_mut_slice(),
             &mut self.sleepers,
             &mut self.ctl,

@@ -23,7 +23,7 @@ lies_within : (a b k n : ℕ) → a ≤ k → k < b → cond (nat_le a k && nat_
 lies_within a b k n from to = grind (arith, nat_tests)
 
 -- it lies in the ticks as a whole, or not at all
-overlap_whole : (tick a b from to : ℕ) → to ≤ next_boundary tick from
+pub overlap_whole : (tick a b from to : ℕ) → to ≤ next_boundary tick from
     → cond (nat_le a (from / tick) && nat_lt (from / tick) b) (to - from) 0 ≡ overlap tick a b from to
 overlap_whole tick a b from to short =
     let k = from / tick in

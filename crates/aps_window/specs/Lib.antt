@@ -3,5 +3,6 @@ pub mod Bills
 pub mod Entries
 pub mod Slots
 pub mod StandsFor
+pub mod Whole
 pub mod Window
 pub mod WindowView

@@ -1,7 +1,9 @@
-use Rattle.std.proofs.Common.{◌≡◌, ap, ◌∙◌, ◌++◌, [], ◌∷◌, ◌/◌, All, subst, sym}
+use Rattle.std.proofs.Common.{◌≡◌, ap, arith, length, ◌∙◌, ◌++◌, [], ◌∷◌, ◌/◌, All, subst, sym}
 use Rattle.aps_model.specs.Budget.{all_parts}
 use Rattle.aps_model.specs.Partition.{IsRow}
 use Rattle.aps_model.specs.SchedulerState.{SchedulerState}
+use Rattle.aps_core.specs.Counts.{parts_in}
+use Rattle.aps_core.proofs.Counting.{parts_are}
 use Rattle.aps_core.proofs.PickStep.{pick_by_parts}
 use Rattle.aps_core.proofs.Rows.{row_ranges}
 use Rattle.aps_core.proofs.machine.Machine.pick.Goals as goal
@@ -12,8 +14,10 @@ fill_parts-requires-clause-rows c = subst (All IsRow) (sym c.rows.ensures.same) 
 parts : (c : goal.After-flag) → c.fill_parts.new.parts ≡ all_parts c.args.self.now.shape c.args.self.now.rows (c.args.entries.now ++ c.args.e ∷ []) (c.args.e.to / c.args.self.now.shape.tick)
 parts c =
     c.fill_parts.ensures.same
-    ∙ rw (c.rows.ensures.same, c.tick_of-tick.ensures.same)
-    (ap (λ (m : SchedulerState). all_parts m.shape m.rows (c.args.entries.now ++ c.args.e ∷ []) (c.args.e.to / c.args.self.now.shape.tick)) c.self.view_is)
+    ∙ rw c.rows.ensures.same
+    (ap (λ (m : SchedulerState). parts_in m.shape m.rows c.args.window.now) c.self.view_is)
+    ∙ parts_are c.args.self.now.shape c.args.self.now.rows (c.args.entries.now ++ c.args.e ∷ []) (c.args.e.to / c.args.self.now.shape.tick) c.args.window.now c.requires.counts
+    (let few = c.rows.ensures.keeps.named.few in omega (arith, few, ap (λ (m : SchedulerState). length m.rows) c.self.view_is))
 
 pub returns-clause-same : goal.returns-clause-same
 returns-clause-same c =

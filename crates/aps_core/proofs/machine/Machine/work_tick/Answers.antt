@@ -3,7 +3,8 @@ use Rattle.aps_model.specs.SchedulerState.{SchedulerState}
 use Rattle.aps_ctl.specs.Pending.{all_at}
 use Rattle.aps_core.specs.Room.{HasRoomToWake}
 use Rattle.aps_core.proofs.Commands.{commands_room}
-use Rattle.aps_core.proofs.Frame.{ticked_lists}
+use Rattle.aps_core.proofs.Counting.{counts_like}
+use Rattle.aps_core.proofs.Frame.{ticked_lists, wake_kept}
 use Rattle.aps_core.proofs.Pending.{tick_started}
 use Rattle.aps_core.proofs.machine.Machine.work_tick.Goals as goal
 
@@ -38,3 +39,9 @@ wake_all-requires-clause-room c =
     let stamp : ℕ = 6000000000 in
     subst (HasRoomToWake place stamp) (sym c.do_commands.ensures.same)
     (commands_room place stamp c.args.entries.now c.tick_of-tick.result (all_at c.tick_of-tick.result c.args.ctl.now) c.args.self.now c.requires.room)
+
+pub returns-then-has_tick_work-clause-counts : goal.returns-then-has_tick_work-clause-counts
+returns-then-has_tick_work-clause-counts c =
+    counts_like c.do_commands.new.self.shape _ c.args.entries.now c.tick_of-tick.result _ c.do_commands.new.window c.do_commands.ensures.counts
+    (ap (λ (s : SchedulerState). s.shape) c.wake_all.ensures ∙ (wake_kept c.args.scenario.now c.args.now c.do_commands.new.self).shape)
+    (sym c.tick_of-tick.ensures.same)
