@@ -28,8 +28,11 @@ use Rattle.aps_laws.proofs.Performed.{performed_by}
 use Rattle.aps_ctl.specs.Pending.{all_at, given, next_at, without_next}
 use Rattle.aps_ctl.proofs.InTurn.{next_first, next_left, none_next}
 use Rattle.aps_core.specs.Calls.{AreInRange, IsInRange, all_done, command_at}
+use Rattle.aps_core.specs.Counts.{Counts}
 use Rattle.aps_core.specs.Machine.{IsMachine}
 use Rattle.aps_core.specs.Room.{HasRoomToWake}
+use Rattle.aps_core.proofs.Counting.{counts_resized}
+use Rattle.aps_window.specs.Window.{Window, resized}
 
 -- ---- the shape
 
@@ -37,6 +40,7 @@ record IsShapeKept (before after : Shape) : Type 0 where
   ranges : IsShape after
   parts : after.parts ≡ before.parts
   cpus : after.cpus ≡ before.cpus
+  tick : after.tick ≡ before.tick
 
 set_kept : (shape : Shape) (window : Option ℕ) (free : Option Free) (limit : Option Bool) (bankruptcy : Option Bankruptcy) → IfSome window IsWindow → IsShape shape
     → IsShapeKept shape (shape_set shape window free limit bankruptcy)
@@ -44,20 +48,22 @@ set_kept shape None free limit bankruptcy fits m = record {
   ranges = record { parts = m.parts; some_cpu = m.some_cpu; few_cpus = m.few_cpus; tick_long = m.tick_long; tick_short = m.tick_short; tick_whole = m.tick_whole; window_long = m.window_long; window_short = m.window_short; some_tick = m.some_tick; few_ticks = m.few_ticks; some_call = m.some_call; short_call = m.short_call };
   parts = refl;
   cpus = refl;
+  tick = refl;
 }
 set_kept shape (Some w) free limit bankruptcy fits m = record {
   ranges = record { parts = m.parts; some_cpu = m.some_cpu; few_cpus = m.few_cpus; tick_long = m.tick_long; tick_short = m.tick_short; tick_whole = m.tick_whole; window_long = fits.long; window_short = fits.short; some_tick = m.some_tick; few_ticks = m.few_ticks; some_call = m.some_call; short_call = m.short_call };
   parts = refl;
   cpus = refl;
+  tick = refl;
 }
 
 performed_kept : (parts threads : ℕ) (call : Call) (rows : List PartitionRow) (shape : Shape) (view : CtlView) → IsCall parts threads call → IsShape shape → IsShapeKept shape (perform call rows shape view).shape
 performed_kept parts threads call rows shape view fits m =
     performed_by parts threads call rows shape view (λ (done : Performed). IsShapeKept shape done.shape) fits
     (record {
-      same = λ answer mark. record { ranges = m; parts = refl; cpus = refl };
-      creates = λ name parent budget critical max named none. record { ranges = m; parts = refl; cpus = refl };
-      modifies = λ p budget critical max none. record { ranges = m; parts = refl; cpus = refl };
+      same = λ answer mark. record { ranges = m; parts = refl; cpus = refl; tick = refl };
+      creates = λ name parent budget critical max named none. record { ranges = m; parts = refl; cpus = refl; tick = refl };
+      modifies = λ p budget critical max none. record { ranges = m; parts = refl; cpus = refl; tick = refl };
       sets = λ window free limit bankruptcy range. set_kept shape window free limit bankruptcy range m;
     })
 
@@ -82,6 +88,11 @@ mark_frame : (s : SchedulerState) (rows : List PartitionRow) (shape : Shape) (o 
 mark_frame s rows shape None m = refl
 mark_frame s rows shape (Some x) None = refl
 mark_frame s rows shape (Some x) (Some on) = refl
+
+mark_shape : (s : SchedulerState) (o : Option ℕ) (m : Option Bool) → (with_mark s o m).shape ≡ s.shape
+mark_shape s None m = refl
+mark_shape s (Some x) None = refl
+mark_shape s (Some x) (Some on) = refl
 
 mark_replies : (s : SchedulerState) (o : Option ℕ) (m : Option Bool) → (with_mark s o m).replies ≡ s.replies
 mark_replies s None m = refl
@@ -123,6 +134,16 @@ few_replies s h j call answer change t p = ap (λ (u : SchedulerState). u.replie
 
 pub few_changes : (s : SchedulerState) (h : List Entry) (j : ℕ) (call : Call) (answer : Answer) (change : Option ChangeKind) (t : SchedulerState) → IsPerformed s h j call answer change t → t.changes ≡ s.changes
 few_changes s h j call answer change t p = ap (λ (u : SchedulerState). u.changes) p.leaves ∙ mark_changes s (thread_named call) _
+
+-- the window that counts as many ticks as the shape says after the command
+pub counts_performed : (parts threads : ℕ) (call : Call) (view : CtlView) (s t u : SchedulerState) (shape : Shape) (o : Option ℕ) (m : Option Bool) (h : List Entry) (j : ℕ) (w new : Window)
+    → IsCall parts threads call → IsShape s.shape → shape ≡ (perform call s.rows s.shape view).shape → Counts s.shape h j w → new ≡ resized shape.window w
+    → t.shape ≡ shape → u ≡ with_mark t o m → Counts u.shape h j new
+counts_performed parts threads call view s t u shape o m h j w new fits sized left c new_is has marked =
+    let kept : IsShapeKept s.shape shape = subst (IsShapeKept s.shape) (sym left) (performed_kept parts threads call s.rows s.shape view fits sized) in
+    let same : u.shape ≡ shape = ap (λ (v : SchedulerState). v.shape) marked ∙ mark_shape t o m ∙ has in
+    subst (λ (x : Shape). Counts x h j new) (sym same)
+    (subst (Counts shape h j) (sym new_is) (counts_resized s.shape shape h j w c kept.tick kept.ranges.window_short))
 
 -- a command with a change makes the changes longer
 pub added_change : (s : SchedulerState) (h : List Entry) (j place : ℕ) (row : CommandRow) (answer : Answer) (change : Option ChangeKind) (kind : ChangeKind) (t : SchedulerState)

@@ -8,6 +8,7 @@ pub mod Frame
 pub mod Commands
 pub mod Rows
 pub mod StepParts
+pub mod StepCounts
 pub mod Boot
 pub mod Waking
 pub mod Turns
@@ -16,7 +17,9 @@ pub mod Ready
 pub mod Taken
 pub mod Kept
 pub mod Finish
-pub mod Recent
+pub mod Counting
 pub mod Rising
+pub mod LastEnds
+pub mod FirstDue
 pub mod Recorded
 pub mod Pending

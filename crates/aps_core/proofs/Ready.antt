@@ -1,5 +1,5 @@
 -- What a step rests on holds of the step of a processor that has the turn.
-use Rattle.std.proofs.Common.{◌≡◌, ℕ, ◌-◌, ◌/◌, ◌≤◌, List, [], ◌∷◌, ◌++◌, length, sym, ◌∙◌, ap, cond, Bool, true, false, nat_eq, Option, Some, None, slice_index_or, arith, inl, inr}
+use Rattle.std.proofs.Common.{◌≡◌, ℕ, ◌-◌, ◌/◌, ◌≤◌, List, [], ◌∷◌, ◌++◌, length, refl, sym, subst, ◌+◌, ◌∙◌, ap, cond, Bool, true, false, nat_eq, Option, Some, None, slice_index_or, arith, inl, inr}
 use Rattle.std.proofs.lemmas.Bool.{cases_lt}
 use Rattle.std.proofs.lemmas.List.{get_or_past, length-append}
 use Rattle.aps_model.specs.declared.entry.Entry.{Entry}
@@ -9,13 +9,14 @@ use Rattle.aps_model.specs.declared.state.State.TheVariants.{Running}
 use Rattle.aps_model.specs.declared.state.ThreadNow.{ThreadNow}
 use Rattle.aps_model.specs.declared.command.ChangeKind.TheVariants.{Cancelled}
 use Rattle.aps_model.specs.After.{After, after, over, state_after}
-use Rattle.aps_model.specs.Bill.{Tested}
-use Rattle.aps_model.specs.Due.{HasTurn, due}
+use Rattle.aps_model.specs.Bill.{Tested, bill_of}
+use Rattle.aps_model.specs.Due.{HasTurn, due, last_end, next_boundary}
 use Rattle.aps_model.specs.Legal.{IsLegal}
 use Rattle.aps_model.specs.Scenario.{Scenario}
 use Rattle.aps_model.specs.Shape.{horizon}
 use Rattle.aps_model.specs.Step.{Step, billed, pick, settled, step, tested, unless_rebooted}
 use Rattle.aps_model.specs.Tree.{rows_cancelled}
+use Rattle.aps_model.specs.Usage.{used}
 use Rattle.aps_model.specs.SchedulerState.{SchedulerState, cpu_at, no_thread, row_at}
 use Rattle.aps_model.specs.Valid.{IsScenario}
 use Rattle.aps_model.proofs.AfterLaws.{after-append}
@@ -29,6 +30,8 @@ use Rattle.aps_laws.proofs.Mid.{tested_by}
 use Rattle.aps_laws.proofs.Programs.{row_fits}
 use Rattle.aps_laws.proofs.ReplyLaws.{few_answered}
 use Rattle.aps_laws.proofs.Servers.{runs_free}
+use Rattle.aps_laws.proofs.SmallNumbers.{usage_in_hand}
+use Rattle.aps_laws.proofs.Sound.{next_law}
 use Rattle.aps_laws.proofs.StampCounts.{few_stamps}
 use Rattle.aps_laws.proofs.StepOf.{horizon_same}
 use Rattle.aps_laws.proofs.ThreadFacts.{running_within}
@@ -117,6 +120,29 @@ tested_lists scenario s h c =
       changes = let a = before.changes in let n = length-append r.changes ((record { tick = (bill_in s h c).to / r.shape.tick; kind = Cancelled p }) ∷ []) in omega (arith, a, n);
     }
 
+-- the entry of the step has its processor and its moments from the beginning
+record IsBillOf (c from now : ℕ) (e : Entry) : Type 0 where
+  cpu : e.cpu ≡ c
+  from_is : e.from ≡ from
+  to_is : e.to ≡ now
+
+bill_says : (c from now : ℕ) (running : Option Pick) → IsBillOf c from now (bill_of c from now running)
+bill_says c from now None = record { cpu = refl; from_is = refl; to_is = refl }
+bill_says c from now (Some pick) = record { cpu = refl; from_is = refl; to_is = refl }
+
+-- with it no partition uses more in a tick than all processors have
+bills_fit : (scenario : Scenario) (order : Order) (h : List Entry) (c : ℕ) → IsScenario scenario → IsLegal scenario order h → over (after scenario h) h ≡ None → HasTurn order (state_after scenario h) h c
+    → (state_after scenario h).shape.tick ≡ scenario.shape.tick
+    → (p k : ℕ) → used (state_after scenario h).shape.tick (h ++ bill_in (state_after scenario h) h c ∷ []) p k (k + 1) ≤ 160000000
+bills_fit scenario order h c valid legal run turn same p k =
+    let s = state_after scenario h in
+    let e = bill_in s h c in
+    let says = bill_says c (last_end h c) (due s h c) (cpu_at s c).running in
+    let m = usage_in_hand scenario order h e k (k + 1) valid legal run (subst (HasTurn order s h) (sym says.cpu) turn) (says.from_is ∙ ap (last_end h) (sym says.cpu)) (says.to_is ∙ ap (due s h) (sym says.cpu)) in
+    let each = m.each p in
+    let all = m.one_tick (omega arith) in
+    subst (λ t. used t (h ++ e ∷ []) p k (k + 1) ≤ 160000000) (sym same) (omega (arith, each, all))
+
 pub ready : (scenario : Scenario) (order : Order) (h : List Entry) (c : ℕ) → IsScenario scenario → IsLegal scenario order h → length h ≤ 4000000 → over (after scenario h) h ≡ None → HasTurn order (state_after scenario h) h c
     → IsReady scenario (state_after scenario h) h c
 ready scenario order h c valid legal short run turn =
@@ -132,6 +158,7 @@ ready scenario order h c valid legal short run turn =
     ap (λ (a : After). a.state) (after-append scenario h e) ∙ ap (λ k. (step scenario s h k).state) d.own in
     let stepped = stepped_kept scenario s h c in
     let tests = tested_lists scenario s h c in
+    let n = next_law scenario order h e valid d.legal in
     let replies = few_answered scenario order (h ++ e ∷ []) valid d.legal in
     let changes = few_changes scenario order (h ++ e ∷ []) valid d.legal in
     let changes_billed : length (after_bill scenario s h c).changes ≤ 2079 =
@@ -159,4 +186,8 @@ ready scenario order h c valid legal short run turn =
       stamped_billed = b.billed'.stamped;
       stamped_settled = b.settled'.stamped;
       exists_settled = omega (arith, d.exists, counted.cpus, b.settled'.cpus);
+      same_tick = b.ticked.sizes.tick ∙ sym counted.sizes.tick;
+      rises = let l = n.rises in omega (arith, l, d.to);
+      in_tick = subst (λ z. due s h c ≤ next_boundary s.shape.tick z) d.from (let l = n.short in omega (arith, l, d.to));
+      bills_fit = bills_fit scenario order h c valid legal run turn counted.sizes.tick;
     }

@@ -1,5 +1,5 @@
 -- The parts of a step, as the code makes them.
-use Rattle.std.proofs.Common.{◌≡◌, ◌≢◌, ℕ, List, refl, sym, ◌∙◌, ap, false, true, Option, Some, None}
+use Rattle.std.proofs.Common.{◌≡◌, ◌≢◌, ℕ, List, refl, sym, subst, ◌∙◌, ap, false, true, Option, Some, None}
 use Rattle.std.specs.Prelude.{is_some}
 use Rattle.std.specs.Option.{IsSome}
 use Rattle.aps_model.specs.declared.entry.Entry.{Entry}
@@ -13,7 +13,8 @@ use Rattle.aps_model.specs.Shape.{horizon}
 use Rattle.aps_model.specs.Step.{Step, begun, billed, pick, settled, step, tested, unless_rebooted}
 use Rattle.aps_model.specs.TickWork.{tick_work}
 use Rattle.aps_laws.proofs.WaitFacts.{test_ne}
-use Rattle.aps_laws.specs.Between.{after_bill, after_tick, before_pick}
+use Rattle.aps_laws.specs.Between.{after_bill, after_tick, before_pick, bill_in}
+use Rattle.aps_core.specs.Room.{HasRoom}
 
 -- what the parts of a step before the operation leave, with the test of bankruptcy
 pub record IsTested (scenario : Scenario) (s : SchedulerState) (h : List Entry) (c now : ℕ) (running : Option Pick) (e : Entry) (t : SchedulerState) (reboot : Option ℕ) : Type 0 where
@@ -85,3 +86,13 @@ where_it_runs (Some p) kept R same holds some = holds p (sym same)
 pub none_is : (o : Option ℕ) → is_some o ≡ false → o ≡ None
 none_is None e = refl
 none_is (Some p) e = absurd cc
+
+-- where a thread ran there is room for its operation
+pub room_after : (scenario : Scenario) (s : SchedulerState) (h : List Entry) (c now : ℕ) (running : Option Pick) (e : Entry) (t : SchedulerState) (reboot : Option ℕ)
+    → IsTested scenario s h c now running e t reboot → ((p : Pick) → (cpu_at s c).running ≡ Some p → HasRoom (after_bill scenario s h c)) → IsSome running → HasRoom t
+room_after scenario s h c now None e t reboot b room some = absurd cc
+room_after scenario s h c now (Some p) e t reboot b room some =
+    let entry : e ≡ bill_in s h c = b.entry ∙ (λ i. bill_of c (last_end h c) (b.at_due i) (b.ran i)) in
+    let same : (tested (billed (begun scenario s h c now) e (Some p)) h e).state ≡ after_bill scenario s h c =
+    λ i. (tested (billed (begun scenario s h c (b.at_due i)) (entry i) (b.ran i)) h (entry i)).state in
+    subst HasRoom (sym same ∙ ap (λ (test : Tested). test.state) b.test) (room p (sym b.ran))

@@ -1,5 +1,6 @@
 pub mod Calls
 pub mod Kept
+pub mod LastEnds
 pub mod Short
 pub mod Room
 pub mod Ready
@@ -7,6 +8,7 @@ pub mod Small
 pub mod Part
 pub mod Seats
 pub mod Touched
+pub mod Counts
 pub mod Machine
 pub mod MachineView
 pub mod Run

@@ -1,11 +1,13 @@
-use Rattle.std.specs.Prelude.{◌≡◌, ℕ, ◌-◌, ◌<◌, ◌≤◌, List, length, Some}
+use Rattle.std.specs.Prelude.{◌≡◌, ℕ, ◌+◌, ◌-◌, ◌<◌, ◌≤◌, ◌++◌, List, [], ◌∷◌, length, Some}
 use Rattle.aps_model.specs.declared.entry.Entry.{Entry}
 use Rattle.aps_model.specs.declared.state.Pick.{Pick}
-use Rattle.aps_model.specs.Due.{due, last_end}
+use Rattle.aps_model.specs.Due.{due, last_end, next_boundary}
 use Rattle.aps_model.specs.Scenario.{Scenario}
 use Rattle.aps_model.specs.SchedulerState.{SchedulerState, cpu_at, thread_at}
 use Rattle.aps_model.specs.Shape.{horizon}
-use Rattle.aps_laws.specs.Between.{after_bill, after_tick, before_pick}
+use Rattle.aps_model.specs.Usage.{used}
+use Rattle.aps_laws.specs.Between.{after_bill, after_tick, before_pick, bill_in}
+use Rattle.aps_laws.specs.Moments.{moment}
 use Rattle.aps_laws.specs.Servers.{IsNobodysClient}
 use Rattle.aps_laws.specs.Stamps.{IsStamped}
 use Rattle.aps_core.specs.Room.{HasRoom, HasRoomToWake, changes_of_a_run, last_place, stamps_before}
@@ -32,3 +34,7 @@ pub record IsReady (scenario : Scenario) (s : SchedulerState) (h : List Entry) (
   pub stamped_billed : IsStamped (after_bill scenario s h c).threads (after_bill scenario s h c).stamps
   pub stamped_settled : IsStamped (before_pick scenario s h c).threads (before_pick scenario s h c).stamps
   pub exists_settled : c < length (before_pick scenario s h c).cpus
+  pub same_tick : (after_tick scenario s h c).shape.tick ≡ s.shape.tick
+  pub rises : moment h ≤ due s h c
+  pub in_tick : due s h c ≤ next_boundary s.shape.tick (last_end h c)
+  pub bills_fit : (p k : ℕ) → used s.shape.tick (h ++ bill_in s h c ∷ []) p k (k + 1) ≤ 160000000

@@ -1,38 +1,12 @@
-ghost use Rattle.std.specs.Prelude.{◌≡◌, ◌+◌, ◌<◌, ◌≤◌, All, IfSome, nat_eq};
+ghost use Rattle.std.specs.Prelude.{◌≡◌, ◌+◌, ◌<◌, ◌≤◌, IfSome, nat_eq};
 ghost use Rattle.std.specs.List.{list_any};
 ghost use Rattle.aps_model.specs.declared.entry.Entry.{Entry as EntryOf};
 ghost use Rattle.aps_model.specs.After.{stands_at};
-ghost use Rattle.aps_model.specs.Due.{last_to, last_end, next_boundary, due_at};
-ghost use Rattle.aps_model.specs.History.{IsEntry};
+ghost use Rattle.aps_model.specs.Due.{next_boundary, due_at};
 ghost use Rattle.aps_model.specs.Shape.{IsShape, horizon};
 ghost use Rattle.aps_core.specs.Rising.{IsRising};
 
-use aps_model::{CpuId, Entry, Nanos, Shape};
-
-/// Where the processor's last entry ended. It is found from the end of the history, where it mostly stands.
-pub fn last_to(entries: &[Entry], cpu: CpuId) -> Option<Nanos>
-    requires { All IsEntry entries.now }
-    ensures same { result ≡ last_to entries.now cpu }
-    ensures within { IfSome result (λ to. to ≤ 10000000000000) }
-{
-    let mut left = entries.len();
-    while left > 0 {
-        left -= 1;
-        if entries[left].cpu == cpu {
-            return Some(entries[left].to);
-        }
-    }
-    None
-}
-
-/// The same, or 0 where it has no entry.
-pub fn last_end(entries: &[Entry], cpu: CpuId) -> Nanos
-    requires { All IsEntry entries.now }
-    ensures same { result ≡ last_end entries.now cpu }
-    ensures within { result ≤ 10000000000000 }
-{
-    last_to(entries, cpu).unwrap_or(0)
-}
+use aps_model::{Entry, Nanos, Shape};
 
 /// Whether a processor's last entry ended at this moment.
 pub fn stands_at(moment: Nanos, last: Option<Nanos>) -> bool

@@ -5,6 +5,7 @@
 mod append;
 mod carried;
 mod due;
+mod ends;
 mod machine;
 mod merit;
 mod recording;

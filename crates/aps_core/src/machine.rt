@@ -6,6 +6,9 @@ ghost use Rattle.aps_model.specs.History.{IsEntry};
 ghost use Rattle.aps_model.specs.Shape.{horizon};
 ghost use Rattle.aps_model.specs.Step.{pick, step};
 ghost use Rattle.aps_model.specs.Valid.{IsScenario};
+ghost use Rattle.aps_laws.specs.Moments.{moment};
+ghost use Rattle.aps_core.specs.Counts.{Counts};
+ghost use Rattle.aps_core.specs.LastEnds.{AreEnds};
 ghost use Rattle.aps_core.specs.Kept.{IsKept};
 ghost use Rattle.aps_core.specs.Pending.{IsPending};
 ghost use Rattle.aps_core.specs.Ready.{IsReady};
@@ -31,6 +34,7 @@ mod threads;
 mod triple;
 pub mod wake;
 
+use crate::ends::Ends;
 use crate::{carried, due, usage};
 use aps_ctl::Ctl;
 use aps_model::{
@@ -39,6 +43,7 @@ use aps_model::{
 };
 use aps_ready::{Gates, Ready};
 use aps_tree::Tree;
+use aps_window::Window;
 use channel::Channel;
 use std::marker::Model;
 use triple::Triples;
@@ -75,9 +80,10 @@ impl Model for Machine {
 
 impl Machine {
     /// When the processor steps next.
-    pub fn due(&self, entries: &[Entry], cpu: CpuId) -> Nanos
+    pub fn due(&self, entries: &[Entry], ends: &Ends, cpu: CpuId) -> Nanos
         requires cpu { cpu < length self.now.cpus }
         requires entries { All IsEntry entries.now }
+        requires ends { AreEnds entries.now ends.now }
         ensures { result ≡ due self.now entries.now cpu }
     {
         let now = &self.cpus[cpu.index()];
@@ -85,34 +91,40 @@ impl Machine {
             None => None,
             Some(pick) => self.thread(pick.thread).left,
         };
-        due::due_at(&self.shape, now.flag, due::last_to(entries, cpu), left)
+        due::due_at(&self.shape, now.flag, ends.last_to(entries, cpu), left)
     }
 
     /// The lowest of the processors that are due least.
-    pub fn first_due(&self, entries: &[Entry]) -> CpuId
-        requires { All IsEntry entries.now }
+    pub fn first_due(&self, entries: &[Entry], ends: &Ends) -> CpuId
+        requires entries { All IsEntry entries.now }
+        requires ends { AreEnds entries.now ends.now }
         ensures same { result ≡ first_due self.now entries.now self.now.shape.cpus }
         ensures within { result < length self.now.cpus }
     {
+        let count = self.cpus.len();
         let mut first = CpuId::at(0);
-        for c in 0..self.cpus.len() {
+        let mut least = self.due(entries, ends, first);
+        for c in 0..count {
             let cpu = CpuId::at(c);
-            if self.due(entries, cpu) < self.due(entries, first) {
+            let due = self.due(entries, ends, cpu);
+            if due < least {
                 first = cpu;
+                least = due;
             }
         }
         first
     }
 
     /// Whether each processor has stepped at the horizon.
-    pub fn is_at_horizon(&self, entries: &[Entry]) -> bool
-        requires { All IsEntry entries.now }
+    pub fn is_at_horizon(&self, entries: &[Entry], ends: &Ends) -> bool
+        requires entries { All IsEntry entries.now }
+        requires ends { AreEnds entries.now ends.now }
         ensures { result ≡ is_at_horizon self.now entries.now }
     {
         let horizon = self.horizon();
         let mut all = true;
         for c in 0..self.cpus.len() {
-            let stands = due::stands_at(horizon, due::last_to(entries, CpuId::at(c)));
+            let stands = due::stands_at(horizon, ends.last_to(entries, CpuId::at(c)));
             all = carried::both(all, stands);
         }
         all
@@ -123,6 +135,8 @@ impl Machine {
     fn pick(
         &mut self,
         entries: &[Entry],
+        ends: &Ends,
+        window: &Window,
         parts: &mut [PartFacts],
         ready: &mut Ready,
         cpu: CpuId,
@@ -131,19 +145,16 @@ impl Machine {
         requires one_each { length parts.old ≡ length self.old.rows }
         requires cpu { cpu < length self.old.cpus }
         requires entries { All IsEntry entries.now }
-        requires rising { IsRising entries.now }
-        requires few { length entries.now ≤ 4000000 }
-        requires entry { IsEntry e }
-        requires within { e.to ≤ horizon self.old.shape }
         requires seats { ready.old ≡ seats_of self.old }
+        requires ends { AreEnds entries.now ends.now }
+        requires counts { Counts self.old.shape (entries.now ++ e ∷ []) (e.to / self.old.shape.tick) window.now }
         ensures same { pick self.old entries.now cpu e.to e ≡ record { entry = result; state = self.new; reboot = None } }
         ensures parts { length parts.new ≡ length parts.old }
         ensures kept { IsKept self.old self.new }
         ensures seats { ready.new ≡ seats_of self.new }
     {
         let now = e.to;
-        let tick = self.tick_of(now);
-        usage::fill_parts(&self.shape, self.tree.rows(), entries, &e, tick, parts);
+        usage::fill_parts(&self.shape, self.tree.rows(), window, parts);
         let gates = Gates::of(parts);
         let starved = ready.missing_by(gates);
         let best = self.greatest(ready, gates, parts);
@@ -151,7 +162,7 @@ impl Machine {
         self.choose(parts, cpu, best);
         seats::take_picked(ready, &picked);
         let left = self.greatest(ready, gates, parts);
-        let flagged = self.flag_for(entries, parts, cpu, now, &left);
+        let flagged = self.flag_for(entries, ends, parts, cpu, now, &left);
         self.flag(now, &flagged);
         Entry {
             picked,
@@ -184,6 +195,8 @@ impl Machine {
         &mut self,
         scenario: &Scenario,
         entries: &[Entry],
+        ends: &Ends,
+        window: &mut Window,
         parts: &mut [PartFacts],
         ready: &mut Ready,
         sleepers: &mut Sleepers,
@@ -196,20 +209,24 @@ impl Machine {
         requires room { length parts.old ≡ 32 }
         requires seats { ready.old ≡ seats_of self.old }
         requires entries { All IsEntry entries.now }
+        requires ends { AreEnds entries.now ends.now }
         requires rising { IsRising entries.now }
-        requires few { length entries.now ≤ 4000000 }
+        requires counts { Counts self.old.shape entries.now (moment entries.now / self.old.shape.tick) window.old }
         ensures same { step scenario.now self.old entries.now cpu ≡ record { entry = result.0; state = self.new; reboot = result.1 } }
         ensures pending { IsPending scenario.now self.old.shape.tick (entries.now ++ result.0 ∷ []) ctl.new }
+        ensures counts { Counts self.new.shape (entries.now ++ result.0 ∷ []) (result.0.to / self.new.shape.tick) window.new }
         ensures parts { length parts.new ≡ length parts.old }
         ensures seats { ready.new ≡ seats_of self.new }
     {
-        let now = self.due(entries, cpu);
-        let from = due::last_end(entries, cpu);
+        let now = self.due(entries, ends, cpu);
+        let from = ends.last_end(entries, cpu);
+        usage::go_on(window, self.tick_of(now));
         let running = self.begin(cpu);
-        let commanded = self.work_tick(scenario, entries, sleepers, ctl, now);
+        let commanded = self.work_tick(scenario, entries, window, sleepers, ctl, now);
         let e = bill::bill_of(cpu, from, now, &running);
+        usage::add_time(window, &self.shape, &e);
         self.bill(&e, &running);
-        let reboot = self.test(entries, &e);
+        let reboot = self.test(entries, window, &e);
         if reboot.is_some() {
             self.sync_all(ready);
             return (e, reboot);
@@ -223,6 +240,8 @@ impl Machine {
         let count = self.tree.count() as usize;
         let picked = self.pick(
             entries,
+            ends,
+            window,
             &mut parts[..count],
             ready,
             cpu,

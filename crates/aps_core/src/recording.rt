@@ -1,13 +1,15 @@
 //! What a step of the machine recorded goes into the history.
-ghost use Rattle.std.specs.Prelude.{◌≡◌, ◌<◌, ◌≤◌, ◌++◌, List, length, All, None};
+ghost use Rattle.std.specs.Prelude.{◌≡◌, ◌<◌, ◌≤◌, ◌++◌, List, [], ◌∷◌, length, All, None};
 ghost use Rattle.aps_model.specs.declared.command.Change.{Change as ChangeOf};
 ghost use Rattle.aps_model.specs.declared.command.Reply.{Reply as ReplyOf};
 ghost use Rattle.aps_model.specs.After.{is_at_horizon, or_limit, over_by};
 ghost use Rattle.aps_model.specs.History.{IsEntry};
 ghost use Rattle.aps_model.specs.Partition.{IsRow};
 ghost use Rattle.aps_core.specs.CanRecord.{CanRecord};
+ghost use Rattle.aps_core.specs.LastEnds.{AreEnds};
 ghost use Rattle.aps_core.specs.Run.{with_last};
 
+use crate::ends::Ends;
 use crate::machine::Machine;
 use aps_model::{Change, End, Entry, History, PartitionId, PartitionRow, Reply};
 
@@ -17,6 +19,7 @@ pub fn record(
     history: &mut History,
     e: Entry,
     machine: &Machine,
+    ends: &Ends,
     reboot: Option<PartitionId>,
     limit: u32,
 )
@@ -24,6 +27,7 @@ pub fn record(
     requires entry { IsEntry e }
     requires goes_on { history.old.end ≡ None }
     requires machine { CanRecord history.old machine.now }
+    requires ends { AreEnds (history.old.entries ++ e ∷ []) ends.now }
     ensures { history.new ≡ with_last history.old limit reboot machine.now e }
 {
     add_replies(history, machine.replies());
@@ -31,7 +35,7 @@ pub fn record(
     set_rows(history, machine.rows());
     history.set_shape(*machine.shape());
     history.add_entry(e);
-    if let Some(end) = end_after(machine, reboot, history.entries(), limit) {
+    if let Some(end) = end_after(machine, ends, reboot, history.entries(), limit) {
         history.set_end(end);
     }
 }
@@ -73,16 +77,18 @@ fn set_rows(history: &mut History, rows: &[PartitionRow])
 /// The end of a run that has these entries and left this machine, and perhaps a partition for which it ends.
 fn end_after(
     machine: &Machine,
+    ends: &Ends,
     reboot: Option<PartitionId>,
     entries: &[Entry],
     limit: u32,
 ) -> Option<End>
-    requires { All IsEntry entries.now }
+    requires entries { All IsEntry entries.now }
+    requires ends { AreEnds entries.now ends.now }
     ensures { result ≡ or_limit (over_by reboot (is_at_horizon machine.now entries.now)) limit (length entries.now) }
 {
     if let Some(p) = reboot {
         Some(End::Reboot(p))
-    } else if machine.is_at_horizon(entries) {
+    } else if machine.is_at_horizon(entries, ends) {
         Some(End::Horizon)
     } else if entries.len() == limit as usize {
         Some(End::Limit)

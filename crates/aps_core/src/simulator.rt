@@ -17,6 +17,7 @@ ghost use Rattle.aps_core.specs.Turn.{HasTurnIn, IsFed, IsOwn, IsTaken, IsTurn, 
 
 mod reading;
 
+use crate::ends::Ends;
 use crate::machine::Machine;
 use crate::machine::wake::Sleepers;
 use crate::recording;
@@ -25,6 +26,7 @@ use crate::turn::Turn;
 use aps_ctl::Ctl;
 use aps_model::{CpuId, End, Entry, History, Nanos, NoMemory, Order, PartFacts, Scenario};
 use aps_ready::Ready;
+use aps_window::Window;
 use std::alloc::Global;
 use std::marker::Model;
 
@@ -36,6 +38,8 @@ pub struct Core {
     order: Order,
     limit: u32,
     machine: Machine,
+    ends: Ends,
+    window: Window,
     parts: Vec<PartFacts>,
     ready: Ready,
     sleepers: Sleepers,
@@ -68,6 +72,8 @@ impl Core {
         ensures { IfOk result (λ core. core ≡ record { setup = record { scenario = scenario; order = order; limit = limit }; entries = [] }) }
     {
         let machine = Machine::boot(alloc, &scenario)?;
+        let ends = Ends::new();
+        let window = Window::new(alloc, scenario.shape().window)?;
         let parts = start_parts(alloc, MOST_PARTITIONS)?;
         let ready = machine.start_ready(alloc)?;
         let sleepers = Sleepers::new(alloc)?;
@@ -80,6 +86,8 @@ impl Core {
             order,
             limit,
             machine,
+            ends,
+            window,
             parts,
             ready,
             sleepers,
@@ -92,7 +100,7 @@ impl Core {
         requires { cpu < self.now.setup.scenario.shape.cpus }
         ensures { result ≡ due (state_of self.now) self.now.entries cpu }
     {
-        self.machine.due(self.history.entries(), cpu)
+        self.machine.due(self.history.entries(), &self.ends, cpu)
     }
 
     /// The order of turns.
@@ -208,7 +216,7 @@ impl Core {
         ensures exists { result < self.now.setup.scenario.shape.cpus }
         ensures keeps { IsUnderWay self.now }
     {
-        self.machine.first_due(self.history.entries())
+        self.machine.first_due(self.history.entries(), &self.ends)
     }
 
     /// Whether the processor has the turn, where this is the lowest that has it.
@@ -238,15 +246,25 @@ impl Core {
         let (e, reboot) = self.machine.step(
             self.history.scenario(),
             self.history.entries(),
+            &self.ends,
+            &mut self.window,
             self.parts.as_mut_slice(),
             &mut self.ready,
             &mut self.sleepers,
             &mut self.ctl,
             cpu,
         );
+        self.ends.add(&e);
         // the check wants a copy of its own of what is handed on and answered too
         let added = e;
-        recording::record(&mut self.history, added, &self.machine, reboot, self.limit);
+        recording::record(
+            &mut self.history,
+            added,
+            &self.machine,
+            &self.ends,
+            reboot,
+            self.limit,
+        );
         e
     }
 }

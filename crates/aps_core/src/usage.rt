@@ -1,111 +1,83 @@
-//! What each partition used in a window, and how it stands by that.
-ghost use Rattle.std.specs.Prelude.{◌≡◌, ◌+◌, ◌-◌, ◌*◌, ◌<◌, ◌≤◌, ◌^◌, ◌++◌, [], ◌∷◌, length, take, All, slice_index};
-ghost use Rattle.aps_model.specs.Budget.{all_parts};
+//! The window of ticks, as the steps turn it, and how each partition stands by it.
+ghost use Rattle.std.specs.Prelude.{◌≡◌, ℕ, ◌-◌, ◌≤◌, ◌++◌, List, [], ◌∷◌, length, All};
+ghost use Rattle.aps_model.specs.declared.entry.Entry.{Entry as EntryOf};
 ghost use Rattle.aps_model.specs.History.{IsEntry};
 ghost use Rattle.aps_model.specs.Partition.{IsRow};
 ghost use Rattle.aps_model.specs.Shape.{IsShape};
-ghost use Rattle.aps_model.specs.Sums.{IsAtMost, IsUsage};
+ghost use Rattle.aps_window.specs.Window.{advanced, resized};
+ghost use Rattle.aps_core.specs.Counts.{CanBill, Counts, parts_in};
 ghost use Rattle.aps_core.specs.Part.{part_of};
-ghost use Rattle.aps_core.specs.Rising.{IsRising};
 ghost use Rattle.aps_core.specs.Small.{IsSmall};
 
-use aps_model::{Entry, Nanos, PartFacts, PartitionRow, Shape, Usage, has_allowance, overlap};
+use aps_model::{Entry, Nanos, PartFacts, PartitionId, PartitionRow, Shape, has_allowance};
+use aps_window::Window;
 
-/// How many entries, from the front, ended at or before this moment. It is found from the end of the history.
-fn past(entries: &[Entry], moment: Nanos) -> usize
-    requires { IsRising entries.now }
-    ensures within { result ≤ length entries.now }
-    ensures past { All (λ e. e.to ≤ moment) (take result entries.now) }
+/// The window goes on to this tick.
+pub fn go_on(window: &mut Window, tick: u64)
+    requires forward { window.old.tick ≤ tick }
+    requires few { tick ≤ 1000000 }
+    ensures { window.new ≡ advanced (tick - window.old.tick) window.old }
 {
-    let mut left = entries.len();
-    while left > 0 && entries[left - 1].to > moment {
-        left -= 1;
+    let ticks = tick as u32 - window.tick();
+    if ticks > 0 {
+        window.advance(ticks);
     }
-    left
 }
 
-/// The first tick of the window at tick `j`.
-fn first_tick(shape: &Shape, j: u64) -> u64
-    requires { j ≤ 1000000 }
-    ensures { result ≡ j + 1 - shape.now.window }
-{
-    (j + 1).saturating_sub(u64::from(shape.window))
-}
-
-/// What each partition used in the window at tick `j`. The entries that ended before the window are passed over.
-pub fn window_usage(shape: &Shape, entries: &[Entry], j: u64) -> Usage
+/// The window counts as many ticks as the shape says. It counted as many as it said before.
+pub fn resize(window: &mut Window, before: u16, shape: &Shape)
+    requires before { window.old.span ≡ before }
     requires shape { IsShape shape.now }
-    requires entries { All IsEntry entries.now }
-    requires rising { IsRising entries.now }
-    requires few { length entries.now ≤ 4000000 }
-    requires j { j ≤ 1000000 }
-    ensures sums { IsUsage shape.now.tick (j + 1 - shape.now.window) (j + 1) entries.now result }
-    ensures small { IsAtMost 40000000000000 result }
+    ensures { window.new ≡ resized shape.now.window window.old }
 {
-    let first = first_tick(shape, j);
-    let recent = &entries[past(entries, first * shape.tick)..];
-    Usage::of(recent, shape.tick, first, j + 1)
+    if shape.window != before {
+        window.resize(shape.window);
+    }
 }
 
-/// The same, with a last entry.
-pub fn usage_with(shape: &Shape, entries: &[Entry], last: &Entry, j: u64) -> Usage
+/// The window has the time of one entry more.
+pub fn add_time(window: &mut Window, shape: &Shape, e: &Entry)
     requires shape { IsShape shape.now }
-    requires entries { All IsEntry entries.now }
-    requires rising { IsRising entries.now }
-    requires few { length entries.now ≤ 4000000 }
-    requires last { IsEntry last.now }
-    requires j { j ≤ 1000000 }
-    ensures sums { IsUsage shape.now.tick (j + 1 - shape.now.window) (j + 1) (entries.now ++ last.now ∷ []) result }
-    ensures small { IsAtMost 40000010000000 result }
+    requires entry { IsEntry e.now }
+    requires room { CanBill shape.now.tick window.old e.now }
+    ensures { (h : List EntryOf) (j : ℕ) → Counts shape.now h j window.old → Counts shape.now (h ++ e.now ∷ []) j window.new }
 {
-    let mut usage = window_usage(shape, entries, j);
-    let ns = overlap(shape.tick, first_tick(shape, j), j + 1, last.from, last.to);
-    usage.bill(last, ns);
-    usage
+    if let Some(p) = e.billed {
+        if e.from < e.to {
+            let tick = (e.from / shape.tick) as u32;
+            window.bill_at(p, tick, e.to - e.from, e.critical);
+        }
+    }
 }
 
-/// The partition by what it used in the window.
-fn part_of(shape: &Shape, row: &PartitionRow, usage: &Usage, p: usize) -> PartFacts
+/// The partition by its row, what it used, and what of that was critical.
+fn part_of(shape: &Shape, row: &PartitionRow, spent: Nanos, critical: Nanos) -> PartFacts
     requires shape { IsShape shape.now }
     requires row { IsRow row.now }
-    requires p { p < 32 }
-    requires few { IsAtMost 40000010000000 usage.now }
-    ensures same { result ≡ part_of shape.now row.now (slice_index usage.now.used p) (slice_index usage.now.critical p) }
+    requires few { spent ≤ 64000000000 }
+    ensures same { result ≡ part_of shape.now row.now spent critical }
     ensures small { IsSmall result }
 {
-    let spent = usage.used[p];
     PartFacts {
         funded: has_allowance(spent, row.budget, shape),
-        standing: usage.critical[p] < row.critical,
+        standing: critical < row.critical,
         shut: shape.limit && !has_allowance(spent, row.max, shape),
         used: spent,
         budget: row.budget,
     }
 }
 
-/// Each partition in the window at tick `j`, over these entries and the last one.
-pub fn fill_parts(
-    shape: &Shape,
-    rows: &[PartitionRow],
-    entries: &[Entry],
-    last: &Entry,
-    j: u64,
-    parts: &mut [PartFacts],
-)
+/// Each partition by its row and what the window has of it.
+pub fn fill_parts(shape: &Shape, rows: &[PartitionRow], window: &Window, parts: &mut [PartFacts])
     requires shape { IsShape shape.now }
     requires few_rows { length rows.now ≤ 32 }
     requires rows { All IsRow rows.now }
     requires one_each { length parts.old ≡ length rows.now }
-    requires entries { All IsEntry entries.now }
-    requires rising { IsRising entries.now }
-    requires few { length entries.now ≤ 4000000 }
-    requires last { IsEntry last.now }
-    requires j { j ≤ 1000000 }
-    ensures same { parts.new ≡ all_parts shape.now rows.now (entries.now ++ last.now ∷ []) j }
+    ensures same { parts.new ≡ parts_in shape.now rows.now window.now }
     ensures small { All IsSmall parts.new }
 {
-    let usage = usage_with(shape, entries, last, j);
     for p in 0..rows.len() {
-        parts[p] = part_of(shape, &rows[p], &usage, p);
+        let id = PartitionId::at(p);
+        parts[p] = part_of(shape, &rows[p], window.used(id), window.critical_used(id));
     }
 }

@@ -13,10 +13,11 @@ use Rattle.aps_window.specs.Account.{IsAccount, account_moved, account_of, accou
 use Rattle.aps_window.specs.Bills.{Bill, bills_critical, bills_used}
 use Rattle.aps_window.specs.Slots.{IsSlot, no_slot, no_slots, slot_at, slots_billed, slots_moved, slots_total}
 use Rattle.aps_window.specs.StandsFor.{StandsFor}
+use Rattle.aps_window.specs.Whole.{IsWhole}
 use Rattle.aps_window.specs.Window.{Window, advanced, billed, billed_on, opened, resized, slots_of, total_of}
 use Rattle.aps_window.specs.WindowView.{Keeps, window_of}
 use Rattle.aps_window.proofs.Moves.{advanced_is, map_moved_min}
-use Rattle.aps_window.proofs.Stands.{IsWhole, total_stands}
+use Rattle.aps_window.proofs.Stands.{total_stands}
 use Rattle.aps_window.proofs.Totals.{account_total, billed_are_slots, is_account, length-moved, moved_are_slots}
 
 pub whole_of : (inside : Inside) (window : Window) → Keeps inside → window_of inside ≡ window → IsWhole window

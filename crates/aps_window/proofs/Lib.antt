@@ -1,4 +1,5 @@
 pub mod Accounts
+pub mod Entries
 pub mod Moves
 pub mod Stands
 pub mod Sums

@@ -1,15 +1,16 @@
 -- Each call keeps what a window stands for.
-use Rattle.std.proofs.Common.{◌≡◌, ℕ, ◌+◌, ◌-◌, ◌<◌, ◌≤◌, ◌≢◌, ◌⊎◌, inl, inr, zero, suc, List, [], ◌∷◌, Bool, true, false, length, refl, sym, ap, ◌∙◌, arith, sum_by, subst, if◌then◌else◌}
+use Rattle.std.proofs.Common.{◌≡◌, ℕ, ◌+◌, ◌-◌, ◌<◌, ◌≤◌, ◌≢◌, ◌⊎◌, inl, inr, zero, suc, List, [], ◌∷◌, Bool, true, false, length, length-set, refl, sym, ap, ◌∙◌, arith, sum_by, subst, if◌then◌else◌}
 use Rattle.std.specs.List.{All}
-use Rattle.std.proofs.lemmas.Bool.{cases_order}
+use Rattle.std.proofs.lemmas.Bool.{cases_lt, cases_order}
 use Rattle.std.proofs.lemmas.Grind.{get_or-set_at}
-use Rattle.std.proofs.lemmas.List.{get_or-map, get_or-replicate, get_or-set_other, get_or-take, length-map, length-take}
-use Rattle.std.proofs.lemmas.List.Elements.{All-cons, All-get_or, All-map, All-nil, All-weaker}
+use Rattle.std.proofs.lemmas.List.{get_or-map, get_or-replicate, get_or-set_other, get_or-take, length-map, length-replicate, length-take, set_past}
+use Rattle.std.proofs.lemmas.List.Elements.{All-cons, All-get_or, All-map, All-nil, All-replicate, All-set, All-weaker}
 use Rattle.std.proofs.lemmas.List.Sums.{sum_by-cons, sum_by-le-sum_by}
 use Rattle.aps_window.specs.declared.slot.Slot.{Slot}
 use Rattle.aps_window.specs.Bills.{Bill, all_time, critical_time, lies_in, time_in}
 use Rattle.aps_window.specs.Slots.{no_slot, no_slots, slot_at, slot_billed, slots_billed, slots_rotated}
 use Rattle.aps_window.specs.StandsFor.{StandsFor}
+use Rattle.aps_window.specs.Whole.{IsWhole}
 use Rattle.aps_window.specs.Window.{Window, advanced, billed, billed_on, opened, resized, rotated, slots_of, total_of}
 use Rattle.aps_window.proofs.Sums.{sum_of_slots, sum_past, time_elsewhere, time_here, time_of_others}
 
@@ -26,11 +27,6 @@ away_from now tick age past other = elim (cases_order tick (now - age)) [
   | inl same ↦ inr (omega arith)
   | inr differ ↦ elim differ [ inl less ↦ inl less | inr more ↦ inr (omega arith) ]
 ]
-
--- 32 partitions of 400 slots each
-pub record IsWhole (window : Window) : Type 0 where
-  pub count : length window.slots ≡ 32
-  pub full : All (λ (slots : List Slot). length slots ≡ 400) window.slots
 
 pub full_of : (window : Window) (p : ℕ) → IsWhole window → p < 32 → length (slots_of window p) ≡ 400
 full_of window p whole inside =
@@ -122,6 +118,30 @@ advanced_stands zero window bills whole stands = stands
 advanced_stands (suc ticks) window bills whole stands =
     rotated_stands (advanced ticks window) bills (advanced_whole ticks window whole)
     (advanced_stands ticks window bills whole stands)
+
+pub opened_whole : (span : ℕ) → IsWhole (opened span)
+unfolding no_slots
+opened_whole span = record {
+  count = length-replicate 32 no_slots;
+  full = All-replicate (λ (slots : List Slot). length slots ≡ 400) 32 no_slots (length-replicate 400 no_slot);
+}
+
+-- also where there is no such partition
+pub billed_whole : (window : Window) (p tick ns : ℕ) (critical : Bool) → IsWhole window
+    → IsWhole (billed window p tick ns critical)
+billed_whole window p tick ns critical whole =
+    let slots = slots_of window p in
+    let next = slots_billed slots (window.tick - tick) ns critical in
+    record {
+      count = length-set window.slots p next ∙ whole.count;
+      full = elim (cases_lt p (length window.slots)) [
+        | inl inside ↦ All-set (λ (slots : List Slot). length slots ≡ 400) window.slots p next
+            (length-set slots (window.tick - tick) (slot_billed (slot_at slots (window.tick - tick)) ns critical)
+            ∙ full_of window p whole (omega (arith, whole.count, inside))) whole.full
+        | inr past ↦ subst (All (λ (slots : List Slot). length slots ≡ 400)) (sym (set_past window.slots p next past))
+            whole.full
+      ];
+    }
 
 -- the span doesn't show in what a window stands for
 pub resized_stands : (span : ℕ) (window : Window) (bills : List Bill) → StandsFor window bills

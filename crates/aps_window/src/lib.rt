@@ -3,6 +3,7 @@
 #![tactic(auto)]
 
 mod account;
+mod laws;
 mod slot;
 #[cfg(test)]
 mod tests;

@@ -54,6 +54,14 @@ impl Window {
         })
     }
 
+    /// The current tick.
+    pub fn tick(&self) -> u32
+        ensures same { result ≡ self.now.tick }
+        ensures few { result ≤ 100000000 }
+    {
+        self.tick
+    }
+
     /// Bills so many ns to a partition in a tick, which is the current one or the one before. Condition: the bills of
     /// the partition in that tick, this one included, sum to at most 160,000,000 ns.
     pub fn bill(&mut self, p: PartitionId, tick: u32, ns: u64, critical: bool)

@@ -1,16 +1,15 @@
-ghost use Rattle.std.specs.Prelude.{◌≡◌, ◌≤◌, ◌++◌, ◌∷◌, [], ◌/◌, length, All};
+ghost use Rattle.std.specs.Prelude.{◌≡◌, ◌≤◌, ◌++◌, ◌∷◌, [], ◌/◌, length};
 ghost use Rattle.aps_model.specs.Bill.{bankrupt, cancel};
-ghost use Rattle.aps_model.specs.History.{IsEntry};
 ghost use Rattle.aps_model.specs.SchedulerState.{row_at};
 ghost use Rattle.aps_model.specs.Shape.{horizon};
 ghost use Rattle.aps_model.specs.Step.{tested};
-ghost use Rattle.aps_core.specs.Rising.{IsRising};
+ghost use Rattle.aps_core.specs.Counts.{Counts};
 ghost use Rattle.aps_core.specs.Room.{changes_of_a_run};
 
 use super::Machine;
 use crate::append::push_change;
-use crate::usage;
 use aps_model::{Bankruptcy, Change, ChangeKind, Entry, Nanos, PartitionId};
+use aps_window::Window;
 
 impl Machine {
     /// The critical budget of a partition, in ns.
@@ -25,21 +24,15 @@ impl Machine {
 
     /// The partition that the entry, which comes last, makes bankrupt: it bills critical time, and the partition's
     /// critical usage in the window then exceeds its critical budget.
-    fn bankrupt(&self, entries: &[Entry], e: &Entry) -> Option<PartitionId>
-        requires entries { All IsEntry entries.now }
-        requires rising { IsRising entries.now }
-        requires few { length entries.now ≤ 4000000 }
-        requires entry { IsEntry e.now }
-        requires within { e.now.to ≤ horizon self.now.shape }
+    fn bankrupt(&self, entries: &[Entry], window: &Window, e: &Entry) -> Option<PartitionId>
+        requires counts { Counts self.now.shape (entries.now ++ e.now ∷ []) (e.now.to / self.now.shape.tick) window.now }
         ensures { result ≡ bankrupt self.now (entries.now ++ e.now ∷ []) e.now }
     {
         if !e.critical || e.from >= e.to {
             return None;
         }
         let p = e.billed?;
-        let tick = self.tick_of(e.to);
-        let usage = usage::usage_with(&self.shape, entries, e, tick);
-        if self.critical_budget(p) < usage.critical[p.index()] {
+        if self.critical_budget(p) < window.critical_used(p) {
             Some(p)
         } else {
             None
@@ -63,16 +56,13 @@ impl Machine {
 
     /// The test of bankruptcy after the bill of an entry, by the policy that stands. The answer is the partition for which
     /// the run ends.
-    pub fn test(&mut self, entries: &[Entry], e: &Entry) -> Option<PartitionId>
-        requires entries { All IsEntry entries.now }
-        requires rising { IsRising entries.now }
-        requires few { length entries.now ≤ 4000000 }
-        requires entry { IsEntry e.now }
+    pub fn test(&mut self, entries: &[Entry], window: &Window, e: &Entry) -> Option<PartitionId>
+        requires counts { Counts self.old.shape (entries.now ++ e.now ∷ []) (e.now.to / self.old.shape.tick) window.now }
         requires within { e.now.to ≤ horizon self.old.shape }
         requires changes { length (tested self.old entries.now e.now).state.changes ≤ changes_of_a_run }
         ensures { tested self.old entries.now e.now ≡ record { state = self.new; reboot = result } }
     {
-        let p = self.bankrupt(entries, e)?;
+        let p = self.bankrupt(entries, window, e)?;
         match self.shape.bankruptcy {
             Bankruptcy::Basic => None,
             Bankruptcy::Cancel => {

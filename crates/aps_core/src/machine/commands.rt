@@ -1,20 +1,17 @@
-ghost use Rattle.std.specs.Prelude.{◌≡◌, ◌≢◌, ℕ, ◌*◌, ◌<◌, ◌≤◌, length, map, All};
-ghost use Rattle.std.specs.List.{range_with_len};
+ghost use Rattle.std.specs.Prelude.{◌≡◌, ◌≢◌, ℕ, ◌<◌, ◌≤◌, length};
 ghost use Rattle.std.specs.Option.{option_map};
-ghost use Rattle.aps_model.specs.History.{IsEntry};
-ghost use Rattle.aps_model.specs.Shape.{IsShape};
 ghost use Rattle.aps_model.specs.TickWork.{do_command, thread_named, thread_view, view_of, with_mark};
-ghost use Rattle.aps_model.specs.Usage.{window_used, window_critical};
 ghost use Rattle.aps_ctl.specs.Pending.{all_at};
 ghost use Rattle.aps_core.specs.Calls.{AreInRange, IsInRange, all_done, command_at};
-ghost use Rattle.aps_core.specs.Rising.{IsRising};
+ghost use Rattle.aps_core.specs.Counts.{Counts, critical_in, used_in};
 ghost use Rattle.aps_core.specs.Room.{changes_of_a_run};
 
 use super::Machine;
 use crate::append::{push_change, push_reply};
 use crate::usage;
 use aps_ctl::{Ctl, change_by, mark_by, perform};
-use aps_model::{Call, Change, CtlView, Entry, Nanos, Reply, Shape, ThreadId, ThreadView};
+use aps_model::{Call, Change, CtlView, Entry, Nanos, PartitionId, Reply, ThreadId, ThreadView};
+use aps_window::Window;
 
 /// The thread that a command names.
 fn thread_named(call: &Call) -> Option<ThreadId>
@@ -28,23 +25,17 @@ fn thread_named(call: &Call) -> Option<ThreadId>
     }
 }
 
-/// What each partition used in the window at a tick, and what of that was critical, also those that don't exist.
-fn all_used(shape: &Shape, entries: &[Entry], tick: u64) -> ([Nanos; 32], [Nanos; 32])
-    requires shape { IsShape shape.now }
-    requires entries { All IsEntry entries.now }
-    requires rising { IsRising entries.now }
-    requires few { length entries.now ≤ 4000000 }
-    requires tick { tick ≤ 1000000 }
-    ensures used { result.0 ≡ map (window_used shape.now entries.now tick) (range_with_len 0 32) }
-    ensures critical { result.1 ≡ map (window_critical shape.now entries.now tick) (range_with_len 0 32) }
+/// What each of 32 partitions used in the window, and what of that was critical, also those that don't exist.
+fn all_used(window: &Window) -> ([Nanos; 32], [Nanos; 32])
+    ensures used { result.0 ≡ used_in window.now }
+    ensures critical { result.1 ≡ critical_in window.now }
 {
-    let usage = usage::window_usage(shape, entries, tick);
     let mut used = [0; 32];
     let mut critical = [0; 32];
-    // one by one, since no clause tells the length of an array that another call gave
     for p in 0..32 {
-        used[p] = usage.used[p];
-        critical[p] = usage.critical[p];
+        let id = PartitionId::at(p);
+        used[p] = window.used(id);
+        critical[p] = window.critical_used(id);
     }
     (used, critical)
 }
@@ -64,14 +55,11 @@ impl Machine {
     }
 
     /// What the command sees at a tick.
-    fn view_of(&self, entries: &[Entry], tick: u64, call: &Call) -> CtlView
-        requires entries { All IsEntry entries.now }
-        requires rising { IsRising entries.now }
-        requires few { length entries.now ≤ 4000000 }
-        requires tick { tick ≤ 1000000 }
+    fn view_of(&self, entries: &[Entry], window: &Window, tick: u64, call: &Call) -> CtlView
+        requires counts { Counts self.now.shape entries.now tick window.now }
         ensures { result ≡ view_of self.now entries.now tick call.now }
     {
-        let (used, critical_used) = all_used(&self.shape, entries, tick);
+        let (used, critical_used) = all_used(window);
         CtlView {
             used,
             critical_used,
@@ -91,18 +79,26 @@ impl Machine {
     }
 
     /// Does the command at this place of the scenario, and keeps its reply and its change.
-    fn do_command(&mut self, entries: &[Entry], tick: u64, place: u16, call: &Call)
-        requires entries { All IsEntry entries.now }
-        requires rising { IsRising entries.now }
-        requires few { length entries.now ≤ 4000000 }
+    fn do_command(
+        &mut self,
+        entries: &[Entry],
+        window: &mut Window,
+        tick: u64,
+        place: u16,
+        call: &Call,
+    )
+        requires counts { Counts self.old.shape entries.now tick window.old }
         requires tick { tick ≤ 1000000 }
         requires call { IsInRange call.now }
         requires replies { length self.old.replies < 1024 }
         requires changes { length (do_command entries.now tick self.old (command_at tick place call.now)).changes ≤ changes_of_a_run }
-        ensures { self.new ≡ do_command entries.now tick self.old (command_at tick place call.now) }
+        ensures same { self.new ≡ do_command entries.now tick self.old (command_at tick place call.now) }
+        ensures counts { Counts self.new.shape entries.now tick window.new }
     {
-        let view = self.view_of(entries, tick, call);
+        let view = self.view_of(entries, window, tick, call);
+        let before = self.shape.window;
         let answer = perform(call, &mut self.tree, &mut self.shape, &view);
+        usage::resize(window, before, &self.shape);
         let change = change_by(call, &answer, &self.tree);
         self.set_mark(call, mark_by(&answer));
         let reply = Reply {
@@ -117,19 +113,18 @@ impl Machine {
     }
 
     /// Does the commands of a tick that are still to come, in order of the scenario. Those of other ticks stay.
-    pub fn do_commands(&mut self, entries: &[Entry], ctl: &mut Ctl, tick: u64)
-        requires entries { All IsEntry entries.now }
-        requires rising { IsRising entries.now }
-        requires few { length entries.now ≤ 4000000 }
+    pub fn do_commands(&mut self, entries: &[Entry], window: &mut Window, ctl: &mut Ctl, tick: u64)
+        requires counts { Counts self.old.shape entries.now tick window.old }
         requires tick { tick ≤ 1000000 }
         requires calls { AreInRange (all_at tick ctl.old) }
         requires replies { length (all_done entries.now tick self.old ctl.old).replies ≤ 1024 }
         requires changes { length (all_done entries.now tick self.old ctl.old).changes ≤ changes_of_a_run }
         ensures same { self.new ≡ all_done entries.now tick self.old ctl.old }
+        ensures counts { Counts self.new.shape entries.now tick window.new }
         ensures others { (j : ℕ) → j ≢ tick → all_at j ctl.new ≡ all_at j ctl.old }
     {
         while let Some((place, call)) = ctl.next_at(tick as u32) {
-            self.do_command(entries, tick, place, &call);
+            self.do_command(entries, window, tick, place, &call);
         }
     }
 }

@@ -1,9 +1,11 @@
 ghost use Rattle.std.specs.Prelude.{◌≡◌, ◌<◌, ◌≤◌, length, All, IfSome};
 ghost use Rattle.aps_model.specs.Flag.{rank_of, looked_at, flag_for, with_flag};
 ghost use Rattle.aps_model.specs.History.{IsEntry};
+ghost use Rattle.aps_core.specs.LastEnds.{AreEnds};
 ghost use Rattle.aps_core.specs.Small.{IsSmall};
 
 use super::Machine;
+use crate::ends::Ends;
 use crate::merit;
 use aps_merit::{is_below, merit_of};
 use aps_model::{Contender, CpuId, CpuNow, Entry, Nanos, PartFacts, Pick, Rank};
@@ -36,6 +38,7 @@ impl Machine {
     fn looked_at(
         &self,
         entries: &[Entry],
+        ends: &Ends,
         parts: &[PartFacts],
         left: &Contender,
         c: CpuId,
@@ -44,10 +47,11 @@ impl Machine {
     ) -> Option<Rank>
         requires small { All IsSmall parts.now }
         requires entries { All IsEntry entries.now }
+        requires ends { AreEnds entries.now ends.now }
         requires d { d < length self.now.cpus }
         ensures { result ≡ looked_at self.now entries.now parts.now (merit_among parts.now left.now) c now d }
     {
-        if d != c && now < self.due(entries, d) {
+        if d != c && now < self.due(entries, ends, d) {
             self.rank_of(parts, left, &self.cpus[d.index()].running)
         } else {
             None
@@ -58,6 +62,7 @@ impl Machine {
     pub fn flag_for(
         &self,
         entries: &[Entry],
+        ends: &Ends,
         parts: &[PartFacts],
         c: CpuId,
         now: Nanos,
@@ -65,6 +70,7 @@ impl Machine {
     ) -> Option<CpuId>
         requires small { All IsSmall parts.now }
         requires entries { All IsEntry entries.now }
+        requires ends { AreEnds entries.now ends.now }
         ensures same { result ≡ flag_for self.now entries.now parts.now c now left.now }
         ensures within { IfSome result (λ d. d < length self.now.cpus) }
     {
@@ -74,7 +80,7 @@ impl Machine {
         let mut best = None;
         for d in 0..self.cpus.len() {
             let other = CpuId::at(d);
-            let rank = self.looked_at(entries, parts, left, c, now, other);
+            let rank = self.looked_at(entries, ends, parts, left, c, now, other);
             best = merit::lower_ranked(other, rank, best);
         }
         match best {

@@ -1,12 +1,12 @@
-ghost use Rattle.std.specs.Prelude.{◌≡◌, ℕ, ◌+◌, ◌/◌, ◌%◌, ◌<◌, ◌≤◌, ◌^◌, ◌++◌, [], ◌∷◌, length, All, IfOk, vec_capacity, false};
+ghost use Rattle.std.specs.Prelude.{◌≡◌, ℕ, ◌+◌, ◌/◌, ◌%◌, ◌<◌, ◌≤◌, ◌^◌, ◌++◌, [], ◌∷◌, length, IfOk, vec_capacity, false};
 ghost use Rattle.std.specs.Prelude.{nat_eq, slice_index_or};
 ghost use Rattle.std.specs.List.{list_any};
 ghost use Rattle.aps_model.specs.declared.entry.Entry.{Entry as EntryOf};
-ghost use Rattle.aps_model.specs.History.{IsEntry};
 ghost use Rattle.aps_model.specs.Valid.{IsScenario};
 ghost use Rattle.aps_core.specs.Pending.{IsPending};
 ghost use Rattle.aps_model.specs.SchedulerState.{thread_at};
 ghost use Rattle.aps_model.specs.TickWork.{has_tick_work, insert_sleeper, is_earlier, tick_work, wake_all, waking, wakes_at};
+ghost use Rattle.aps_core.specs.Counts.{Counts};
 ghost use Rattle.aps_core.specs.Rising.{IsRising};
 ghost use Rattle.aps_core.specs.Room.{HasRoomToWake, changes_of_a_run, last_place, stamps_before};
 ghost use Rattle.aps_core.specs.Seats.{seat_at};
@@ -18,6 +18,7 @@ use crate::append::insert_at;
 use crate::due;
 use aps_ctl::Ctl;
 use aps_model::{Entry, Nanos, NoMemory, Scenario, State, ThreadId};
+use aps_window::Window;
 use std::alloc::Global;
 use std::marker::Model;
 
@@ -180,27 +181,28 @@ impl Machine {
         &mut self,
         scenario: &Scenario,
         entries: &[Entry],
+        window: &mut Window,
         sleepers: &mut Sleepers,
         ctl: &mut Ctl,
         now: Nanos,
     ) -> bool
         requires valid { IsScenario scenario.now }
         requires pending { IsPending scenario.now self.old.shape.tick entries.now ctl.old }
-        requires entries { All IsEntry entries.now }
         requires rising { IsRising entries.now }
-        requires few { length entries.now ≤ 4000000 }
+        requires counts { Counts self.old.shape entries.now (now / self.old.shape.tick) window.old }
         requires now { now ≤ 10000000000000 }
         requires room { HasRoomToWake last_place stamps_before self.old }
         requires replies { length (tick_work scenario.now self.old entries.now now).replies ≤ 1024 }
         requires changes { length (tick_work scenario.now self.old entries.now now).changes ≤ changes_of_a_run }
         ensures same { self.new ≡ tick_work scenario.now self.old entries.now now }
         ensures idle { result ≡ false → (x : ℕ) → woke sleepers.new x ≡ false → seat_at self.new x ≡ seat_at self.old x }
+        ensures counts { Counts self.new.shape entries.now (now / self.old.shape.tick) window.new }
         ensures pending { (e : EntryOf) → e.to ≡ now → IsPending scenario.now self.old.shape.tick (entries.now ++ e ∷ []) ctl.new }
     {
         if self.has_tick_work(entries, now) {
             let tick = self.tick_of(now);
             let before = self.replies().len();
-            self.do_commands(entries, ctl, tick);
+            self.do_commands(entries, window, ctl, tick);
             let commanded = before < self.replies().len();
             self.wake_all(scenario, now, sleepers);
             return commanded;

@@ -1,9 +1,10 @@
-use Rattle.std.proofs.Common.{◌≤◌, length, ◌∙◌, sym, ap, subst, arith}
+use Rattle.std.proofs.Common.{◌≤◌, length, ◌∙◌, refl, sym, ap, subst, arith}
 use Rattle.aps_model.specs.SchedulerState.{SchedulerState}
 use Rattle.aps_model.specs.TickWork.{changes_with, do_command, view_of}
 use Rattle.aps_core.specs.Calls.{command_at}
+use Rattle.aps_core.specs.Counts.{Counts}
 use Rattle.aps_core.specs.MachineView.{state_of}
-use Rattle.aps_core.proofs.Commands.{IsPerformed, added_change, done_by, few_replies, performed_machine, performed_of}
+use Rattle.aps_core.proofs.Commands.{IsPerformed, added_change, counts_performed, done_by, few_replies, performed_machine, performed_of}
 use Rattle.aps_core.proofs.machine.Machine.do_command.Goals as goal
 
 pub invariant_of-self : goal.invariant_of-self
@@ -50,8 +51,8 @@ push_change-requires c =
     let space = c.self-2.invariant.change_room in
     record { room = omega (arith, one, few, space) }
 
-pub returns-in_default : goal.returns-in_default
-returns-in_default c =
+pub returns-in_default-clause-same : goal.returns-in_default-clause-same
+returns-in_default-clause-same c =
     let s = state_of c.self.inside in
     let h = c.args.entries.now in
     let j = c.args.tick in
@@ -67,3 +68,23 @@ returns-in_default c =
     done_by s h j c.args.place (record { tick = c.args.tick; call = c.args.call.now }) c.perform-answer.result c.change_by-change.result t c.push_reply.new.replies.items c.self-2.inside.changes.items done
     c.push_reply.ensures.items (sym (ap (changes_with t.changes j) c.in_default.is))
     ∙ ap (λ u. do_command h j u (command_at c.args.tick c.args.place c.args.call.now)) c.self.view_is
+
+pub resize-requires-clause-shape : goal.resize-requires-clause-shape
+resize-requires-clause-shape c =
+    (performed_machine _ _ c.args.call.now c.view_of-view.result (state_of c.self.inside) c.perform-answer.new.tree.rows c.perform-answer.new.shape _ _ _ _ c.requires.call.2 c.self.invariant c.perform-answer.ensures.shape c.perform-answer.ensures.parts).shape
+
+pub returns-in-Some-clause-counts : goal.returns-in-Some-clause-counts
+returns-in-Some-clause-counts c =
+    let s = state_of c.self.inside in
+    counts_performed _ _ c.args.call.now c.view_of-view.result s (record s { rows = c.perform-answer.new.tree.rows; shape = c.perform-answer.new.shape }) (state_of c.self-2.inside) c.perform-answer.new.shape _ _
+    c.args.entries.now c.args.tick c.args.window.now c.resize.new.window c.requires.call.2 c.self.invariant.shape c.perform-answer.ensures.shape
+    (subst (λ (u : SchedulerState). Counts u.shape c.args.entries.now c.args.tick c.args.window.now) (sym c.self.view_is) c.requires.counts)
+    c.resize.ensures refl (c.self-2.view_is ∙ c.set_mark.ensures)
+
+pub returns-in_default-clause-counts : goal.returns-in_default-clause-counts
+returns-in_default-clause-counts c =
+    let s = state_of c.self.inside in
+    counts_performed _ _ c.args.call.now c.view_of-view.result s (record s { rows = c.perform-answer.new.tree.rows; shape = c.perform-answer.new.shape }) (state_of c.self-2.inside) c.perform-answer.new.shape _ _
+    c.args.entries.now c.args.tick c.args.window.now c.resize.new.window c.requires.call.2 c.self.invariant.shape c.perform-answer.ensures.shape
+    (subst (λ (u : SchedulerState). Counts u.shape c.args.entries.now c.args.tick c.args.window.now) (sym c.self.view_is) c.requires.counts)
+    c.resize.ensures refl (c.self-2.view_is ∙ c.set_mark.ensures)

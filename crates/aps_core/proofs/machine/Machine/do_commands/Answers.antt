@@ -30,9 +30,10 @@ loop-place-preserved c =
     let next = next_of c.args.entries.now c.args.tick c.loop-place.self c.loop-place.ctl c.in-Some.place c.in-Some.call c.in-Some.ensures.next in
     record {
       same =
-          (λ k. all_done c.args.entries.now c.args.tick (c.do_command.ensures k) (c.in-Some.ensures.left k))
+          (λ k. all_done c.args.entries.now c.args.tick (c.do_command.ensures.same k) (c.in-Some.ensures.left k))
           ∙ sym next.done
           ∙ c.loop-place.invariant.same;
+      counts = c.do_command.ensures.counts;
       others = λ j apart.
           ap (all_at j) c.in-Some.ensures.left ∙ others_left c.args.tick j c.loop-place.ctl apart ∙ c.loop-place.invariant.others j apart;
       calls = subst (λ pending. AreInRange (all_at c.args.tick pending)) (sym c.in-Some.ensures.left) (next.left c.loop-place.invariant.calls);

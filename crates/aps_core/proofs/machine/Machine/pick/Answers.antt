@@ -5,6 +5,8 @@ use Rattle.aps_model.specs.Partition.{IsRow}
 use Rattle.aps_model.specs.Pick.{contenders, missing}
 use Rattle.aps_model.specs.SchedulerState.{SchedulerState}
 use Rattle.aps_core.specs.Seats.{seats_of}
+use Rattle.aps_core.specs.Counts.{parts_in}
+use Rattle.aps_core.proofs.Counting.{parts_are}
 use Rattle.aps_core.proofs.PickStep.{pick_by_parts}
 use Rattle.aps_core.proofs.Rows.{row_ranges}
 use Rattle.aps_core.proofs.Seats.{IsIn, chosen_seats, flagged_seats, if_some, missing_in, picked_in}
@@ -16,8 +18,10 @@ fill_parts-requires-clause-rows c = subst (All IsRow) (sym c.rows.ensures.same) 
 parts : (c : goal.After-flag) → c.fill_parts.new.parts ≡ all_parts c.args.self.now.shape c.args.self.now.rows (c.args.entries.now ++ c.args.e ∷ []) (c.args.e.to / c.args.self.now.shape.tick)
 parts c =
     c.fill_parts.ensures.same
-    ∙ rw (c.rows.ensures.same, c.tick_of-tick.ensures.same)
-    (ap (λ (m : SchedulerState). all_parts m.shape m.rows (c.args.entries.now ++ c.args.e ∷ []) (c.args.e.to / c.args.self.now.shape.tick)) c.self.view_is)
+    ∙ rw c.rows.ensures.same
+    (ap (λ (m : SchedulerState). parts_in m.shape m.rows c.args.window.now) c.self.view_is)
+    ∙ parts_are c.args.self.now.shape c.args.self.now.rows (c.args.entries.now ++ c.args.e ∷ []) (c.args.e.to / c.args.self.now.shape.tick) c.args.window.now c.requires.counts
+    (let few = c.rows.ensures.keeps.named.few in omega (arith, few, ap (λ (m : SchedulerState). length m.rows) c.self.view_is))
 
 starved : (c : goal.After-flag) → c.missing_by-starved.result ≡ missing c.fill_parts.new.parts (contenders c.args.self.now)
 starved c =

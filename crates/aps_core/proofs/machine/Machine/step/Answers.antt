@@ -1,4 +1,4 @@
-use Rattle.std.proofs.Common.{◌≡◌, ℕ, List, Option, Some, None, ◌≤◌, [], ◌∷◌, ◌++◌, sym, ◌∙◌, refl, subst, length, ap}
+use Rattle.std.proofs.Common.{◌≡◌, ℕ, ◌/◌, List, Option, Some, None, ◌≤◌, [], ◌∷◌, ◌++◌, sym, ◌∙◌, refl, subst, length, ap, arith}
 use Rattle.std.specs.Option.{option_map}
 use Rattle.aps_model.specs.declared.entry.Entry.{Entry}
 use Rattle.aps_model.specs.declared.merit.Contender.{Contender}
@@ -8,13 +8,16 @@ use Rattle.aps_model.specs.SchedulerState.{SchedulerState, cpu_at, thread_at}
 use Rattle.aps_model.specs.Step.{Step}
 use Rattle.aps_laws.specs.Between.{after_bill}
 use Rattle.aps_laws.specs.Servers.{IsNobodysClient}
+use Rattle.aps_core.specs.Counts.{Counts}
+use Rattle.aps_core.specs.MachineView.{state_of}
 use Rattle.aps_core.specs.Pending.{IsPending}
 use Rattle.aps_core.specs.Room.{HasRoom, HasRoomToWake}
 use Rattle.aps_core.specs.Seats.{who_at}
 use Rattle.aps_core.specs.Touched.{IsTouched, is_at_channel, peer_of}
 use Rattle.aps_core.proofs.Seats.{seats_count, who_seats}
 use Rattle.aps_core.proofs.SeatsStay.{step_seat}
-use Rattle.aps_core.proofs.StepParts.{billed_by, none_is, settled_by, step_below, tested_by, ticked_by, where_it_runs}
+use Rattle.aps_core.proofs.StepCounts.{IsBilling, counts_begun, counts_left, done_bill, entry_of, own_bill, picked_bill, room_to_bill, settled_shape, spent_shape, tested_shape}
+use Rattle.aps_core.proofs.StepParts.{billed_by, none_is, room_after, settled_by, step_below, tested_by, ticked_by, where_it_runs}
 use Rattle.aps_core.proofs.machine.Machine.step.Goals as goal
 
 -- ---- the work of the tick
@@ -66,20 +69,190 @@ returns-clause-same c =
     (none_is c.test-reboot.result (sym c.is_some.ensures ∙ c.if-is_some.false))
     (λ there. c.if-now-horizon.false (there ∙ sym c.horizon.ensures.same)) c.settle-done.ensures c.bill_of-e.ensures.to c.pick-picked.ensures.same
 
+-- ---- the window
+
+pub work_tick-commanded-requires-clause-counts : goal.work_tick-commanded-requires-clause-counts
+work_tick-commanded-requires-clause-counts c =
+    counts_begun c.args.self.now c.begin-running.new.self c.args.entries.now c.args.cpu c.due-now.result c.tick_of.result c.args.window.now c.go_on.new.window c.requires.counts
+    (omega (arith, c.requires.ready.rises, c.due-now.ensures)) c.tick_of.ensures.same c.go_on.ensures c.begin-running.ensures.same
+
+pub add_time-requires-clause-entry : goal.add_time-requires-clause-entry
+add_time-requires-clause-entry c =
+    let s2 = state_of c.self.inside in
+    let e = c.bill_of-e.result in
+    let b : IsBilling c.args.scenario.now c.args.self.now c.args.entries.now c.args.cpu c.due-now.result c.last_end-from.result c.tick_of.result c.begin-running.result c.begin-running.new.self s2 e =
+    record {
+      at_due = c.due-now.ensures;
+      from_end = c.last_end-from.ensures.same;
+      ran = c.begin-running.ensures.running;
+      begun = c.begin-running.ensures.same;
+      ticked = c.self.view_is ∙ c.work_tick-commanded.ensures.same;
+      entry = c.bill_of-e.ensures.same;
+      begins = c.bill_of-e.ensures.from;
+      ends = c.bill_of-e.ensures.to;
+      at_tick = c.tick_of.ensures.same;
+    } in
+    entry_of c.args.scenario.now c.args.self.now c.args.entries.now c.args.cpu c.due-now.result c.last_end-from.result c.tick_of.result c.begin-running.result c.begin-running.new.self s2 e c.requires.ready b
+
+pub add_time-requires-clause-room : goal.add_time-requires-clause-room
+add_time-requires-clause-room c =
+    let s2 = state_of c.self.inside in
+    let e = c.bill_of-e.result in
+    let b : IsBilling c.args.scenario.now c.args.self.now c.args.entries.now c.args.cpu c.due-now.result c.last_end-from.result c.tick_of.result c.begin-running.result c.begin-running.new.self s2 e =
+    record {
+      at_due = c.due-now.ensures;
+      from_end = c.last_end-from.ensures.same;
+      ran = c.begin-running.ensures.running;
+      begun = c.begin-running.ensures.same;
+      ticked = c.self.view_is ∙ c.work_tick-commanded.ensures.same;
+      entry = c.bill_of-e.ensures.same;
+      begins = c.bill_of-e.ensures.from;
+      ends = c.bill_of-e.ensures.to;
+      at_tick = c.tick_of.ensures.same;
+    } in
+    let before = subst (λ (u : SchedulerState). Counts u.shape c.args.entries.now (c.due-now.result / c.begin-running.new.self.shape.tick) c.work_tick-commanded.new.window) (sym c.self.view_is) c.work_tick-commanded.ensures.counts in
+    room_to_bill c.args.scenario.now c.args.self.now c.args.entries.now c.args.cpu c.due-now.result c.last_end-from.result c.tick_of.result c.begin-running.result c.begin-running.new.self s2 e c.work_tick-commanded.new.window
+    c.requires.ready b c.tick_of.ensures.few c.self.invariant.shape
+    (entry_of c.args.scenario.now c.args.self.now c.args.entries.now c.args.cpu c.due-now.result c.last_end-from.result c.tick_of.result c.begin-running.result c.begin-running.new.self s2 e c.requires.ready b)
+    before
+
+pub test-reboot-requires-clause-counts : goal.test-reboot-requires-clause-counts
+test-reboot-requires-clause-counts c =
+    let s2 = state_of c.self.inside in
+    let e = c.bill_of-e.result in
+    let b : IsBilling c.args.scenario.now c.args.self.now c.args.entries.now c.args.cpu c.due-now.result c.last_end-from.result c.tick_of.result c.begin-running.result c.begin-running.new.self s2 e =
+    record {
+      at_due = c.due-now.ensures;
+      from_end = c.last_end-from.ensures.same;
+      ran = c.begin-running.ensures.running;
+      begun = c.begin-running.ensures.same;
+      ticked = c.self.view_is ∙ c.work_tick-commanded.ensures.same;
+      entry = c.bill_of-e.ensures.same;
+      begins = c.bill_of-e.ensures.from;
+      ends = c.bill_of-e.ensures.to;
+      at_tick = c.tick_of.ensures.same;
+    } in
+    let before = subst (λ (u : SchedulerState). Counts u.shape c.args.entries.now (c.due-now.result / c.begin-running.new.self.shape.tick) c.work_tick-commanded.new.window) (sym c.self.view_is) c.work_tick-commanded.ensures.counts in
+    let with_bill = c.add_time.ensures c.args.entries.now (c.due-now.result / c.begin-running.new.self.shape.tick) before in
+    let spent : c.bill.new.self.shape ≡ s2.shape = spent_shape c.work_tick-commanded.new.self e c.begin-running.result c.bill.new.self c.bill.ensures ∙ ap (λ (u : SchedulerState). u.shape) (sym c.self.view_is) in
+    counts_left c.args.scenario.now c.args.self.now c.args.entries.now c.args.cpu c.due-now.result c.last_end-from.result c.tick_of.result c.begin-running.result c.begin-running.new.self s2 e c.add_time.new.window
+    c.requires.ready b with_bill c.bill.new.self e (spent) (own_bill e)
+
+pub returns-then-is_some-clause-pending : goal.returns-then-is_some-clause-pending
+returns-then-is_some-clause-pending c =
+    subst (λ n. IsPending c.args.scenario.now n (c.args.entries.now ++ c.bill_of-e.result ∷ []) c.work_tick-commanded.new.ctl) (ap (λ (u : SchedulerState). u.shape.tick) c.begin-running.ensures.same)
+    (c.work_tick-commanded.ensures.pending c.bill_of-e.result (c.bill_of-e.ensures.to))
+
+pub returns-then-is_some-clause-counts : goal.returns-then-is_some-clause-counts
+returns-then-is_some-clause-counts c =
+    let s2 = state_of c.self.inside in
+    let e = c.bill_of-e.result in
+    let b : IsBilling c.args.scenario.now c.args.self.now c.args.entries.now c.args.cpu c.due-now.result c.last_end-from.result c.tick_of.result c.begin-running.result c.begin-running.new.self s2 e =
+    record {
+      at_due = c.due-now.ensures;
+      from_end = c.last_end-from.ensures.same;
+      ran = c.begin-running.ensures.running;
+      begun = c.begin-running.ensures.same;
+      ticked = c.self.view_is ∙ c.work_tick-commanded.ensures.same;
+      entry = c.bill_of-e.ensures.same;
+      begins = c.bill_of-e.ensures.from;
+      ends = c.bill_of-e.ensures.to;
+      at_tick = c.tick_of.ensures.same;
+    } in
+    let before = subst (λ (u : SchedulerState). Counts u.shape c.args.entries.now (c.due-now.result / c.begin-running.new.self.shape.tick) c.work_tick-commanded.new.window) (sym c.self.view_is) c.work_tick-commanded.ensures.counts in
+    let with_bill = c.add_time.ensures c.args.entries.now (c.due-now.result / c.begin-running.new.self.shape.tick) before in
+    let spent : c.bill.new.self.shape ≡ s2.shape = spent_shape c.work_tick-commanded.new.self e c.begin-running.result c.bill.new.self c.bill.ensures ∙ ap (λ (u : SchedulerState). u.shape) (sym c.self.view_is) in
+    let tested = tested_shape c.bill.new.self c.args.entries.now e c.test-reboot.new.self c.test-reboot.result c.test-reboot.ensures in
+    counts_left c.args.scenario.now c.args.self.now c.args.entries.now c.args.cpu c.due-now.result c.last_end-from.result c.tick_of.result c.begin-running.result c.begin-running.new.self s2 e c.add_time.new.window
+    c.requires.ready b with_bill c.test-reboot.new.self e (tested ∙ spent) (own_bill e)
+
+pub returns-then-now-horizon-clause-pending : goal.returns-then-now-horizon-clause-pending
+returns-then-now-horizon-clause-pending c =
+    subst (λ n. IsPending c.args.scenario.now n (c.args.entries.now ++ c.bill_of-e.result ∷ []) c.work_tick-commanded.new.ctl) (ap (λ (u : SchedulerState). u.shape.tick) c.begin-running.ensures.same)
+    (c.work_tick-commanded.ensures.pending c.bill_of-e.result (c.bill_of-e.ensures.to))
+
+pub returns-then-now-horizon-clause-counts : goal.returns-then-now-horizon-clause-counts
+returns-then-now-horizon-clause-counts c =
+    let s2 = state_of c.self.inside in
+    let e = c.bill_of-e.result in
+    let b : IsBilling c.args.scenario.now c.args.self.now c.args.entries.now c.args.cpu c.due-now.result c.last_end-from.result c.tick_of.result c.begin-running.result c.begin-running.new.self s2 e =
+    record {
+      at_due = c.due-now.ensures;
+      from_end = c.last_end-from.ensures.same;
+      ran = c.begin-running.ensures.running;
+      begun = c.begin-running.ensures.same;
+      ticked = c.self.view_is ∙ c.work_tick-commanded.ensures.same;
+      entry = c.bill_of-e.ensures.same;
+      begins = c.bill_of-e.ensures.from;
+      ends = c.bill_of-e.ensures.to;
+      at_tick = c.tick_of.ensures.same;
+    } in
+    let before = subst (λ (u : SchedulerState). Counts u.shape c.args.entries.now (c.due-now.result / c.begin-running.new.self.shape.tick) c.work_tick-commanded.new.window) (sym c.self.view_is) c.work_tick-commanded.ensures.counts in
+    let with_bill = c.add_time.ensures c.args.entries.now (c.due-now.result / c.begin-running.new.self.shape.tick) before in
+    let spent : c.bill.new.self.shape ≡ s2.shape = spent_shape c.work_tick-commanded.new.self e c.begin-running.result c.bill.new.self c.bill.ensures ∙ ap (λ (u : SchedulerState). u.shape) (sym c.self.view_is) in
+    let tested = tested_shape c.bill.new.self c.args.entries.now e c.test-reboot.new.self c.test-reboot.result c.test-reboot.ensures in
+    counts_left c.args.scenario.now c.args.self.now c.args.entries.now c.args.cpu c.due-now.result c.last_end-from.result c.tick_of.result c.begin-running.result c.begin-running.new.self s2 e c.add_time.new.window
+    c.requires.ready b with_bill c.test-reboot.new.self e (tested ∙ spent) (own_bill e)
+
 pub settle-done-requires-clause-room : goal.settle-done-requires-clause-room
 settle-done-requires-clause-room c =
-    let b =
-    tested_by c.args.scenario.now c.args.self.now c.args.entries.now c.args.cpu _ _ _ _ _ _ _ _ _
-    c.due-now.ensures c.last_end-from.ensures.same c.begin-running.ensures.running c.begin-running.ensures.same c.work_tick-commanded.ensures.same c.bill_of-e.ensures.same c.bill.ensures c.test-reboot.ensures in
-    λ some.
-    subst HasRoom (sym (billed_by c.args.scenario.now c.args.self.now c.args.entries.now c.args.cpu _ _ _ _ _ b))
-    (where_it_runs c.begin-running.result (cpu_at c.args.self.now c.args.cpu).running (HasRoom (after_bill c.args.scenario.now c.args.self.now c.args.entries.now c.args.cpu))
-    c.begin-running.ensures.running c.requires.ready.room some)
+    room_after c.args.scenario.now c.args.self.now c.args.entries.now c.args.cpu c.due-now.result c.begin-running.result c.bill_of-e.result c.test-reboot.new.self c.test-reboot.result
+    (tested_by c.args.scenario.now c.args.self.now c.args.entries.now c.args.cpu _ _ _ _ _ _ _ _ _
+    c.due-now.ensures c.last_end-from.ensures.same c.begin-running.ensures.running c.begin-running.ensures.same c.work_tick-commanded.ensures.same c.bill_of-e.ensures.same c.bill.ensures c.test-reboot.ensures)
+    c.requires.ready.room
+
+pub pick-picked-requires-clause-counts : goal.pick-picked-requires-clause-counts
+pick-picked-requires-clause-counts c =
+    let s2 = state_of c.self.inside in
+    let e = c.bill_of-e.result in
+    let b : IsBilling c.args.scenario.now c.args.self.now c.args.entries.now c.args.cpu c.due-now.result c.last_end-from.result c.tick_of.result c.begin-running.result c.begin-running.new.self s2 e =
+    record {
+      at_due = c.due-now.ensures;
+      from_end = c.last_end-from.ensures.same;
+      ran = c.begin-running.ensures.running;
+      begun = c.begin-running.ensures.same;
+      ticked = c.self.view_is ∙ c.work_tick-commanded.ensures.same;
+      entry = c.bill_of-e.ensures.same;
+      begins = c.bill_of-e.ensures.from;
+      ends = c.bill_of-e.ensures.to;
+      at_tick = c.tick_of.ensures.same;
+    } in
+    let before = subst (λ (u : SchedulerState). Counts u.shape c.args.entries.now (c.due-now.result / c.begin-running.new.self.shape.tick) c.work_tick-commanded.new.window) (sym c.self.view_is) c.work_tick-commanded.ensures.counts in
+    let with_bill = c.add_time.ensures c.args.entries.now (c.due-now.result / c.begin-running.new.self.shape.tick) before in
+    let spent : c.bill.new.self.shape ≡ s2.shape = spent_shape c.work_tick-commanded.new.self e c.begin-running.result c.bill.new.self c.bill.ensures ∙ ap (λ (u : SchedulerState). u.shape) (sym c.self.view_is) in
+    let tested = tested_shape c.bill.new.self c.args.entries.now e c.test-reboot.new.self c.test-reboot.result c.test-reboot.ensures in
+    let settled = settled_shape c.args.scenario.now c.test-reboot.new.self c.due-now.result c.begin-running.result _ c.settle-done.ensures in
+    counts_left c.args.scenario.now c.args.self.now c.args.entries.now c.args.cpu c.due-now.result c.last_end-from.result c.tick_of.result c.begin-running.result c.begin-running.new.self s2 e c.add_time.new.window
+    c.requires.ready b with_bill c.settle-done.new.self (record e { done = c.settle-done.result }) (settled ∙ tested ∙ spent) (done_bill e c.settle-done.result)
 
 pub returns-clause-pending : goal.returns-clause-pending
 returns-clause-pending c =
-    subst (λ (s : SchedulerState). IsPending c.args.scenario.now s.shape.tick (c.args.entries.now ++ c.pick-picked.result ∷ []) c.work_tick-commanded.new.ctl) c.begin-running.ensures.same
-    (c.work_tick-commanded.ensures.pending c.pick-picked.result (sym (ap (λ (out : Step). out.entry.to) c.pick-picked.ensures.same) ∙ c.bill_of-e.ensures.to))
+    subst (λ n. IsPending c.args.scenario.now n (c.args.entries.now ++ c.pick-picked.result ∷ []) c.work_tick-commanded.new.ctl) (ap (λ (u : SchedulerState). u.shape.tick) c.begin-running.ensures.same)
+    (c.work_tick-commanded.ensures.pending c.pick-picked.result ((picked_bill c.settle-done.new.self c.args.entries.now c.args.cpu c.bill_of-e.result.to c.bill_of-e.result c.settle-done.result _ c.pick-picked.ensures.same).to ∙ c.bill_of-e.ensures.to))
+
+pub returns-clause-counts : goal.returns-clause-counts
+returns-clause-counts c =
+    let s2 = state_of c.self.inside in
+    let e = c.bill_of-e.result in
+    let b : IsBilling c.args.scenario.now c.args.self.now c.args.entries.now c.args.cpu c.due-now.result c.last_end-from.result c.tick_of.result c.begin-running.result c.begin-running.new.self s2 e =
+    record {
+      at_due = c.due-now.ensures;
+      from_end = c.last_end-from.ensures.same;
+      ran = c.begin-running.ensures.running;
+      begun = c.begin-running.ensures.same;
+      ticked = c.self.view_is ∙ c.work_tick-commanded.ensures.same;
+      entry = c.bill_of-e.ensures.same;
+      begins = c.bill_of-e.ensures.from;
+      ends = c.bill_of-e.ensures.to;
+      at_tick = c.tick_of.ensures.same;
+    } in
+    let before = subst (λ (u : SchedulerState). Counts u.shape c.args.entries.now (c.due-now.result / c.begin-running.new.self.shape.tick) c.work_tick-commanded.new.window) (sym c.self.view_is) c.work_tick-commanded.ensures.counts in
+    let with_bill = c.add_time.ensures c.args.entries.now (c.due-now.result / c.begin-running.new.self.shape.tick) before in
+    let spent : c.bill.new.self.shape ≡ s2.shape = spent_shape c.work_tick-commanded.new.self e c.begin-running.result c.bill.new.self c.bill.ensures ∙ ap (λ (u : SchedulerState). u.shape) (sym c.self.view_is) in
+    let tested = tested_shape c.bill.new.self c.args.entries.now e c.test-reboot.new.self c.test-reboot.result c.test-reboot.ensures in
+    let settled = settled_shape c.args.scenario.now c.test-reboot.new.self c.due-now.result c.begin-running.result _ c.settle-done.ensures in
+    counts_left c.args.scenario.now c.args.self.now c.args.entries.now c.args.cpu c.due-now.result c.last_end-from.result c.tick_of.result c.begin-running.result c.begin-running.new.self s2 e c.add_time.new.window
+    c.requires.ready b with_bill c.pick-picked.new.self c.pick-picked.result (c.pick-picked.ensures.kept.shape ∙ settled ∙ tested ∙ spent) (picked_bill c.settle-done.new.self c.args.entries.now c.args.cpu c.bill_of-e.result.to c.bill_of-e.result c.settle-done.result _ c.pick-picked.ensures.same)
 
 -- ---- the queues
 

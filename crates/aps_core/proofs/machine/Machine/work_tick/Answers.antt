@@ -5,7 +5,8 @@ use Rattle.aps_ctl.specs.Pending.{all_at}
 use Rattle.aps_core.specs.Room.{HasRoomToWake}
 use Rattle.aps_core.specs.Seats.{seat_at}
 use Rattle.aps_core.proofs.Commands.{commands_room, quiet_commands}
-use Rattle.aps_core.proofs.Frame.{ticked_lists}
+use Rattle.aps_core.proofs.Counting.{counts_like}
+use Rattle.aps_core.proofs.Frame.{ticked_lists, wake_kept}
 use Rattle.aps_core.proofs.Pending.{pending_begun, tick_started}
 use Rattle.aps_core.proofs.SeatsStay.{wakes_seats}
 use Rattle.aps_core.proofs.machine.Machine.work_tick.Goals as goal
@@ -63,3 +64,9 @@ returns-then-has_tick_work-clause-pending c e to =
     let works = sym c.has_tick_work.ensures ∙ c.if-has_tick_work.true in
     let started = tick_started c.args.scenario.now c.args.self.now c.args.entries.now c.args.now c.tick_of-tick.result c.args.ctl.now c.requires.valid works c.tick_of-tick.ensures.same c.requires.pending in
     pending_begun c.args.scenario.now c.args.self.now.shape.tick c.args.entries.now e c.args.now c.tick_of-tick.result c.args.ctl.now c.do_commands.new.ctl started.at to c.do_commands.ensures.others c.requires.pending
+
+pub returns-then-has_tick_work-clause-counts : goal.returns-then-has_tick_work-clause-counts
+returns-then-has_tick_work-clause-counts c =
+    counts_like c.do_commands.new.self.shape _ c.args.entries.now c.tick_of-tick.result _ c.do_commands.new.window c.do_commands.ensures.counts
+    (ap (λ (s : SchedulerState). s.shape) c.wake_all.ensures.same ∙ (wake_kept c.args.scenario.now c.args.now c.do_commands.new.self).shape)
+    (sym c.tick_of-tick.ensures.same)

@@ -1,13 +1,18 @@
-use Rattle.std.proofs.Common.{◌≡◌, ◌∙◌, [], ◌∷◌, ◌++◌, ap, None, arith, subst, sym}
+use Rattle.std.proofs.Common.{◌≡◌, ◌/◌, ◌∙◌, refl, [], ◌∷◌, ◌++◌, ap, None, arith, subst, sym}
 use Rattle.std.proofs.lemmas.Grind.{common_steps}
 use Rattle.aps_model.specs.History.{History}
 use Rattle.aps_model.specs.Scenario.{Scenario}
 use Rattle.aps_model.specs.Valid.{IsScenario}
+use Rattle.aps_laws.specs.Moments.{moment}
+use Rattle.aps_laws.proofs.MomentLaws.{moment-append}
+use Rattle.aps_core.specs.Counts.{Counts}
 use Rattle.aps_core.specs.CoreView.{run_of}
+use Rattle.aps_core.specs.LastEnds.{AreEnds}
 use Rattle.aps_core.specs.Rising.{IsRising}
 use Rattle.aps_core.specs.Run.{end_of_run}
 use Rattle.aps_core.specs.declared.turn.Turn.TheVariants.{Took}
 use Rattle.aps_core.specs.Turn.{HasTurnIn, IsFed}
+use Rattle.aps_core.proofs.Counting.{counts_like}
 use Rattle.aps_core.proofs.Kept.{can_record_in, core_kept, entry_fits, fed_in, own_entry, pending_read, ready_in, step_read, tick_of_core}
 use Rattle.aps_core.proofs.Rising.{rising_law}
 use Rattle.aps_core.proofs.simulator.Core.take_turn.Goals as goal
@@ -61,6 +66,17 @@ step-requires-clause-pending c =
     rw (c.scenario.ensures, c.entries.ensures.same, tick_of_core (run_of c.self.inside) c.self.inside.history c.self.inside.machine c.self.inside.parts.items c.self.invariant.core)
     c.self.invariant.pending
 
+pub step-requires-clause-ends : goal.step-requires-clause-ends
+step-requires-clause-ends c = subst (λ h. AreEnds h c.self.inside.ends) (sym c.entries.ensures.same) c.self.invariant.lasts
+
+pub step-requires-clause-counts : goal.step-requires-clause-counts
+step-requires-clause-counts c =
+    let shape = c.self.inside.machine.shape in
+    subst (λ h. Counts shape h (moment h / shape.tick) c.self.inside.window) (sym c.entries.ensures.same) c.self.invariant.counts
+
+pub record-requires-clause-ends : goal.record-requires-clause-ends
+record-requires-clause-ends c = c.add.ensures c.self.inside.history.entries c.self.invariant.lasts
+
 pub invariant_of-self : goal.invariant_of-self
 invariant_of-self c = record {
   core =
@@ -80,4 +96,15 @@ invariant_of-self c = record {
       (ap (λ (h : History). h.entries) c.record.ensures ∙ ap (λ h. h ++ c.step.result.0 ∷ []) (sym c.entries.ensures.same))
       c.step.ensures.pending;
   seats = c.step.ensures.seats;
+  lasts =
+      subst (λ (k : History). AreEnds k.entries c.add.new.self) (sym c.record.ensures)
+      (c.add.ensures c.self.inside.history.entries c.self.invariant.lasts);
+  counts =
+      let shape = c.step.new.self.shape in
+      let h = c.self.inside.history.entries in
+      let e = c.step.result.0 in
+      let after : Counts shape (h ++ e ∷ []) (e.to / shape.tick) c.step.new.window =
+      subst (λ g. Counts shape (g ++ e ∷ []) (e.to / shape.tick) c.step.new.window) c.entries.ensures.same c.step.ensures.counts in
+      subst (λ (k : History). Counts shape k.entries (moment k.entries / shape.tick) c.step.new.window) (sym c.record.ensures)
+      (counts_like shape shape (h ++ e ∷ []) (e.to / shape.tick) (moment (h ++ e ∷ []) / shape.tick) c.step.new.window after refl (ap (λ n. n / shape.tick) (moment-append h e)));
 }
