@@ -15,6 +15,7 @@ ghost use Rattle.aps_core.specs.Core.{IsUnderWay};
 ghost use Rattle.aps_core.specs.Run.{IsLater, end_of_run, finished_run, history_of, most_changes, rooms_of, state_of, with_last};
 ghost use Rattle.aps_core.specs.Turn.{HasTurnIn, IsFed, IsOwn, IsTaken, IsTurn, after_turn, with_entry};
 
+use crate::dues::Dues;
 use crate::ends::Ends;
 use crate::machine::Machine;
 use crate::machine::wake::Sleepers;
@@ -36,6 +37,7 @@ pub struct Core {
     limit: u32,
     machine: Machine,
     ends: Ends,
+    dues: Dues,
     window: Window,
     parts: Vec<PartFacts>,
     sleepers: Sleepers,
@@ -69,6 +71,7 @@ impl Core {
     {
         let machine = Machine::boot(alloc, &scenario)?;
         let ends = Ends::new();
+        let dues = Dues::new();
         let window = Window::new(alloc, scenario.shape().window)?;
         let parts = start_parts(alloc, MOST_PARTITIONS)?;
         let sleepers = Sleepers::new(alloc)?;
@@ -82,6 +85,7 @@ impl Core {
             limit,
             machine,
             ends,
+            dues,
             window,
             parts,
             sleepers,
@@ -94,7 +98,7 @@ impl Core {
         requires { cpu < self.now.setup.scenario.shape.cpus }
         ensures { result ≡ due (state_of self.now) self.now.entries cpu }
     {
-        self.machine.due(self.history.entries(), &self.ends, cpu)
+        self.dues.of(cpu)
     }
 
     /// The end of the run, if it has come. Where several hold it is the first of these: by a reboot, where the last entry
@@ -203,7 +207,7 @@ impl Core {
         ensures exists { result < self.now.setup.scenario.shape.cpus }
         ensures keeps { IsUnderWay self.now }
     {
-        self.machine.first_due(self.history.entries(), &self.ends)
+        self.machine.first_due(self.history.entries(), &self.dues)
     }
 
     /// Whether the processor has the turn, where this is the lowest that has it.
@@ -234,6 +238,7 @@ impl Core {
             self.history.scenario(),
             self.history.entries(),
             &self.ends,
+            &self.dues,
             &mut self.window,
             self.parts.as_mut_slice(),
             &mut self.sleepers,
@@ -251,6 +256,8 @@ impl Core {
             reboot,
             self.limit,
         );
+        let due = self.machine.due(self.history.entries(), &self.ends, cpu);
+        self.dues.go_on(&e, due);
         e
     }
 }

@@ -4,6 +4,7 @@ use Rattle.aps_model.specs.Partition.{IsRow}
 use Rattle.aps_model.specs.SchedulerState.{SchedulerState}
 use Rattle.aps_core.specs.Counts.{parts_in}
 use Rattle.aps_core.proofs.Counting.{parts_are}
+use Rattle.aps_core.proofs.NextDues.{others_chosen}
 use Rattle.aps_core.proofs.PickStep.{pick_by_parts}
 use Rattle.aps_core.proofs.Rows.{row_ranges}
 use Rattle.aps_core.proofs.machine.Machine.pick.Goals as goal
@@ -24,3 +25,7 @@ returns-clause-same c =
     pick_by_parts c.args.self.now c.args.entries.now c.args.cpu c.args.e.to c.args.e
     c.fill_parts.new.parts c.missing-starved.result c.greatest-best.result c.thread_of-picked.result c.choose.new.self c.greatest-left.result c.flag_for-flagged.result c.flag.new.self
     (parts c) c.missing-starved.ensures c.greatest-best.ensures c.thread_of-picked.ensures c.choose.ensures c.greatest-left.ensures c.flag_for-flagged.ensures.same c.flag.ensures
+
+pub flag_for-flagged-requires-clause-dues : goal.flag_for-flagged-requires-clause-dues
+flag_for-flagged-requires-clause-dues c =
+    others_chosen c.args.self.now c.choose.new.self c.fill_parts.new.parts c.args.cpu c.greatest-best.result c.args.entries.now c.args.dues.now c.requires.dues c.choose.ensures

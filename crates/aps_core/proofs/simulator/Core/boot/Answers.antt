@@ -2,6 +2,7 @@ use Rattle.std.proofs.Common.{ap, refl}
 use Rattle.aps_ctl.specs.Pending.{all_at}
 use Rattle.aps_core.specs.Run.{Setup}
 use Rattle.aps_core.proofs.Counting.{counts_begin}
+use Rattle.aps_core.proofs.DuesKept.{dues_none}
 use Rattle.aps_core.proofs.Kept.{begun_core}
 use Rattle.aps_model.specs.declared.shape.Shape.{Shape}
 use Rattle.aps_core.proofs.simulator.Core.boot.Goals as goal
@@ -19,5 +20,6 @@ invariant_of-result c =
           c.in_ok-parts.ensures;
       pending = λ j none. ap (all_at j) c.in_ok-ctl.ensures;
       lasts = c.new-ends.ensures;
+      nexts = dues_none c.in_ok-machine.machine _ c.new-dues.ensures;
       counts = counts_begin c.args.scenario c.in_ok-machine.machine _ c.in_ok-window.window c.commands.ensures.valid.shape c.in_ok-machine.ensures (ap (λ (s : Shape). s.window) c.shape.ensures.same) c.in_ok-window.ensures.same;
     })
