@@ -17,9 +17,11 @@ pub mod Ready
 pub mod Taken
 pub mod Kept
 pub mod Finish
+pub mod DuesKept
 pub mod Counting
 pub mod Rising
 pub mod LastEnds
+pub mod NextDues
 pub mod FirstDue
 pub mod Recorded
 pub mod Pending

@@ -31,7 +31,9 @@ use Rattle.aps_laws.proofs.Programs.{row_fits}
 use Rattle.aps_laws.proofs.ReplyLaws.{few_answered}
 use Rattle.aps_laws.proofs.Servers.{runs_free}
 use Rattle.aps_laws.proofs.SmallNumbers.{usage_in_hand}
-use Rattle.aps_laws.proofs.Sound.{next_law}
+use Rattle.aps_laws.proofs.Sound.{next_law, sound}
+use Rattle.aps_laws.proofs.Channels.{names_channels}
+use Rattle.aps_core.proofs.NextDues.{due_before}
 use Rattle.aps_laws.proofs.StampCounts.{few_stamps}
 use Rattle.aps_laws.proofs.StepOf.{horizon_same}
 use Rattle.aps_laws.proofs.ThreadFacts.{running_within}
@@ -189,5 +191,7 @@ ready scenario order h c valid legal short run turn =
       same_tick = b.ticked.sizes.tick ∙ sym counted.sizes.tick;
       rises = let l = n.rises in omega (arith, l, d.to);
       in_tick = subst (λ z. due s h c ≤ next_boundary s.shape.tick z) d.from (let l = n.short in omega (arith, l, d.to));
+      counted = omega (arith, counted.cpus, b.settled'.cpus);
+      others = let m = (sound scenario order valid h legal).grounded in due_before scenario s h c (names_channels scenario valid) m.plain m.kept;
       bills_fit = bills_fit scenario order h c valid legal run turn counted.sizes.tick;
     }

@@ -87,12 +87,25 @@ pub none_is : (o : Option ℕ) → is_some o ≡ false → o ≡ None
 none_is None e = refl
 none_is (Some p) e = absurd cc
 
+-- what they leave is the state after the bill
+tested_is : (scenario : Scenario) (s : SchedulerState) (h : List Entry) (c now : ℕ) (running : Option Pick) (e : Entry) (t : SchedulerState) (reboot : Option ℕ)
+    → IsTested scenario s h c now running e t reboot → t ≡ after_bill scenario s h c
+tested_is scenario s h c now running e t reboot b =
+    let entry : e ≡ bill_in s h c = b.entry ∙ (λ i. bill_of c (last_end h c) (b.at_due i) (b.ran i)) in
+    let same : (tested (billed (begun scenario s h c now) e running) h e).state ≡ after_bill scenario s h c =
+    λ i. (tested (billed (begun scenario s h c (b.at_due i)) (entry i) (b.ran i)) h (entry i)).state in
+    sym (ap (λ (test : Tested). test.state) b.test) ∙ same
+
+-- and after the operation it is the state before the pick
+pub settled_is : (scenario : Scenario) (s : SchedulerState) (h : List Entry) (c now : ℕ) (running : Option Pick) (e : Entry) (t : SchedulerState) (reboot : Option ℕ) (did : Effect)
+    → IsTested scenario s h c now running e t reboot → settled scenario t now running ≡ did → did.state ≡ before_pick scenario s h c
+settled_is scenario s h c now running e t reboot did b is =
+    let there = tested_is scenario s h c now running e t reboot b in
+    sym (ap (λ (x : Effect). x.state) is) ∙ (λ i. (settled scenario (there i) (b.at_due i) (b.ran i)).state)
+
 -- where a thread ran there is room for its operation
 pub room_after : (scenario : Scenario) (s : SchedulerState) (h : List Entry) (c now : ℕ) (running : Option Pick) (e : Entry) (t : SchedulerState) (reboot : Option ℕ)
     → IsTested scenario s h c now running e t reboot → ((p : Pick) → (cpu_at s c).running ≡ Some p → HasRoom (after_bill scenario s h c)) → IsSome running → HasRoom t
 room_after scenario s h c now None e t reboot b room some = absurd cc
 room_after scenario s h c now (Some p) e t reboot b room some =
-    let entry : e ≡ bill_in s h c = b.entry ∙ (λ i. bill_of c (last_end h c) (b.at_due i) (b.ran i)) in
-    let same : (tested (billed (begun scenario s h c now) e (Some p)) h e).state ≡ after_bill scenario s h c =
-    λ i. (tested (billed (begun scenario s h c (b.at_due i)) (entry i) (b.ran i)) h (entry i)).state in
-    subst HasRoom (sym same ∙ ap (λ (test : Tested). test.state) b.test) (room p (sym b.ran))
+    subst HasRoom (sym (tested_is scenario s h c now (Some p) e t reboot b)) (room p (sym b.ran))

@@ -11,6 +11,7 @@ use Rattle.aps_laws.specs.Runs.{EndsNoSooner}
 use Rattle.aps_window.specs.Window.{Window}
 use Rattle.aps_core.specs.Counts.{Counts}
 use Rattle.aps_core.specs.LastEnds.{AreEnds}
+use Rattle.aps_core.specs.NextDues.{AreDues}
 use Rattle.aps_core.specs.Pending.{IsPending}
 use Rattle.aps_core.specs.Run.{Run, Setup, history_of, state_of}
 use Rattle.aps_core.specs.Seats.{seats_of}
@@ -36,11 +37,12 @@ pub record IsCore (run : Run) (kept : History) (state : SchedulerState) (parts :
   pub room : length parts ≡ 32
 
 -- what each core keeps: its parts stand for its run, the commands are still to come whose ticks no entry has begun, in the
--- queues are the ready threads, the ends that it keeps are those of its entries, and its window has counted these up to the
--- tick of the last one's end
-pub record IsCoreWith (run : Run) (kept : History) (state : SchedulerState) (parts : List PartFacts) (ready : List (Option Contender)) (commands : List (ℕ × CommandRow)) (ends : List (Option ℕ)) (window : Window) : Type 0 where
+-- queues are the ready threads, the ends and the dues that it keeps are those of its entries, and its window has counted
+-- these up to the tick of the last one's end
+pub record IsCoreWith (run : Run) (kept : History) (state : SchedulerState) (parts : List PartFacts) (ready : List (Option Contender)) (commands : List (ℕ × CommandRow)) (ends : List (Option ℕ)) (dues : List ℕ) (window : Window) : Type 0 where
   pub core : IsCore run kept state parts
   pub pending : IsPending run.setup.scenario run.setup.scenario.shape.tick run.entries commands
   pub seats : ready ≡ seats_of state
   pub lasts : AreEnds run.entries ends
   pub counts : Counts state.shape run.entries (moment run.entries / state.shape.tick) window
+  pub nexts : AreDues state run.entries dues

@@ -1,6 +1,7 @@
 pub mod Calls
 pub mod Kept
 pub mod LastEnds
+pub mod NextDues
 pub mod Short
 pub mod Room
 pub mod Ready

@@ -1,4 +1,4 @@
-use Rattle.std.specs.Prelude.{◌≡◌, ℕ, ◌+◌, ◌-◌, ◌<◌, ◌≤◌, ◌++◌, List, [], ◌∷◌, length, Some}
+use Rattle.std.specs.Prelude.{◌≡◌, ◌≢◌, ℕ, ◌+◌, ◌-◌, ◌<◌, ◌≤◌, ◌++◌, List, [], ◌∷◌, length, Some}
 use Rattle.aps_model.specs.declared.entry.Entry.{Entry}
 use Rattle.aps_model.specs.declared.state.Pick.{Pick}
 use Rattle.aps_model.specs.Due.{due, last_end, next_boundary}
@@ -38,3 +38,5 @@ pub record IsReady (scenario : Scenario) (s : SchedulerState) (h : List Entry) (
   pub rises : moment h ≤ due s h c
   pub in_tick : due s h c ≤ next_boundary s.shape.tick (last_end h c)
   pub bills_fit : (p k : ℕ) → used s.shape.tick (h ++ bill_in s h c ∷ []) p k (k + 1) ≤ 160000000
+  pub others : (d : ℕ) → d ≢ c → due (before_pick scenario s h c) h d ≡ due s h d
+  pub counted : length (before_pick scenario s h c).cpus ≡ length s.cpus

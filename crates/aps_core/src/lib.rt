@@ -5,6 +5,7 @@
 mod append;
 mod carried;
 mod due;
+mod dues;
 mod ends;
 mod machine;
 mod merit;

@@ -10,6 +10,7 @@ ghost use Rattle.aps_laws.specs.Moments.{moment};
 ghost use Rattle.aps_core.specs.Counts.{Counts};
 ghost use Rattle.aps_core.specs.LastEnds.{AreEnds};
 ghost use Rattle.aps_core.specs.Kept.{IsKept};
+ghost use Rattle.aps_core.specs.NextDues.{AreDues, AreOthersDues};
 ghost use Rattle.aps_core.specs.Pending.{IsPending};
 ghost use Rattle.aps_core.specs.Ready.{IsReady};
 ghost use Rattle.aps_core.specs.Rising.{IsRising};
@@ -34,6 +35,7 @@ mod threads;
 mod triple;
 pub mod wake;
 
+use crate::dues::Dues;
 use crate::ends::Ends;
 use crate::{carried, due, usage};
 use aps_ctl::Ctl;
@@ -95,18 +97,17 @@ impl Machine {
     }
 
     /// The lowest of the processors that are due least.
-    pub fn first_due(&self, entries: &[Entry], ends: &Ends) -> CpuId
-        requires entries { All IsEntry entries.now }
-        requires ends { AreEnds entries.now ends.now }
+    pub fn first_due(&self, entries: &[Entry], dues: &Dues) -> CpuId
+        requires dues { AreDues self.now entries.now dues.now }
         ensures same { result ≡ first_due self.now entries.now self.now.shape.cpus }
         ensures within { result < length self.now.cpus }
     {
         let count = self.cpus.len();
         let mut first = CpuId::at(0);
-        let mut least = self.due(entries, ends, first);
+        let mut least = dues.of(first);
         for c in 0..count {
             let cpu = CpuId::at(c);
-            let due = self.due(entries, ends, cpu);
+            let due = dues.of(cpu);
             if due < least {
                 first = cpu;
                 least = due;
@@ -135,7 +136,7 @@ impl Machine {
     fn pick(
         &mut self,
         entries: &[Entry],
-        ends: &Ends,
+        dues: &Dues,
         window: &Window,
         parts: &mut [PartFacts],
         ready: &mut Ready,
@@ -144,9 +145,8 @@ impl Machine {
     ) -> Entry
         requires one_each { length parts.old ≡ length self.old.rows }
         requires cpu { cpu < length self.old.cpus }
-        requires entries { All IsEntry entries.now }
         requires seats { ready.old ≡ seats_of self.old }
-        requires ends { AreEnds entries.now ends.now }
+        requires dues { AreOthersDues self.old entries.now cpu dues.now }
         requires counts { Counts self.old.shape (entries.now ++ e ∷ []) (e.to / self.old.shape.tick) window.now }
         ensures same { pick self.old entries.now cpu e.to e ≡ record { entry = result; state = self.new; reboot = None } }
         ensures parts { length parts.new ≡ length parts.old }
@@ -162,7 +162,7 @@ impl Machine {
         self.choose(parts, cpu, best);
         seats::take_picked(ready, &picked);
         let left = self.greatest(ready, gates, parts);
-        let flagged = self.flag_for(entries, ends, parts, cpu, now, &left);
+        let flagged = self.flag_for(entries, dues, parts, cpu, now, &left);
         self.flag(now, &flagged);
         Entry {
             picked,
@@ -196,6 +196,7 @@ impl Machine {
         scenario: &Scenario,
         entries: &[Entry],
         ends: &Ends,
+        dues: &Dues,
         window: &mut Window,
         parts: &mut [PartFacts],
         ready: &mut Ready,
@@ -210,6 +211,7 @@ impl Machine {
         requires seats { ready.old ≡ seats_of self.old }
         requires entries { All IsEntry entries.now }
         requires ends { AreEnds entries.now ends.now }
+        requires dues { AreDues self.old entries.now dues.now }
         requires rising { IsRising entries.now }
         requires counts { Counts self.old.shape entries.now (moment entries.now / self.old.shape.tick) window.old }
         ensures same { step scenario.now self.old entries.now cpu ≡ record { entry = result.0; state = self.new; reboot = result.1 } }
@@ -218,7 +220,7 @@ impl Machine {
         ensures parts { length parts.new ≡ length parts.old }
         ensures seats { ready.new ≡ seats_of self.new }
     {
-        let now = self.due(entries, ends, cpu);
+        let now = dues.of(cpu);
         let from = ends.last_end(entries, cpu);
         usage::go_on(window, self.tick_of(now));
         let running = self.begin(cpu);
@@ -240,7 +242,7 @@ impl Machine {
         let count = self.tree.count() as usize;
         let picked = self.pick(
             entries,
-            ends,
+            dues,
             window,
             &mut parts[..count],
             ready,

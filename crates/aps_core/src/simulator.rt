@@ -17,6 +17,7 @@ ghost use Rattle.aps_core.specs.Turn.{HasTurnIn, IsFed, IsOwn, IsTaken, IsTurn, 
 
 mod reading;
 
+use crate::dues::Dues;
 use crate::ends::Ends;
 use crate::machine::Machine;
 use crate::machine::wake::Sleepers;
@@ -39,6 +40,7 @@ pub struct Core {
     limit: u32,
     machine: Machine,
     ends: Ends,
+    dues: Dues,
     window: Window,
     parts: Vec<PartFacts>,
     ready: Ready,
@@ -73,6 +75,7 @@ impl Core {
     {
         let machine = Machine::boot(alloc, &scenario)?;
         let ends = Ends::new();
+        let dues = Dues::new();
         let window = Window::new(alloc, scenario.shape().window)?;
         let parts = start_parts(alloc, MOST_PARTITIONS)?;
         let ready = machine.start_ready(alloc)?;
@@ -87,6 +90,7 @@ impl Core {
             limit,
             machine,
             ends,
+            dues,
             window,
             parts,
             ready,
@@ -100,7 +104,7 @@ impl Core {
         requires { cpu < self.now.setup.scenario.shape.cpus }
         ensures { result ≡ due (state_of self.now) self.now.entries cpu }
     {
-        self.machine.due(self.history.entries(), &self.ends, cpu)
+        self.dues.of(cpu)
     }
 
     /// The order of turns.
@@ -216,7 +220,7 @@ impl Core {
         ensures exists { result < self.now.setup.scenario.shape.cpus }
         ensures keeps { IsUnderWay self.now }
     {
-        self.machine.first_due(self.history.entries(), &self.ends)
+        self.machine.first_due(self.history.entries(), &self.dues)
     }
 
     /// Whether the processor has the turn, where this is the lowest that has it.
@@ -247,6 +251,7 @@ impl Core {
             self.history.scenario(),
             self.history.entries(),
             &self.ends,
+            &self.dues,
             &mut self.window,
             self.parts.as_mut_slice(),
             &mut self.ready,
@@ -265,6 +270,8 @@ impl Core {
             reboot,
             self.limit,
         );
+        let due = self.machine.due(self.history.entries(), &self.ends, cpu);
+        self.dues.go_on(&e, due);
         e
     }
 }

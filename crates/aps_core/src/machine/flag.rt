@@ -1,11 +1,10 @@
 ghost use Rattle.std.specs.Prelude.{◌≡◌, ◌<◌, ◌≤◌, length, All, IfSome};
 ghost use Rattle.aps_model.specs.Flag.{rank_of, looked_at, flag_for, with_flag};
-ghost use Rattle.aps_model.specs.History.{IsEntry};
-ghost use Rattle.aps_core.specs.LastEnds.{AreEnds};
+ghost use Rattle.aps_core.specs.NextDues.{AreOthersDues};
 ghost use Rattle.aps_core.specs.Small.{IsSmall};
 
 use super::Machine;
-use crate::ends::Ends;
+use crate::dues::Dues;
 use crate::merit;
 use aps_merit::{is_below, merit_of};
 use aps_model::{Contender, CpuId, CpuNow, Entry, Nanos, PartFacts, Pick, Rank};
@@ -38,7 +37,7 @@ impl Machine {
     fn looked_at(
         &self,
         entries: &[Entry],
-        ends: &Ends,
+        dues: &Dues,
         parts: &[PartFacts],
         left: &Contender,
         c: CpuId,
@@ -46,12 +45,11 @@ impl Machine {
         d: CpuId,
     ) -> Option<Rank>
         requires small { All IsSmall parts.now }
-        requires entries { All IsEntry entries.now }
-        requires ends { AreEnds entries.now ends.now }
+        requires dues { AreOthersDues self.now entries.now c dues.now }
         requires d { d < length self.now.cpus }
         ensures { result ≡ looked_at self.now entries.now parts.now (merit_among parts.now left.now) c now d }
     {
-        if d != c && now < self.due(entries, ends, d) {
+        if d != c && now < dues.of(d) {
             self.rank_of(parts, left, &self.cpus[d.index()].running)
         } else {
             None
@@ -62,15 +60,14 @@ impl Machine {
     pub fn flag_for(
         &self,
         entries: &[Entry],
-        ends: &Ends,
+        dues: &Dues,
         parts: &[PartFacts],
         c: CpuId,
         now: Nanos,
         left: &Option<Contender>,
     ) -> Option<CpuId>
         requires small { All IsSmall parts.now }
-        requires entries { All IsEntry entries.now }
-        requires ends { AreEnds entries.now ends.now }
+        requires dues { AreOthersDues self.now entries.now c dues.now }
         ensures same { result ≡ flag_for self.now entries.now parts.now c now left.now }
         ensures within { IfSome result (λ d. d < length self.now.cpus) }
     {
@@ -80,7 +77,7 @@ impl Machine {
         let mut best = None;
         for d in 0..self.cpus.len() {
             let other = CpuId::at(d);
-            let rank = self.looked_at(entries, ends, parts, left, c, now, other);
+            let rank = self.looked_at(entries, dues, parts, left, c, now, other);
             best = merit::lower_ranked(other, rank, best);
         }
         match best {

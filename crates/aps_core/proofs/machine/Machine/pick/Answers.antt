@@ -7,6 +7,7 @@ use Rattle.aps_model.specs.SchedulerState.{SchedulerState}
 use Rattle.aps_core.specs.Seats.{seats_of}
 use Rattle.aps_core.specs.Counts.{parts_in}
 use Rattle.aps_core.proofs.Counting.{parts_are}
+use Rattle.aps_core.proofs.NextDues.{others_chosen}
 use Rattle.aps_core.proofs.PickStep.{pick_by_parts}
 use Rattle.aps_core.proofs.Rows.{row_ranges}
 use Rattle.aps_core.proofs.Seats.{IsIn, chosen_seats, flagged_seats, if_some, missing_in, picked_in}
@@ -59,3 +60,7 @@ greatest-left-requires-clause-seats c =
 pub returns-clause-seats : goal.returns-clause-seats
 returns-clause-seats c =
     left c ∙ sym (ap seats_of c.flag.ensures ∙ flagged_seats c.choose.new.self c.args.e.to c.flag_for-flagged.result)
+
+pub flag_for-flagged-requires-clause-dues : goal.flag_for-flagged-requires-clause-dues
+flag_for-flagged-requires-clause-dues c =
+    others_chosen c.args.self.now c.choose.new.self c.fill_parts.new.parts c.args.cpu c.greatest-best.result c.args.entries.now c.args.dues.now c.requires.dues c.choose.ensures

@@ -4,6 +4,7 @@ use Rattle.aps_model.specs.declared.entry.Entry.{Entry}
 use Rattle.aps_model.specs.declared.merit.Contender.{Contender}
 use Rattle.aps_model.specs.declared.state.Pick.{Pick}
 use Rattle.aps_model.specs.Bill.{bill_of}
+use Rattle.aps_model.specs.Due.{due}
 use Rattle.aps_model.specs.SchedulerState.{SchedulerState, cpu_at, thread_at}
 use Rattle.aps_model.specs.Step.{Step}
 use Rattle.aps_laws.specs.Between.{after_bill}
@@ -17,13 +18,13 @@ use Rattle.aps_core.specs.Touched.{IsTouched, is_at_channel, peer_of}
 use Rattle.aps_core.proofs.Seats.{seats_count, who_seats}
 use Rattle.aps_core.proofs.SeatsStay.{step_seat}
 use Rattle.aps_core.proofs.StepCounts.{IsBilling, counts_begun, counts_left, done_bill, entry_of, own_bill, picked_bill, room_to_bill, settled_shape, spent_shape, tested_shape}
-use Rattle.aps_core.proofs.StepParts.{billed_by, none_is, room_after, settled_by, step_below, tested_by, ticked_by, where_it_runs}
+use Rattle.aps_core.proofs.StepParts.{billed_by, none_is, room_after, settled_by, settled_is, step_below, tested_by, ticked_by, where_it_runs}
 use Rattle.aps_core.proofs.machine.Machine.step.Goals as goal
 
 -- ---- the work of the tick
 
 pub work_tick-commanded-requires-clause-now : goal.work_tick-commanded-requires-clause-now
-work_tick-commanded-requires-clause-now c = rw c.due-now.ensures c.requires.ready.early
+work_tick-commanded-requires-clause-now c = rw (c.of-now.ensures ∙ c.requires.dues c.args.cpu c.requires.ready.exists) c.requires.ready.early
 
 pub work_tick-commanded-requires-clause-room : goal.work_tick-commanded-requires-clause-room
 work_tick-commanded-requires-clause-room c =
@@ -33,12 +34,12 @@ work_tick-commanded-requires-clause-room c =
 pub work_tick-commanded-requires-clause-replies : goal.work_tick-commanded-requires-clause-replies
 work_tick-commanded-requires-clause-replies c =
     subst (λ (s : SchedulerState). length s.replies ≤ 1024)
-    (sym (ticked_by c.args.scenario.now c.args.self.now c.args.entries.now c.args.cpu _ _ _ c.due-now.ensures c.begin-running.ensures.same refl)) c.requires.ready.replies
+    (sym (ticked_by c.args.scenario.now c.args.self.now c.args.entries.now c.args.cpu _ _ _ (c.of-now.ensures ∙ c.requires.dues c.args.cpu c.requires.ready.exists) c.begin-running.ensures.same refl)) c.requires.ready.replies
 
 pub work_tick-commanded-requires-clause-changes : goal.work_tick-commanded-requires-clause-changes
 work_tick-commanded-requires-clause-changes c =
     subst (λ (s : SchedulerState). length s.changes ≤ 2079)
-    (sym (ticked_by c.args.scenario.now c.args.self.now c.args.entries.now c.args.cpu _ _ _ c.due-now.ensures c.begin-running.ensures.same refl)) c.requires.ready.changes_ticked
+    (sym (ticked_by c.args.scenario.now c.args.self.now c.args.entries.now c.args.cpu _ _ _ (c.of-now.ensures ∙ c.requires.dues c.args.cpu c.requires.ready.exists) c.begin-running.ensures.same refl)) c.requires.ready.changes_ticked
 
 pub work_tick-commanded-requires-clause-pending : goal.work_tick-commanded-requires-clause-pending
 work_tick-commanded-requires-clause-pending c =
@@ -47,15 +48,15 @@ work_tick-commanded-requires-clause-pending c =
 -- ---- the bill
 
 pub bill-requires-clause-to : goal.bill-requires-clause-to
-bill-requires-clause-to c = rw (c.bill_of-e.ensures.to, c.due-now.ensures) c.requires.ready.early
+bill-requires-clause-to c = rw (c.bill_of-e.ensures.to, (c.of-now.ensures ∙ c.requires.dues c.args.cpu c.requires.ready.exists)) c.requires.ready.early
 
 pub bill-requires-clause-forward : goal.bill-requires-clause-forward
-bill-requires-clause-forward c = rw (c.bill_of-e.ensures.from, c.bill_of-e.ensures.to, c.due-now.ensures, c.last_end-from.ensures.same) c.requires.ready.forward
+bill-requires-clause-forward c = rw (c.bill_of-e.ensures.from, c.bill_of-e.ensures.to, (c.of-now.ensures ∙ c.requires.dues c.args.cpu c.requires.ready.exists), c.last_end-from.ensures.same) c.requires.ready.forward
 
 pub bill-requires-clause-since : goal.bill-requires-clause-since
 bill-requires-clause-since c =
     subst (λ (s : SchedulerState). (x : ℕ) → (thread_at s x).since ≤ 10000000000000)
-    (sym (ticked_by c.args.scenario.now c.args.self.now c.args.entries.now c.args.cpu _ _ _ c.due-now.ensures c.begin-running.ensures.same c.work_tick-commanded.ensures.same))
+    (sym (ticked_by c.args.scenario.now c.args.self.now c.args.entries.now c.args.cpu _ _ _ (c.of-now.ensures ∙ c.requires.dues c.args.cpu c.requires.ready.exists) c.begin-running.ensures.same c.work_tick-commanded.ensures.same))
     c.requires.ready.since
 
 -- ---- the whole
@@ -64,7 +65,7 @@ pub returns-clause-same : goal.returns-clause-same
 returns-clause-same c =
     let b =
     tested_by c.args.scenario.now c.args.self.now c.args.entries.now c.args.cpu _ _ _ _ _ _ _ _ _
-    c.due-now.ensures c.last_end-from.ensures.same c.begin-running.ensures.running c.begin-running.ensures.same c.work_tick-commanded.ensures.same c.bill_of-e.ensures.same c.bill.ensures c.test-reboot.ensures in
+    (c.of-now.ensures ∙ c.requires.dues c.args.cpu c.requires.ready.exists) c.last_end-from.ensures.same c.begin-running.ensures.running c.begin-running.ensures.same c.work_tick-commanded.ensures.same c.bill_of-e.ensures.same c.bill.ensures c.test-reboot.ensures in
     step_below c.args.scenario.now c.args.self.now c.args.entries.now c.args.cpu _ _ _ _ _ _ _ b
     (none_is c.test-reboot.result (sym c.is_some.ensures ∙ c.if-is_some.false))
     (λ there. c.if-now-horizon.false (there ∙ sym c.horizon.ensures.same)) c.settle-done.ensures c.bill_of-e.ensures.to c.pick-picked.ensures.same
@@ -73,16 +74,16 @@ returns-clause-same c =
 
 pub work_tick-commanded-requires-clause-counts : goal.work_tick-commanded-requires-clause-counts
 work_tick-commanded-requires-clause-counts c =
-    counts_begun c.args.self.now c.begin-running.new.self c.args.entries.now c.args.cpu c.due-now.result c.tick_of.result c.args.window.now c.go_on.new.window c.requires.counts
-    (omega (arith, c.requires.ready.rises, c.due-now.ensures)) c.tick_of.ensures.same c.go_on.ensures c.begin-running.ensures.same
+    counts_begun c.args.self.now c.begin-running.new.self c.args.entries.now c.args.cpu c.of-now.result c.tick_of.result c.args.window.now c.go_on.new.window c.requires.counts
+    (omega (arith, c.requires.ready.rises, (c.of-now.ensures ∙ c.requires.dues c.args.cpu c.requires.ready.exists))) c.tick_of.ensures.same c.go_on.ensures c.begin-running.ensures.same
 
 pub add_time-requires-clause-entry : goal.add_time-requires-clause-entry
 add_time-requires-clause-entry c =
     let s2 = state_of c.self.inside in
     let e = c.bill_of-e.result in
-    let b : IsBilling c.args.scenario.now c.args.self.now c.args.entries.now c.args.cpu c.due-now.result c.last_end-from.result c.tick_of.result c.begin-running.result c.begin-running.new.self s2 e =
+    let b : IsBilling c.args.scenario.now c.args.self.now c.args.entries.now c.args.cpu c.of-now.result c.last_end-from.result c.tick_of.result c.begin-running.result c.begin-running.new.self s2 e =
     record {
-      at_due = c.due-now.ensures;
+      at_due = (c.of-now.ensures ∙ c.requires.dues c.args.cpu c.requires.ready.exists);
       from_end = c.last_end-from.ensures.same;
       ran = c.begin-running.ensures.running;
       begun = c.begin-running.ensures.same;
@@ -92,15 +93,15 @@ add_time-requires-clause-entry c =
       ends = c.bill_of-e.ensures.to;
       at_tick = c.tick_of.ensures.same;
     } in
-    entry_of c.args.scenario.now c.args.self.now c.args.entries.now c.args.cpu c.due-now.result c.last_end-from.result c.tick_of.result c.begin-running.result c.begin-running.new.self s2 e c.requires.ready b
+    entry_of c.args.scenario.now c.args.self.now c.args.entries.now c.args.cpu c.of-now.result c.last_end-from.result c.tick_of.result c.begin-running.result c.begin-running.new.self s2 e c.requires.ready b
 
 pub add_time-requires-clause-room : goal.add_time-requires-clause-room
 add_time-requires-clause-room c =
     let s2 = state_of c.self.inside in
     let e = c.bill_of-e.result in
-    let b : IsBilling c.args.scenario.now c.args.self.now c.args.entries.now c.args.cpu c.due-now.result c.last_end-from.result c.tick_of.result c.begin-running.result c.begin-running.new.self s2 e =
+    let b : IsBilling c.args.scenario.now c.args.self.now c.args.entries.now c.args.cpu c.of-now.result c.last_end-from.result c.tick_of.result c.begin-running.result c.begin-running.new.self s2 e =
     record {
-      at_due = c.due-now.ensures;
+      at_due = (c.of-now.ensures ∙ c.requires.dues c.args.cpu c.requires.ready.exists);
       from_end = c.last_end-from.ensures.same;
       ran = c.begin-running.ensures.running;
       begun = c.begin-running.ensures.same;
@@ -110,19 +111,19 @@ add_time-requires-clause-room c =
       ends = c.bill_of-e.ensures.to;
       at_tick = c.tick_of.ensures.same;
     } in
-    let before = subst (λ (u : SchedulerState). Counts u.shape c.args.entries.now (c.due-now.result / c.begin-running.new.self.shape.tick) c.work_tick-commanded.new.window) (sym c.self.view_is) c.work_tick-commanded.ensures.counts in
-    room_to_bill c.args.scenario.now c.args.self.now c.args.entries.now c.args.cpu c.due-now.result c.last_end-from.result c.tick_of.result c.begin-running.result c.begin-running.new.self s2 e c.work_tick-commanded.new.window
+    let before = subst (λ (u : SchedulerState). Counts u.shape c.args.entries.now (c.of-now.result / c.begin-running.new.self.shape.tick) c.work_tick-commanded.new.window) (sym c.self.view_is) c.work_tick-commanded.ensures.counts in
+    room_to_bill c.args.scenario.now c.args.self.now c.args.entries.now c.args.cpu c.of-now.result c.last_end-from.result c.tick_of.result c.begin-running.result c.begin-running.new.self s2 e c.work_tick-commanded.new.window
     c.requires.ready b c.tick_of.ensures.few c.self.invariant.shape
-    (entry_of c.args.scenario.now c.args.self.now c.args.entries.now c.args.cpu c.due-now.result c.last_end-from.result c.tick_of.result c.begin-running.result c.begin-running.new.self s2 e c.requires.ready b)
+    (entry_of c.args.scenario.now c.args.self.now c.args.entries.now c.args.cpu c.of-now.result c.last_end-from.result c.tick_of.result c.begin-running.result c.begin-running.new.self s2 e c.requires.ready b)
     before
 
 pub test-reboot-requires-clause-counts : goal.test-reboot-requires-clause-counts
 test-reboot-requires-clause-counts c =
     let s2 = state_of c.self.inside in
     let e = c.bill_of-e.result in
-    let b : IsBilling c.args.scenario.now c.args.self.now c.args.entries.now c.args.cpu c.due-now.result c.last_end-from.result c.tick_of.result c.begin-running.result c.begin-running.new.self s2 e =
+    let b : IsBilling c.args.scenario.now c.args.self.now c.args.entries.now c.args.cpu c.of-now.result c.last_end-from.result c.tick_of.result c.begin-running.result c.begin-running.new.self s2 e =
     record {
-      at_due = c.due-now.ensures;
+      at_due = (c.of-now.ensures ∙ c.requires.dues c.args.cpu c.requires.ready.exists);
       from_end = c.last_end-from.ensures.same;
       ran = c.begin-running.ensures.running;
       begun = c.begin-running.ensures.same;
@@ -132,10 +133,10 @@ test-reboot-requires-clause-counts c =
       ends = c.bill_of-e.ensures.to;
       at_tick = c.tick_of.ensures.same;
     } in
-    let before = subst (λ (u : SchedulerState). Counts u.shape c.args.entries.now (c.due-now.result / c.begin-running.new.self.shape.tick) c.work_tick-commanded.new.window) (sym c.self.view_is) c.work_tick-commanded.ensures.counts in
-    let with_bill = c.add_time.ensures c.args.entries.now (c.due-now.result / c.begin-running.new.self.shape.tick) before in
+    let before = subst (λ (u : SchedulerState). Counts u.shape c.args.entries.now (c.of-now.result / c.begin-running.new.self.shape.tick) c.work_tick-commanded.new.window) (sym c.self.view_is) c.work_tick-commanded.ensures.counts in
+    let with_bill = c.add_time.ensures c.args.entries.now (c.of-now.result / c.begin-running.new.self.shape.tick) before in
     let spent : c.bill.new.self.shape ≡ s2.shape = spent_shape c.work_tick-commanded.new.self e c.begin-running.result c.bill.new.self c.bill.ensures ∙ ap (λ (u : SchedulerState). u.shape) (sym c.self.view_is) in
-    counts_left c.args.scenario.now c.args.self.now c.args.entries.now c.args.cpu c.due-now.result c.last_end-from.result c.tick_of.result c.begin-running.result c.begin-running.new.self s2 e c.add_time.new.window
+    counts_left c.args.scenario.now c.args.self.now c.args.entries.now c.args.cpu c.of-now.result c.last_end-from.result c.tick_of.result c.begin-running.result c.begin-running.new.self s2 e c.add_time.new.window
     c.requires.ready b with_bill c.bill.new.self e (spent) (own_bill e)
 
 pub returns-then-is_some-clause-pending : goal.returns-then-is_some-clause-pending
@@ -147,9 +148,9 @@ pub returns-then-is_some-clause-counts : goal.returns-then-is_some-clause-counts
 returns-then-is_some-clause-counts c =
     let s2 = state_of c.self.inside in
     let e = c.bill_of-e.result in
-    let b : IsBilling c.args.scenario.now c.args.self.now c.args.entries.now c.args.cpu c.due-now.result c.last_end-from.result c.tick_of.result c.begin-running.result c.begin-running.new.self s2 e =
+    let b : IsBilling c.args.scenario.now c.args.self.now c.args.entries.now c.args.cpu c.of-now.result c.last_end-from.result c.tick_of.result c.begin-running.result c.begin-running.new.self s2 e =
     record {
-      at_due = c.due-now.ensures;
+      at_due = (c.of-now.ensures ∙ c.requires.dues c.args.cpu c.requires.ready.exists);
       from_end = c.last_end-from.ensures.same;
       ran = c.begin-running.ensures.running;
       begun = c.begin-running.ensures.same;
@@ -159,11 +160,11 @@ returns-then-is_some-clause-counts c =
       ends = c.bill_of-e.ensures.to;
       at_tick = c.tick_of.ensures.same;
     } in
-    let before = subst (λ (u : SchedulerState). Counts u.shape c.args.entries.now (c.due-now.result / c.begin-running.new.self.shape.tick) c.work_tick-commanded.new.window) (sym c.self.view_is) c.work_tick-commanded.ensures.counts in
-    let with_bill = c.add_time.ensures c.args.entries.now (c.due-now.result / c.begin-running.new.self.shape.tick) before in
+    let before = subst (λ (u : SchedulerState). Counts u.shape c.args.entries.now (c.of-now.result / c.begin-running.new.self.shape.tick) c.work_tick-commanded.new.window) (sym c.self.view_is) c.work_tick-commanded.ensures.counts in
+    let with_bill = c.add_time.ensures c.args.entries.now (c.of-now.result / c.begin-running.new.self.shape.tick) before in
     let spent : c.bill.new.self.shape ≡ s2.shape = spent_shape c.work_tick-commanded.new.self e c.begin-running.result c.bill.new.self c.bill.ensures ∙ ap (λ (u : SchedulerState). u.shape) (sym c.self.view_is) in
     let tested = tested_shape c.bill.new.self c.args.entries.now e c.test-reboot.new.self c.test-reboot.result c.test-reboot.ensures in
-    counts_left c.args.scenario.now c.args.self.now c.args.entries.now c.args.cpu c.due-now.result c.last_end-from.result c.tick_of.result c.begin-running.result c.begin-running.new.self s2 e c.add_time.new.window
+    counts_left c.args.scenario.now c.args.self.now c.args.entries.now c.args.cpu c.of-now.result c.last_end-from.result c.tick_of.result c.begin-running.result c.begin-running.new.self s2 e c.add_time.new.window
     c.requires.ready b with_bill c.test-reboot.new.self e (tested ∙ spent) (own_bill e)
 
 pub returns-then-now-horizon-clause-pending : goal.returns-then-now-horizon-clause-pending
@@ -175,9 +176,9 @@ pub returns-then-now-horizon-clause-counts : goal.returns-then-now-horizon-claus
 returns-then-now-horizon-clause-counts c =
     let s2 = state_of c.self.inside in
     let e = c.bill_of-e.result in
-    let b : IsBilling c.args.scenario.now c.args.self.now c.args.entries.now c.args.cpu c.due-now.result c.last_end-from.result c.tick_of.result c.begin-running.result c.begin-running.new.self s2 e =
+    let b : IsBilling c.args.scenario.now c.args.self.now c.args.entries.now c.args.cpu c.of-now.result c.last_end-from.result c.tick_of.result c.begin-running.result c.begin-running.new.self s2 e =
     record {
-      at_due = c.due-now.ensures;
+      at_due = (c.of-now.ensures ∙ c.requires.dues c.args.cpu c.requires.ready.exists);
       from_end = c.last_end-from.ensures.same;
       ran = c.begin-running.ensures.running;
       begun = c.begin-running.ensures.same;
@@ -187,27 +188,27 @@ returns-then-now-horizon-clause-counts c =
       ends = c.bill_of-e.ensures.to;
       at_tick = c.tick_of.ensures.same;
     } in
-    let before = subst (λ (u : SchedulerState). Counts u.shape c.args.entries.now (c.due-now.result / c.begin-running.new.self.shape.tick) c.work_tick-commanded.new.window) (sym c.self.view_is) c.work_tick-commanded.ensures.counts in
-    let with_bill = c.add_time.ensures c.args.entries.now (c.due-now.result / c.begin-running.new.self.shape.tick) before in
+    let before = subst (λ (u : SchedulerState). Counts u.shape c.args.entries.now (c.of-now.result / c.begin-running.new.self.shape.tick) c.work_tick-commanded.new.window) (sym c.self.view_is) c.work_tick-commanded.ensures.counts in
+    let with_bill = c.add_time.ensures c.args.entries.now (c.of-now.result / c.begin-running.new.self.shape.tick) before in
     let spent : c.bill.new.self.shape ≡ s2.shape = spent_shape c.work_tick-commanded.new.self e c.begin-running.result c.bill.new.self c.bill.ensures ∙ ap (λ (u : SchedulerState). u.shape) (sym c.self.view_is) in
     let tested = tested_shape c.bill.new.self c.args.entries.now e c.test-reboot.new.self c.test-reboot.result c.test-reboot.ensures in
-    counts_left c.args.scenario.now c.args.self.now c.args.entries.now c.args.cpu c.due-now.result c.last_end-from.result c.tick_of.result c.begin-running.result c.begin-running.new.self s2 e c.add_time.new.window
+    counts_left c.args.scenario.now c.args.self.now c.args.entries.now c.args.cpu c.of-now.result c.last_end-from.result c.tick_of.result c.begin-running.result c.begin-running.new.self s2 e c.add_time.new.window
     c.requires.ready b with_bill c.test-reboot.new.self e (tested ∙ spent) (own_bill e)
 
 pub settle-done-requires-clause-room : goal.settle-done-requires-clause-room
 settle-done-requires-clause-room c =
-    room_after c.args.scenario.now c.args.self.now c.args.entries.now c.args.cpu c.due-now.result c.begin-running.result c.bill_of-e.result c.test-reboot.new.self c.test-reboot.result
+    room_after c.args.scenario.now c.args.self.now c.args.entries.now c.args.cpu c.of-now.result c.begin-running.result c.bill_of-e.result c.test-reboot.new.self c.test-reboot.result
     (tested_by c.args.scenario.now c.args.self.now c.args.entries.now c.args.cpu _ _ _ _ _ _ _ _ _
-    c.due-now.ensures c.last_end-from.ensures.same c.begin-running.ensures.running c.begin-running.ensures.same c.work_tick-commanded.ensures.same c.bill_of-e.ensures.same c.bill.ensures c.test-reboot.ensures)
+    (c.of-now.ensures ∙ c.requires.dues c.args.cpu c.requires.ready.exists) c.last_end-from.ensures.same c.begin-running.ensures.running c.begin-running.ensures.same c.work_tick-commanded.ensures.same c.bill_of-e.ensures.same c.bill.ensures c.test-reboot.ensures)
     c.requires.ready.room
 
 pub pick-picked-requires-clause-counts : goal.pick-picked-requires-clause-counts
 pick-picked-requires-clause-counts c =
     let s2 = state_of c.self.inside in
     let e = c.bill_of-e.result in
-    let b : IsBilling c.args.scenario.now c.args.self.now c.args.entries.now c.args.cpu c.due-now.result c.last_end-from.result c.tick_of.result c.begin-running.result c.begin-running.new.self s2 e =
+    let b : IsBilling c.args.scenario.now c.args.self.now c.args.entries.now c.args.cpu c.of-now.result c.last_end-from.result c.tick_of.result c.begin-running.result c.begin-running.new.self s2 e =
     record {
-      at_due = c.due-now.ensures;
+      at_due = (c.of-now.ensures ∙ c.requires.dues c.args.cpu c.requires.ready.exists);
       from_end = c.last_end-from.ensures.same;
       ran = c.begin-running.ensures.running;
       begun = c.begin-running.ensures.same;
@@ -217,12 +218,12 @@ pick-picked-requires-clause-counts c =
       ends = c.bill_of-e.ensures.to;
       at_tick = c.tick_of.ensures.same;
     } in
-    let before = subst (λ (u : SchedulerState). Counts u.shape c.args.entries.now (c.due-now.result / c.begin-running.new.self.shape.tick) c.work_tick-commanded.new.window) (sym c.self.view_is) c.work_tick-commanded.ensures.counts in
-    let with_bill = c.add_time.ensures c.args.entries.now (c.due-now.result / c.begin-running.new.self.shape.tick) before in
+    let before = subst (λ (u : SchedulerState). Counts u.shape c.args.entries.now (c.of-now.result / c.begin-running.new.self.shape.tick) c.work_tick-commanded.new.window) (sym c.self.view_is) c.work_tick-commanded.ensures.counts in
+    let with_bill = c.add_time.ensures c.args.entries.now (c.of-now.result / c.begin-running.new.self.shape.tick) before in
     let spent : c.bill.new.self.shape ≡ s2.shape = spent_shape c.work_tick-commanded.new.self e c.begin-running.result c.bill.new.self c.bill.ensures ∙ ap (λ (u : SchedulerState). u.shape) (sym c.self.view_is) in
     let tested = tested_shape c.bill.new.self c.args.entries.now e c.test-reboot.new.self c.test-reboot.result c.test-reboot.ensures in
-    let settled = settled_shape c.args.scenario.now c.test-reboot.new.self c.due-now.result c.begin-running.result _ c.settle-done.ensures in
-    counts_left c.args.scenario.now c.args.self.now c.args.entries.now c.args.cpu c.due-now.result c.last_end-from.result c.tick_of.result c.begin-running.result c.begin-running.new.self s2 e c.add_time.new.window
+    let settled = settled_shape c.args.scenario.now c.test-reboot.new.self c.of-now.result c.begin-running.result _ c.settle-done.ensures in
+    counts_left c.args.scenario.now c.args.self.now c.args.entries.now c.args.cpu c.of-now.result c.last_end-from.result c.tick_of.result c.begin-running.result c.begin-running.new.self s2 e c.add_time.new.window
     c.requires.ready b with_bill c.settle-done.new.self (record e { done = c.settle-done.result }) (settled ∙ tested ∙ spent) (done_bill e c.settle-done.result)
 
 pub returns-clause-pending : goal.returns-clause-pending
@@ -234,9 +235,9 @@ pub returns-clause-counts : goal.returns-clause-counts
 returns-clause-counts c =
     let s2 = state_of c.self.inside in
     let e = c.bill_of-e.result in
-    let b : IsBilling c.args.scenario.now c.args.self.now c.args.entries.now c.args.cpu c.due-now.result c.last_end-from.result c.tick_of.result c.begin-running.result c.begin-running.new.self s2 e =
+    let b : IsBilling c.args.scenario.now c.args.self.now c.args.entries.now c.args.cpu c.of-now.result c.last_end-from.result c.tick_of.result c.begin-running.result c.begin-running.new.self s2 e =
     record {
-      at_due = c.due-now.ensures;
+      at_due = (c.of-now.ensures ∙ c.requires.dues c.args.cpu c.requires.ready.exists);
       from_end = c.last_end-from.ensures.same;
       ran = c.begin-running.ensures.running;
       begun = c.begin-running.ensures.same;
@@ -246,13 +247,26 @@ returns-clause-counts c =
       ends = c.bill_of-e.ensures.to;
       at_tick = c.tick_of.ensures.same;
     } in
-    let before = subst (λ (u : SchedulerState). Counts u.shape c.args.entries.now (c.due-now.result / c.begin-running.new.self.shape.tick) c.work_tick-commanded.new.window) (sym c.self.view_is) c.work_tick-commanded.ensures.counts in
-    let with_bill = c.add_time.ensures c.args.entries.now (c.due-now.result / c.begin-running.new.self.shape.tick) before in
+    let before = subst (λ (u : SchedulerState). Counts u.shape c.args.entries.now (c.of-now.result / c.begin-running.new.self.shape.tick) c.work_tick-commanded.new.window) (sym c.self.view_is) c.work_tick-commanded.ensures.counts in
+    let with_bill = c.add_time.ensures c.args.entries.now (c.of-now.result / c.begin-running.new.self.shape.tick) before in
     let spent : c.bill.new.self.shape ≡ s2.shape = spent_shape c.work_tick-commanded.new.self e c.begin-running.result c.bill.new.self c.bill.ensures ∙ ap (λ (u : SchedulerState). u.shape) (sym c.self.view_is) in
     let tested = tested_shape c.bill.new.self c.args.entries.now e c.test-reboot.new.self c.test-reboot.result c.test-reboot.ensures in
-    let settled = settled_shape c.args.scenario.now c.test-reboot.new.self c.due-now.result c.begin-running.result _ c.settle-done.ensures in
-    counts_left c.args.scenario.now c.args.self.now c.args.entries.now c.args.cpu c.due-now.result c.last_end-from.result c.tick_of.result c.begin-running.result c.begin-running.new.self s2 e c.add_time.new.window
+    let settled = settled_shape c.args.scenario.now c.test-reboot.new.self c.of-now.result c.begin-running.result _ c.settle-done.ensures in
+    counts_left c.args.scenario.now c.args.self.now c.args.entries.now c.args.cpu c.of-now.result c.last_end-from.result c.tick_of.result c.begin-running.result c.begin-running.new.self s2 e c.add_time.new.window
     c.requires.ready b with_bill c.pick-picked.new.self c.pick-picked.result (c.pick-picked.ensures.kept.shape ∙ settled ∙ tested ∙ spent) (picked_bill c.settle-done.new.self c.args.entries.now c.args.cpu c.bill_of-e.result.to c.bill_of-e.result c.settle-done.result _ c.pick-picked.ensures.same)
+
+pub pick-picked-requires-clause-dues : goal.pick-picked-requires-clause-dues
+pick-picked-requires-clause-dues c =
+    let s = c.args.self.now in
+    let h = c.args.entries.now in
+    let before =
+    settled_is c.args.scenario.now s h c.args.cpu c.of-now.result c.begin-running.result c.bill_of-e.result c.test-reboot.new.self c.test-reboot.result _
+    (tested_by c.args.scenario.now s h c.args.cpu _ _ _ _ _ _ _ _ _
+    (c.of-now.ensures ∙ c.requires.dues c.args.cpu c.requires.ready.exists) c.last_end-from.ensures.same c.begin-running.ensures.running c.begin-running.ensures.same c.work_tick-commanded.ensures.same c.bill_of-e.ensures.same c.bill.ensures c.test-reboot.ensures)
+    c.settle-done.ensures in
+    λ d inside ne.
+    let there = ap (λ (u : SchedulerState). length u.cpus) before in
+    c.requires.dues d (omega (arith, inside, there, c.requires.ready.counted)) ∙ sym (c.requires.ready.others d ne) ∙ ap (λ (u : SchedulerState). due u h d) (sym before)
 
 -- ---- the queues
 
@@ -260,7 +274,7 @@ pub sync_all-requires-clause-count : goal.sync_all-requires-clause-count
 sync_all-requires-clause-count c =
     let b =
     tested_by c.args.scenario.now c.args.self.now c.args.entries.now c.args.cpu _ _ _ _ _ _ _ _ _
-    c.due-now.ensures c.last_end-from.ensures.same c.begin-running.ensures.running c.begin-running.ensures.same c.work_tick-commanded.ensures.same c.bill_of-e.ensures.same c.bill.ensures c.test-reboot.ensures in
+    (c.of-now.ensures ∙ c.requires.dues c.args.cpu c.requires.ready.exists) c.last_end-from.ensures.same c.begin-running.ensures.running c.begin-running.ensures.same c.work_tick-commanded.ensures.same c.bill_of-e.ensures.same c.bill.ensures c.test-reboot.ensures in
     ap length c.requires.seats ∙ seats_count c.args.self.now ∙ sym c.requires.ready.count_billed
     ∙ ap (λ (s : SchedulerState). length s.threads) (sym (billed_by c.args.scenario.now c.args.self.now c.args.entries.now c.args.cpu _ _ _ _ _ b))
 
@@ -268,7 +282,7 @@ pub sync_all-requires-then-now-horizon-clause-count : goal.sync_all-requires-the
 sync_all-requires-then-now-horizon-clause-count c =
     let b =
     tested_by c.args.scenario.now c.args.self.now c.args.entries.now c.args.cpu _ _ _ _ _ _ _ _ _
-    c.due-now.ensures c.last_end-from.ensures.same c.begin-running.ensures.running c.begin-running.ensures.same c.work_tick-commanded.ensures.same c.bill_of-e.ensures.same c.bill.ensures c.test-reboot.ensures in
+    (c.of-now.ensures ∙ c.requires.dues c.args.cpu c.requires.ready.exists) c.last_end-from.ensures.same c.begin-running.ensures.running c.begin-running.ensures.same c.work_tick-commanded.ensures.same c.bill_of-e.ensures.same c.bill.ensures c.test-reboot.ensures in
     ap length c.requires.seats ∙ seats_count c.args.self.now ∙ sym c.requires.ready.count_billed
     ∙ ap (λ (s : SchedulerState). length s.threads) (sym (billed_by c.args.scenario.now c.args.self.now c.args.entries.now c.args.cpu _ _ _ _ _ b))
 
@@ -276,7 +290,7 @@ pub sync-requires-clause-count : goal.sync-requires-clause-count
 sync-requires-clause-count c =
     let b =
     tested_by c.args.scenario.now c.args.self.now c.args.entries.now c.args.cpu _ _ _ _ _ _ _ _ _
-    c.due-now.ensures c.last_end-from.ensures.same c.begin-running.ensures.running c.begin-running.ensures.same c.work_tick-commanded.ensures.same c.bill_of-e.ensures.same c.bill.ensures c.test-reboot.ensures in
+    (c.of-now.ensures ∙ c.requires.dues c.args.cpu c.requires.ready.exists) c.last_end-from.ensures.same c.begin-running.ensures.running c.begin-running.ensures.same c.work_tick-commanded.ensures.same c.bill_of-e.ensures.same c.bill.ensures c.test-reboot.ensures in
     ap length c.requires.seats ∙ seats_count c.args.self.now ∙ sym c.requires.ready.count_settled
     ∙ ap (λ (s : SchedulerState). length s.threads)
     (sym (settled_by c.args.scenario.now c.args.self.now c.args.entries.now c.args.cpu _ _ _ _ _ _ b c.settle-done.ensures))
@@ -290,12 +304,12 @@ pub sync-requires-clause-tied : goal.sync-requires-clause-tied
 sync-requires-clause-tied c idle calm y apart =
     let b =
     tested_by c.args.scenario.now c.args.self.now c.args.entries.now c.args.cpu _ _ _ _ _ _ _ _ _
-    c.due-now.ensures c.last_end-from.ensures.same c.begin-running.ensures.running c.begin-running.ensures.same c.work_tick-commanded.ensures.same c.bill_of-e.ensures.same c.bill.ensures c.test-reboot.ensures in
+    (c.of-now.ensures ∙ c.requires.dues c.args.cpu c.requires.ready.exists) c.last_end-from.ensures.same c.begin-running.ensures.running c.begin-running.ensures.same c.work_tick-commanded.ensures.same c.bill_of-e.ensures.same c.bill.ensures c.test-reboot.ensures in
     let billed = billed_by c.args.scenario.now c.args.self.now c.args.entries.now c.args.cpu _ _ _ _ _ b in
     let own : c.bill_of-e.result.ran ≡ option_map (λ (p : Pick). p.thread) c.begin-running.result =
-    ap (λ (e : Entry). e.ran) c.bill_of-e.ensures.same ∙ ran c.args.cpu c.last_end-from.result c.due-now.result c.begin-running.result in
+    ap (λ (e : Entry). e.ran) c.bill_of-e.ensures.same ∙ ran c.args.cpu c.last_end-from.result c.of-now.result c.begin-running.result in
     ap (λ (l : List (Option Contender)). who_at l y) c.requires.seats ∙ who_seats c.args.self.now y
-    ∙ sym (step_seat c.args.scenario.now c.args.self.now c.args.entries.now c.args.cpu c.due-now.result y _ c.begin-running.result c.bill_of-e.result _ _ _ _ c.test-reboot.result
+    ∙ sym (step_seat c.args.scenario.now c.args.self.now c.args.entries.now c.args.cpu c.of-now.result y _ c.begin-running.result c.bill_of-e.result _ _ _ _ c.test-reboot.result
     (record { state = c.settle-done.new.self; done = c.settle-done.result }) c.work_tick-commanded.new.sleepers
     c.begin-running.ensures.same (c.work_tick-commanded.ensures.idle idle y) c.bill.ensures c.test-reboot.ensures c.settle-done.ensures
     (λ p runs. subst (λ (s : SchedulerState). IsNobodysClient s.triples p.thread) (sym billed) (c.requires.ready.free_billed p (sym c.begin-running.ensures.running ∙ runs)))

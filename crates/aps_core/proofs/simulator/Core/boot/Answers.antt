@@ -6,6 +6,7 @@ use Rattle.aps_laws.specs.Stamps.{IsStamped}
 use Rattle.aps_core.specs.Run.{Setup}
 use Rattle.aps_core.proofs.Boot.{opening_stamped}
 use Rattle.aps_core.proofs.Counting.{counts_begin}
+use Rattle.aps_core.proofs.DuesKept.{dues_none}
 use Rattle.aps_core.proofs.Kept.{begun_core}
 use Rattle.aps_model.specs.declared.shape.Shape.{Shape}
 use Rattle.aps_core.proofs.simulator.Core.boot.Goals as goal
@@ -29,5 +30,6 @@ invariant_of-result c =
       pending = λ j none. ap (all_at j) c.in_ok-ctl.ensures;
       seats = c.in_ok-ready.ensures;
       lasts = c.new-ends.ensures;
+      nexts = dues_none c.in_ok-machine.machine _ c.new-dues.ensures;
       counts = counts_begin c.args.scenario c.in_ok-machine.machine _ c.in_ok-window.window c.commands.ensures.valid.shape c.in_ok-machine.ensures (ap (λ (s : Shape). s.window) c.shape.ensures.same) c.in_ok-window.ensures.same;
     })

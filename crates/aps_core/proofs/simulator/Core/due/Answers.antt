@@ -1,13 +1,15 @@
-use Rattle.aps_core.specs.Core.{IsCore}
+use Rattle.std.proofs.Common.{◌≡◌, ◌<◌, ◌∙◌, ap, subst, sym}
+use Rattle.aps_model.specs.Due.{due}
+use Rattle.aps_model.specs.SchedulerState.{SchedulerState}
+use Rattle.aps_core.specs.CoreView.{run_of}
+use Rattle.aps_core.specs.Run.{Run, state_of}
 use Rattle.aps_core.proofs.Kept.{cpu_exists}
-use Rattle.aps_core.specs.LastEnds.{AreEnds}
-use Rattle.std.proofs.Common.{subst, sym}
 use Rattle.aps_core.proofs.simulator.Core.due.Goals as goal
 
-pub due-requires-clause-cpu : goal.due-requires-clause-cpu
-due-requires-clause-cpu c =
-    cpu_exists c.args.self.now c.self.inside.history c.self.inside.machine c.self.inside.parts.items c.args.cpu
-    (subst (λ run. IsCore run c.self.inside.history c.self.inside.machine c.self.inside.parts.items) c.self.view_is c.self.invariant.core) c.requires
-
-pub due-requires-clause-ends : goal.due-requires-clause-ends
-due-requires-clause-ends c = subst (λ h. AreEnds h c.self.inside.ends) (sym c.entries.ensures.same) c.self.invariant.lasts
+pub returns : goal.returns
+returns c =
+    let exists =
+    cpu_exists (run_of c.self.inside) c.self.inside.history c.self.inside.machine c.self.inside.parts.items c.args.cpu c.self.invariant.core
+    (subst (λ (run : Run). c.args.cpu < run.setup.scenario.shape.cpus) (sym c.self.view_is) c.requires) in
+    subst (λ (run : Run). c.of.result ≡ due (state_of run) run.entries c.args.cpu) c.self.view_is
+    (c.of.ensures ∙ c.self.invariant.nexts c.args.cpu exists ∙ ap (λ (s : SchedulerState). due s c.self.inside.history.entries c.args.cpu) c.self.invariant.core.machine)

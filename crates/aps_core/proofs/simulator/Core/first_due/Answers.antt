@@ -3,7 +3,7 @@ use Rattle.aps_model.specs.declared.entry.Order.TheVariants.{Fixed}
 use Rattle.aps_model.specs.Due.{HasTurn, first_due}
 use Rattle.aps_core.specs.Core.{IsUnderWay}
 use Rattle.aps_core.specs.CoreView.{run_of}
-use Rattle.aps_core.specs.LastEnds.{AreEnds}
+use Rattle.aps_core.specs.NextDues.{AreDues}
 use Rattle.aps_core.specs.Run.{Run, state_of}
 use Rattle.aps_core.proofs.Kept.{cpu_within, first_lowest}
 use Rattle.aps_core.proofs.simulator.Core.first_due.Goals as goal
@@ -22,5 +22,5 @@ returns-clause-exists c =
 pub returns-clause-keeps : goal.returns-clause-keeps
 returns-clause-keeps c = subst IsUnderWay c.self.view_is c.self.invariant.core.keeps
 
-pub first_due-requires-clause-ends : goal.first_due-requires-clause-ends
-first_due-requires-clause-ends c = subst (λ h. AreEnds h c.self.inside.ends) (sym c.entries.ensures.same) c.self.invariant.lasts
+pub first_due-requires : goal.first_due-requires
+first_due-requires c = record { dues = subst (λ h. AreDues c.self.inside.machine h c.self.inside.dues) (sym c.entries.ensures.same) c.self.invariant.nexts }

@@ -1,5 +1,6 @@
 use Rattle.std.proofs.Common.{◌≡◌, ◌/◌, ◌∙◌, refl, [], ◌∷◌, ◌++◌, ap, None, arith, subst, sym}
 use Rattle.std.proofs.lemmas.Grind.{common_steps}
+use Rattle.aps_model.specs.Due.{due}
 use Rattle.aps_model.specs.History.{History}
 use Rattle.aps_model.specs.Scenario.{Scenario}
 use Rattle.aps_model.specs.Valid.{IsScenario}
@@ -8,11 +9,13 @@ use Rattle.aps_laws.proofs.MomentLaws.{moment-append}
 use Rattle.aps_core.specs.Counts.{Counts}
 use Rattle.aps_core.specs.CoreView.{run_of}
 use Rattle.aps_core.specs.LastEnds.{AreEnds}
+use Rattle.aps_core.specs.NextDues.{AreDues}
 use Rattle.aps_core.specs.Rising.{IsRising}
 use Rattle.aps_core.specs.Run.{end_of_run}
 use Rattle.aps_core.specs.declared.turn.Turn.TheVariants.{Took}
 use Rattle.aps_core.specs.Turn.{HasTurnIn, IsFed}
 use Rattle.aps_core.proofs.Counting.{counts_like}
+use Rattle.aps_core.proofs.DuesKept.{dues_more, own_within}
 use Rattle.aps_core.proofs.Kept.{can_record_in, core_kept, entry_fits, fed_in, own_entry, pending_read, ready_in, step_read, tick_of_core}
 use Rattle.aps_core.proofs.Rising.{rising_law}
 use Rattle.aps_core.proofs.simulator.Core.take_turn.Goals as goal
@@ -69,6 +72,22 @@ step-requires-clause-pending c =
 pub step-requires-clause-ends : goal.step-requires-clause-ends
 step-requires-clause-ends c = subst (λ h. AreEnds h c.self.inside.ends) (sym c.entries.ensures.same) c.self.invariant.lasts
 
+pub step-requires-clause-dues : goal.step-requires-clause-dues
+step-requires-clause-dues c = subst (λ h. AreDues c.self.inside.machine h c.self.inside.dues) (sym c.entries.ensures.same) c.self.invariant.nexts
+
+pub due-due-requires-clause-cpu : goal.due-due-requires-clause-cpu
+due-due-requires-clause-cpu c =
+    own_within (run_of c.self.inside) c.self.inside.history c.self.inside.machine c.self.inside.parts.items c.args.cpu c.step.result.0 (record { state = c.step.new.self; reboot = c.step.result.1 })
+    c.self.invariant.core
+    (subst (λ run. end_of_run run ≡ None) (sym c.self.view_is) c.requires.goes_on)
+    (subst (λ run. HasTurnIn run c.args.cpu) (sym c.self.view_is) c.requires.turn)
+    (step_read _ _ c.self.inside.machine _ _ c.args.cpu _ c.scenario.ensures c.entries.ensures.same c.step.ensures.same)
+
+pub due-due-requires-clause-ends : goal.due-due-requires-clause-ends
+due-due-requires-clause-ends c =
+    subst (λ h. AreEnds h c.add.new.self) (sym (c.entries-2.ensures.same ∙ ap (λ (k : History). k.entries) c.record.ensures))
+    (c.add.ensures c.self.inside.history.entries c.self.invariant.lasts)
+
 pub step-requires-clause-counts : goal.step-requires-clause-counts
 step-requires-clause-counts c =
     let shape = c.self.inside.machine.shape in
@@ -99,6 +118,16 @@ invariant_of-self c = record {
   lasts =
       subst (λ (k : History). AreEnds k.entries c.add.new.self) (sym c.record.ensures)
       (c.add.ensures c.self.inside.history.entries c.self.invariant.lasts);
+  nexts =
+      subst (λ (k : History). AreDues c.step.new.self k.entries c.go_on.new.self) (sym c.record.ensures)
+      (subst (AreDues c.step.new.self (c.self.inside.history.entries ++ c.step.result.0 ∷ [])) (sym c.go_on.ensures.same)
+      (dues_more (run_of c.self.inside) c.self.inside.history c.self.inside.machine c.self.inside.parts.items c.args.cpu c.step.result.0 (record { state = c.step.new.self; reboot = c.step.result.1 })
+      c.self.inside.dues c.due-due.result c.self.invariant.core
+      (subst (λ run. end_of_run run ≡ None) (sym c.self.view_is) c.requires.goes_on)
+      (subst (λ run. HasTurnIn run c.args.cpu) (sym c.self.view_is) c.requires.turn)
+      (step_read _ _ c.self.inside.machine _ _ c.args.cpu _ c.scenario.ensures c.entries.ensures.same c.step.ensures.same)
+      c.go_on.ensures.whole c.self.invariant.nexts
+      (c.due-due.ensures ∙ ap (λ h. due c.step.new.self h c.args.cpu) (c.entries-2.ensures.same ∙ ap (λ (k : History). k.entries) c.record.ensures))));
   counts =
       let shape = c.step.new.self.shape in
       let h = c.self.inside.history.entries in
