@@ -11,6 +11,7 @@ ghost use Rattle.aps_core.specs.Pending.{IsPending};
 ghost use Rattle.aps_core.specs.Ready.{IsReady};
 ghost use Rattle.aps_core.specs.Rising.{IsRising};
 
+mod asking;
 mod bankruptcy;
 mod bill;
 mod channel;
