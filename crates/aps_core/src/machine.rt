@@ -16,6 +16,7 @@ ghost use Rattle.aps_core.specs.Ready.{IsReady};
 ghost use Rattle.aps_core.specs.Rising.{IsRising};
 ghost use Rattle.aps_core.specs.Seats.{seats_of};
 
+mod asking;
 mod bankruptcy;
 mod bill;
 mod channel;

@@ -15,6 +15,7 @@ ghost use Rattle.aps_core.specs.Core.{IsUnderWay};
 ghost use Rattle.aps_core.specs.Run.{IsLater, end_of_run, finished_run, history_of, most_changes, rooms_of, state_of, with_last};
 ghost use Rattle.aps_core.specs.Turn.{HasTurnIn, IsFed, IsOwn, IsTaken, IsTurn, after_turn, with_entry};
 
+mod asking;
 mod reading;
 
 use crate::dues::Dues;

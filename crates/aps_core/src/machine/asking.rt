@@ -1,0 +1,67 @@
+ghost use Rattle.std.specs.Prelude.{◌≡◌, ℕ, ◌/◌, ◌<◌, ◌≤◌, ◌++◌, [], ◌∷◌, length, slice_index_or, All, IfSome, IfNone, IsTrue, false, nat_eq, ◌&&◌, ◌||◌};
+ghost use Rattle.aps_model.specs.Budget.{all_parts};
+ghost use Rattle.aps_model.specs.History.{IsEntry};
+ghost use Rattle.aps_model.specs.Pick.{contender_of, contenders, is_ready};
+ghost use Rattle.aps_model.specs.SchedulerState.{thread_at};
+ghost use Rattle.aps_model.specs.Shape.{horizon};
+ghost use Rattle.aps_core.specs.Rising.{IsRising};
+ghost use Rattle.aps_core.specs.Scan.{has_candidate};
+
+use super::Machine;
+use crate::{merit, usage};
+use aps_model::{Contender, Entry, PartFacts, PartitionId, State, ThreadId};
+
+impl Machine {
+    /// Each partition in the window at the tick in which the last entry ends, which follows on these.
+    pub fn stand(&self, entries: &[Entry], last: &Entry, parts: &mut [PartFacts])
+        requires one_each { length parts.old ≡ length self.now.rows }
+        requires entries { All IsEntry entries.now }
+        requires rising { IsRising entries.now }
+        requires few { length entries.now ≤ 4000000 }
+        requires last { IsEntry last.now }
+        requires within { last.now.to ≤ horizon self.now.shape }
+        ensures { parts.new ≡ all_parts self.now.shape self.now.rows (entries.now ++ last.now ∷ []) (last.now.to / self.now.shape.tick) }
+    {
+        let tick = self.tick_of(last.to);
+        usage::fill_parts(&self.shape, self.tree.rows(), entries, last, tick, parts);
+    }
+
+    /// Which partitions have a candidate among the threads that are ready, where they stand so.
+    pub fn candidates(&self, parts: &[PartFacts]) -> [bool; 32]
+        ensures { (p : ℕ) → p < 32 → slice_index_or result p false ≡ has_candidate parts.now p (contenders self.now) }
+    {
+        let mut found = [false; 32];
+        for x in 0..self.threads.len() {
+            if let Some(c) = self.contender_at(ThreadId::at(x)) {
+                let is_candidate = merit::is_candidate_among(parts, &c);
+                mark(&mut found, c.facts.partition, is_candidate);
+            }
+        }
+        found
+    }
+
+    /// The thread as a contender, if it is ready.
+    fn contender_at(&self, x: ThreadId) -> Option<Contender>
+        ensures ready { IfSome result (λ c. (c ≡ contender_of self.now x) × IsTrue (is_ready (thread_at self.now x).state)) }
+        ensures other { IfNone result (is_ready (thread_at self.now x).state ≡ false) }
+    {
+        let thread = self.thread(x);
+        match thread.state {
+            State::Ready => Some(Contender {
+                thread: x,
+                facts: self.facts_of(x),
+                stamp: thread.stamp,
+            }),
+            _ => None,
+        }
+    }
+}
+
+/// The partition is marked, if this holds. Each other mark stays.
+fn mark(found: &mut [bool; 32], p: PartitionId, holds: bool)
+    ensures { (k : ℕ) → k < 32 → slice_index_or found.new k false ≡ (slice_index_or found.old k false || (holds && nat_eq p k)) }
+{
+    if holds {
+        found[p.index()] = true;
+    }
+}
