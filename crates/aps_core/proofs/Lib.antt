@@ -25,3 +25,4 @@ pub mod NextDues
 pub mod FirstDue
 pub mod Recorded
 pub mod Pending
+pub mod Scan

@@ -1,11 +1,11 @@
 ghost use Rattle.std.specs.Prelude.{◌≡◌, ℕ, ◌<◌, ◌≤◌, length, All, IfSome};
 ghost use Rattle.aps_model.specs.Budget.{part_at};
 ghost use Rattle.aps_model.specs.Flag.{at_most, lower_ranked};
-ghost use Rattle.aps_model.specs.Merit.{is_critical_pick};
+ghost use Rattle.aps_model.specs.Merit.{is_candidate, is_critical_pick};
 ghost use Rattle.aps_model.specs.Pick.{merit_among};
 ghost use Rattle.aps_core.specs.Small.{IsSmall};
 
-use aps_merit::{is_critical_pick, merit_of};
+use aps_merit::{is_candidate, is_critical_pick, merit_of};
 use aps_model::{Contender, CpuId, Merit, PartFacts, PartitionId, Rank};
 
 /// How a partition stands.
@@ -34,6 +34,14 @@ pub fn merit_among(parts: &[PartFacts], c: &Contender) -> Merit
 {
     let facts = c.facts;
     merit_of(facts, c.stamp, &part_at(parts, facts.partition))
+}
+
+/// Whether a ready thread is a candidate.
+pub fn is_candidate_among(parts: &[PartFacts], c: &Contender) -> bool
+    ensures { result ≡ is_candidate c.now.facts (part_at parts.now c.now.facts.partition) }
+{
+    let facts = c.facts;
+    is_candidate(facts, &part_at(parts, facts.partition))
 }
 
 /// Whether the pick of a ready thread is critical.

@@ -1,29 +1,22 @@
-ghost use Rattle.std.specs.Prelude.{◌≡◌, ℕ, ◌/◌, ◌<◌, ◌≤◌, ◌++◌, [], ◌∷◌, length, slice_index_or, All, IfSome, IfNone, IsTrue, false, nat_eq, ◌&&◌, ◌||◌};
-ghost use Rattle.aps_model.specs.Budget.{all_parts};
-ghost use Rattle.aps_model.specs.History.{IsEntry};
+ghost use Rattle.std.specs.Prelude.{◌≡◌, ℕ, ◌<◌, ◌≤◌, length, slice_index_or, IfSome, IfNone, IsTrue, false, nat_eq, ◌&&◌, ◌||◌};
 ghost use Rattle.aps_model.specs.Pick.{contender_of, contenders, is_ready};
 ghost use Rattle.aps_model.specs.SchedulerState.{thread_at};
-ghost use Rattle.aps_model.specs.Shape.{horizon};
-ghost use Rattle.aps_core.specs.Rising.{IsRising};
+ghost use Rattle.aps_core.specs.Counts.{parts_in};
 ghost use Rattle.aps_core.specs.Scan.{has_candidate};
 
 use super::Machine;
 use crate::{merit, usage};
-use aps_model::{Contender, Entry, PartFacts, PartitionId, State, ThreadId};
+use aps_model::{Contender, PartFacts, PartitionId, State, ThreadId};
+use aps_window::Window;
 
 impl Machine {
-    /// Each partition in the window at the tick in which the last entry ends, which follows on these.
-    pub fn stand(&self, entries: &[Entry], last: &Entry, parts: &mut [PartFacts])
+    /// Each partition by its row and what the window has of it.
+    pub fn stand(&self, window: &Window, parts: &mut [PartFacts])
         requires one_each { length parts.old ≡ length self.now.rows }
-        requires entries { All IsEntry entries.now }
-        requires rising { IsRising entries.now }
-        requires few { length entries.now ≤ 4000000 }
-        requires last { IsEntry last.now }
-        requires within { last.now.to ≤ horizon self.now.shape }
-        ensures { parts.new ≡ all_parts self.now.shape self.now.rows (entries.now ++ last.now ∷ []) (last.now.to / self.now.shape.tick) }
+        ensures same { parts.new ≡ parts_in self.now.shape self.now.rows window.now }
+        ensures few { length self.now.rows ≤ 32 }
     {
-        let tick = self.tick_of(last.to);
-        usage::fill_parts(&self.shape, self.tree.rows(), entries, last, tick, parts);
+        usage::fill_parts(&self.shape, self.tree.rows(), window, parts);
     }
 
     /// Which partitions have a candidate among the threads that are ready, where they stand so.

@@ -17,9 +17,7 @@ impl Core {
         requires one_each { length parts.old ≡ length (state_of self.now).rows }
         ensures { parts.new ≡ all_parts (state_of self.now).shape (state_of self.now).rows self.now.entries (moment self.now.entries / (state_of self.now).shape.tick) }
     {
-        let entries = self.history.entries();
-        let before = entries.len() - 1;
-        self.machine.stand(&entries[..before], &entries[before], parts);
+        self.machine.stand(&self.window, parts);
     }
 
     /// Which partitions have a candidate among the threads that are ready after the entries so far, where the partitions
