@@ -5,6 +5,7 @@
 #![tactic(auto)]
 
 pub mod excess;
+pub mod moment;
 pub mod passing;
 pub mod response;
 pub mod served;
