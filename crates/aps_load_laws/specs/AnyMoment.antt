@@ -40,7 +40,8 @@ leap cpus tick late =
 
 -- between moments x and y, a window apart, the partition's usage exceeds its budget by at most its leeway and a leap, and
 -- falls short of it by at most the leeways of the others, the idle time, and one leap
-pub record IsWithinBetween (scenario : Scenario) (shape : Shape) (rows : List PartitionRow) (h : List Entry) (x y late p : ℕ) : Type 0 where
+pub record IsWithinBetween (scenario : Scenario) (shape : Shape) (rows : List PartitionRow) (h : List Entry)
+    (x y late p : ℕ) : Type 0 where
   pub above : shape.parts * used_between h x y p
       ≤ (row_or_none rows p).budget * whole shape
       + shape.parts * (leeway_between scenario shape rows h x y p
