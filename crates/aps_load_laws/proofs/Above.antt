@@ -39,7 +39,7 @@ module _ (scenario : Scenario) (order : Order) (h : List Entry) (r : IsScenario 
       let some : 0 < s.shape.cpus = omega (arith, cpu, w.sizes.cpus) in
       mul-pos (mul-pos some w.some) (pos scenario order h r legal a b s w)
 
-  module _ (p : ℕ) where
+  module _ (short : b ≤ a + s.shape.window) (p : ℕ) where
     abbrev tick : ℕ
     tick = s.shape.tick
 
@@ -71,7 +71,7 @@ module _ (scenario : Scenario) (order : Order) (h : List Entry) (r : IsScenario 
     below_limit n is =
         let limit : ℕ = budget * whole s.shape - 1 in
         let resets = resets_marked scenario tick a b p s.shape.parts limit h
-        (λ before later e same funded inside. let less = funded_within scenario order h r legal a b s w p before later e same funded inside in omega (arith, less)) in
+        (λ before later e same funded inside. let less = funded_within scenario order h r legal a b s w short p before later e same funded inside in omega (arith, less)) in
         let all = upper tick a b p s.shape.parts limit (lanes_at_start scenario) (marked is_unfunded scenario h) (pos scenario order h r legal a b s w) still_debts walks_here.0 resets in
         let lanes : length (lanes_at_start scenario) * tick ≡ s.shape.cpus * tick = ap (λ k. k * tick) count in
         let leeway_is : leeway scenario s.shape s.rows h a b p ≡ critical_used tick h p a b + s.shape.cpus * tick + free_used scenario tick h p a b =
@@ -92,7 +92,7 @@ module _ (scenario : Scenario) (order : Order) (h : List Entry) (r : IsScenario 
 
         by_test : (before later : List Entry) (e : Entry) → h ≡ before ++ e ∷ later → is_funded scenario (before ++ e ∷ []) p ≡ true → (t : Bool) → in_window tick a b e.to ≡ t → in_window tick a b e.to ≡ false
         by_test before later e same funded false inside = inside
-        by_test before later e same funded true inside = absurd (less_than_none _ budget (whole s.shape) is (funded_within scenario order h r legal a b s w p before later e same funded inside))
+        by_test before later e same funded true inside = absurd (less_than_none _ budget (whole s.shape) is (funded_within scenario order h r legal a b s w short p before later e same funded inside))
 
     pub above : s.shape.parts * used tick h p a b ≤ budget * whole s.shape + s.shape.parts * leeway scenario s.shape s.rows h a b p
     above = by_budget budget refl

@@ -47,7 +47,7 @@ left_over n parts whole total idle i uses budgets extra in' all full each =
     let budget : sum_below n (but i (λ q. whole * budgets q)) + whole * budgets i ≡ whole * parts = scaled whole budgets ∙ ap (λ m. whole * m) all in
     omega (arith, less, scaled parts uses, budget, scaled parts extra, others, time, rest, cut)
 
-module _ (scenario : Scenario) (order : Order) (h : List Entry) (r : IsScenario scenario) (legal : IsLegal scenario order h) (a b : ℕ) (s : SchedulerState) (w : IsSpan scenario h a b s) (up : a ≤ b) (finished : b ≤ finished_ticks scenario.shape h) where
+module _ (scenario : Scenario) (order : Order) (h : List Entry) (r : IsScenario scenario) (legal : IsLegal scenario order h) (a b : ℕ) (s : SchedulerState) (w : IsSpan scenario h a b s) (short : b ≤ a + s.shape.window) (up : a ≤ b) (finished : b ≤ finished_ticks scenario.shape h) where
   pub below : (p : ℕ) → p < length s.rows
       → s.shape.parts * (s.shape.cpus * ((b - a) * s.shape.tick))
       ≤ s.shape.parts * used s.shape.tick h p a b + (s.shape.parts - (row_or_none s.rows p).budget) * whole s.shape
@@ -61,7 +61,7 @@ module _ (scenario : Scenario) (order : Order) (h : List Entry) (r : IsScenario 
       let idle : ℕ = idle_time s.shape.tick h a b in
       let line = left_over n parts (whole s.shape) (s.shape.cpus * ((b - a) * s.shape.tick)) idle p uses budgets extra inside (budgets_sum s.rows parts w.funded)
       (all_used scenario order h r legal a b s w up finished)
-      (λ q. subst (λ k. parts * uses q ≤ k + parts * extra q) (mul_comm (budgets q) (whole s.shape)) (above scenario order h r legal a b s w q)) in
+      (λ q. subst (λ k. parts * uses q ≤ k + parts * extra q) (mul_comm (budgets q) (whole s.shape)) (above scenario order h r legal a b s w short q)) in
       subst (λ k. parts * (s.shape.cpus * ((b - a) * s.shape.tick)) ≤ parts * uses p + (parts - budgets p) * whole s.shape + parts * (k + idle))
       (sym (sum_range n (but p extra))) line
 
@@ -69,9 +69,9 @@ module _ (scenario : Scenario) (order : Order) (h : List Entry) (r : IsScenario 
 pub excess : (scenario : Scenario) (order : Order) (h : List Entry) → IsScenario scenario → IsLegal scenario order h → KeepsExcess scenario h
 excess scenario order h r legal a b p up short finished none inside =
     let s = state_of_tick scenario h a in
-    let w = span_of scenario order h a b r legal none short in
+    let w = span_of scenario order h a b r legal none in
     record {
-      above = above scenario order h r legal a b s w p;
-      strictly = strictly scenario order h r legal a b s w p;
-      below = below scenario order h r legal a b s w up finished p inside;
+      above = above scenario order h r legal a b s w short p;
+      strictly = strictly scenario order h r legal a b s w short p;
+      below = below scenario order h r legal a b s w short up finished p inside;
     }

@@ -15,4 +15,9 @@ pub mod Classes
 pub mod ServedPicks
 pub mod OwnShares
 pub mod Responds
+pub mod Reach
+pub mod Moved
+pub mod Shifted
+pub mod Leaps
+pub mod AnyMoments
 pub mod Rows

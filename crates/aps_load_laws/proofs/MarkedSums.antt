@@ -33,7 +33,7 @@ of_billed : (k p : ℕ) (mark m : Bool) (o : Option ℕ) → (if is_of p (with_m
 of_billed k p mark m None = refl
 of_billed k p mark m (Some q) = refl
 
-ordinary_billed : (k p : ℕ) (mark m : Bool) (o : Option ℕ) → (if is_ordinary p (with_mark mark (bills o m)) then k else 0) ≤ (if names o p then k else 0)
+pub ordinary_billed : (k p : ℕ) (mark m : Bool) (o : Option ℕ) → (if is_ordinary p (with_mark mark (bills o m)) then k else 0) ≤ (if names o p then k else 0)
 ordinary_billed k p mark m None = omega arith
 ordinary_billed k p mark m (Some q) = by_tests (nat_eq q p) mark
   where

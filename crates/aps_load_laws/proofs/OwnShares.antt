@@ -43,7 +43,7 @@ counted true k n le = le
 counted false k n le = omega arith
 
 -- more ticks have no less
-used_wider : (tick p a b c d : ℕ) (h : List Entry) → c ≤ a → b ≤ d → used tick h p a b ≤ used tick h p c d
+pub used_wider : (tick p a b c d : ℕ) (h : List Entry) → c ≤ a → b ≤ d → used tick h p a b ≤ used tick h p c d
 used_wider tick p a b c d [] low high = omega arith
 used_wider tick p a b c d (e ∷ es) low high =
     omega (
@@ -55,7 +55,7 @@ used_wider tick p a b c d (e ∷ es) low high =
     )
 
 -- nor has a longer history
-used_longer : (tick p a b : ℕ) (g more : List Entry) → used tick g p a b ≤ used tick (g ++ more) p a b
+pub used_longer : (tick p a b : ℕ) (g more : List Entry) → used tick g p a b ≤ used tick (g ++ more) p a b
 used_longer tick p a b g more = omega (arith, sum_by-append (billed_by tick p a b) g more)
 
 -- ---- out of budget
@@ -177,7 +177,7 @@ pub own_share : (scenario : Scenario) (order : Order) (h : List Entry) → IsSce
 own_share scenario order h r legal a p finished none inside works =
     let s = state_of_tick scenario h a in
     let b : ℕ = a + s.shape.window in
-    let w = span_of scenario order h a b r legal none (omega arith) in
+    let w = span_of scenario order h a b r legal none in
     let mine = own scenario order h r legal a p finished none inside works w in
     let timely = in_time scenario order h r legal a p w mine in
     record { own = mine; in_time = timely; in_two = in_two scenario order h r legal a p timely }
@@ -187,7 +187,7 @@ own_share scenario order h r legal a p finished none inside works =
 pub supply : (scenario : Scenario) (order : Order) (h : List Entry) → IsScenario scenario → IsLegal scenario order h → KeepsSupply scenario h
 supply scenario order h r legal a b p up short finished none inside supplied =
     let s = state_of_tick scenario h a in
-    let w = span_of scenario order h a b r legal none short in
+    let w = span_of scenario order h a b r legal none in
     let served = served_by scenario order h r legal a b s w p finished supplied in
     let f = full scenario order h r legal a b served in
     let line = (excess scenario order h r legal a b p up short finished none inside).below in

@@ -1,2 +1,3 @@
 pub mod FreeExcess
 pub mod ServedUnsteady
+pub mod LeapUsed

@@ -189,7 +189,7 @@ pub served_window_bound : (scenario : Scenario) (order : Order) (h : List Entry)
 served_window_bound scenario order h r legal a p finished none served inside =
     let s = state_of_tick scenario h a in
     let b : ℕ = a + s.shape.window in
-    let w = span_of scenario order h a b r legal none (omega arith) in
+    let w = span_of scenario order h a b r legal none in
     let f = full scenario order h r legal a b served in
     let e = excess scenario order h r legal a b p (omega arith) (omega arith) finished none inside in
     let free_none : (q : ℕ) → free_used scenario s.shape.tick h q a b ≡ 0 = λ q. ap (λ n. free_used scenario n h q a b) w.sizes.tick ∙ f.free q in

@@ -34,12 +34,11 @@ RowsHold scenario h a b s =
     (before later : List Entry) (e : Entry) → h ≡ before ++ e ∷ later → in_window s.shape.tick a b e.to ≡ true
     → ((state_after scenario (before ++ e ∷ [])).rows ≡ s.rows) × ((state_after scenario (before ++ e ∷ [])).shape ≡ s.shape)
 
--- ticks a to b-1, at most as many as a window has, with rows and shape that hold in them
+-- ticks a to b-1, with rows and shape that hold in them
 pub record IsSpan (scenario : Scenario) (h : List Entry) (a b : ℕ) (s : SchedulerState) : Type 0 where
   pub sizes : IsSameSizes scenario.shape s.shape
   pub funded : AreFunded s
   pub some : 0 < s.shape.window
-  pub short : b ≤ a + s.shape.window
   pub holds : RowsHold scenario h a b s
 
 pub window_ends : (tick a b moment : ℕ) → in_window tick a b moment ≡ true → (a * tick ≤ moment) × (moment < b * tick)
@@ -55,8 +54,8 @@ inside_window tick a b moment low high = grind (arith, nat_tests)
 
 -- where no change stands, the rows are those of the first tick
 pub span_of : (scenario : Scenario) (order : Order) (h : List Entry) (a b : ℕ) → IsScenario scenario → IsLegal scenario order h
-    → has_change (state_after scenario h).changes a b ≡ false → b ≤ a + (state_of_tick scenario h a).shape.window → IsSpan scenario h a b (state_of_tick scenario h a)
-span_of scenario order h a b r legal none short =
+    → has_change (state_after scenario h).changes a b ≡ false → IsSpan scenario h a b (state_of_tick scenario h a)
+span_of scenario order h a b r legal none =
     let s = state_of_tick scenario h a in
     let holds = rows_held scenario order h a b r legal none in
     let o = tick_in_order scenario order h a r legal in
@@ -65,7 +64,6 @@ span_of scenario order h a b r legal none short =
       sizes = o.sizes;
       funded = o.funded.budgets ∙ sym o.sizes.parts;
       some = omega (arith, long);
-      short = short;
       holds = λ before later e same inside.
           let ends = window_ends s.shape.tick a b e.to inside in
           holds before later e same
@@ -95,17 +93,18 @@ module _ (scenario : Scenario) (order : Order) (h : List Entry) (r : IsScenario 
   pub pos : 0 < s.shape.tick
   pos = tick_pos scenario s r w.sizes
 
-  -- at a pick of the span that finds the partition in budget, what it used in the span is below its budget
-  pub funded_within : (p : ℕ) (before later : List Entry) (e : Entry) → h ≡ before ++ e ∷ later → is_funded scenario (before ++ e ∷ []) p ≡ true
+  -- at a pick of the span that finds the partition in budget, what it used in the span is below its budget, where the
+  -- span has at most as many ticks as a window
+  pub funded_within : b ≤ a + s.shape.window → (p : ℕ) (before later : List Entry) (e : Entry) → h ≡ before ++ e ∷ later → is_funded scenario (before ++ e ∷ []) p ≡ true
       → in_window s.shape.tick a b e.to ≡ true
       → s.shape.parts * used s.shape.tick (before ++ e ∷ []) p a b < (row_or_none s.rows p).budget * whole s.shape
-  funded_within p before later e same funded inside =
+  funded_within short p before later e same funded inside =
       let g = before ++ e ∷ [] in
       let front = up_to scenario order h before later e same legal in
       let j : ℕ = e.to / s.shape.tick in
       let i = in_ticks s.shape.tick a b e.to pos inside in
       let less = funded_less s.shape s.rows g j p (sym (funded_there scenario before e p s (w.holds before later e same inside)) ∙ funded) in
-      let early : j + 1 - s.shape.window ≤ a = earlier s.shape.window j i.below w.short in
+      let early : j + 1 - s.shape.window ≤ a = earlier s.shape.window j i.below short in
       let part = used_inside s.shape.tick p a b (j + 1 - s.shape.window) (j + 1) g early (before_later e.to ((j + 1) * s.shape.tick) g i.inside (latest scenario order r before e front)) in
       omega (arith, less, mul-le-mul_left s.shape.parts part)
     where

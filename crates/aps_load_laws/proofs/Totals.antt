@@ -29,12 +29,12 @@ use Rattle.aps_load_laws.specs.FreeTime.{idle_by, idle_time}
 use Rattle.aps_load_laws.proofs.Runs.{IsKnown, bills_known}
 use Rattle.aps_load_laws.proofs.Spans.{IsSpan}
 
-abbrev is_nobody : Kept → Bool
+abbrev pub is_nobody : Kept → Bool
 is_nobody None = true
 is_nobody (Some k) = false
 
 -- each entry that reaches into the ticks bills nobody or one of the first n partitions
-abbrev AreKnown : ℕ → ℕ → ℕ → ℕ → List Wide → Type 0
+abbrev pub AreKnown : ℕ → ℕ → ℕ → ℕ → List Wide → Type 0
 AreKnown tick a b n [] = Unit {0}
 AreKnown tick a b n (e ∷ es) = (0 < overlap tick a b e.from e.to → IsKnown n e.bills) × AreKnown tick a b n es
 
@@ -51,7 +51,7 @@ overlap_add tick a b x y order le = grind (arith, order, le)
 
 -- ---- all entries
 
-all_time : (tick a b n : ℕ) (lanes : List Lane) (entries : List Wide) → a ≤ b → Tiles lanes entries → AreKnown tick a b n entries
+pub all_time : (tick a b n : ℕ) (lanes : List Lane) (entries : List Wide) → a ≤ b → Tiles lanes entries → AreKnown tick a b n entries
     → sum_below n (paid_of tick a b entries) + sum_by (paid is_nobody tick a b) entries + sum_by (past tick a b) lanes ≡ sum_by (past tick a b) (lanes_at lanes entries)
 all_time tick a b n lanes [] order t known = omega (arith, sum_below_zero n (paid_of tick a b []) (λ p. refl))
 all_time tick a b n lanes (e ∷ es) order (lane, found, from, on, later) (one, more) =
@@ -64,7 +64,7 @@ all_time tick a b n lanes (e ∷ es) order (lane, found, from, on, later) (one, 
     let grown : f lane + overlap tick a b e.from e.to ≡ f (lane_after e) = subst (λ z. overlap tick a b 0 z + overlap tick a b e.from e.to ≡ overlap tick a b 0 e.to) from (overlap_add tick a b e.from e.to (mul-le-mul_right tick order) on) in
     omega (arith, sums, split, once, rest, grown, sum_by-cons (paid is_nobody tick a b) e es)
 
-idle_is : (tick a b : ℕ) (e : Entry) (t : SchedulerState) → paid is_nobody tick a b (wide_of e t) ≡ idle_by tick a b e
+pub idle_is : (tick a b : ℕ) (e : Entry) (t : SchedulerState) → paid is_nobody tick a b (wide_of e t) ≡ idle_by tick a b e
 idle_is tick a b e t = by_billed e.billed
   where
     by_billed : (o : Option ℕ) → paid is_nobody tick a b (wide_of (record e { billed = o }) t) ≡ idle_by tick a b (record e { billed = o })
@@ -73,12 +73,12 @@ idle_is tick a b e t = by_billed e.billed
 
 -- ---- all time of the ticks
 
-past_whole : (tick a b last : ℕ) → a ≤ b → b * tick ≤ last → overlap tick a b 0 last ≡ (b - a) * tick
+pub past_whole : (tick a b last : ℕ) → a ≤ b → b * tick ≤ last → overlap tick a b 0 last ≡ (b - a) * tick
 past_whole tick a b last order le =
     let cut : b * tick ≡ a * tick + (b - a) * tick = subst (λ n. n * tick ≡ a * tick + (b - a) * tick) (omega (arith, order)) (add-mul a (b - a) tick) in
     omega (arith, le, cut)
 
-sum_by_same : {X : Type 0} (f : X → ℕ) (k : ℕ) (xs : List X) → All (λ x. f x ≡ k) xs → sum_by f xs ≡ length xs * k
+pub sum_by_same : {X : Type 0} (f : X → ℕ) (k : ℕ) (xs : List X) → All (λ x. f x ≡ k) xs → sum_by f xs ≡ length xs * k
 sum_by_same f k [] all = omega (arith)
 sum_by_same f k (x ∷ xs) all = omega (arith, sum_by-cons f x xs, sum_by_same f k xs (λ i d in'. all (suc i) d (omega (arith, in'))), all 0 x (omega (arith)), add-mul (length xs) 1 k)
 

@@ -6,3 +6,4 @@ pub mod Passing
 pub mod Work
 pub mod OwnShare
 pub mod Response
+pub mod AnyMoment

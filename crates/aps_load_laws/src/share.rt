@@ -13,9 +13,8 @@ ghost use Rattle.aps_load_laws.specs.OwnShare.{KeepsOwnShare, KeepsSupply};
 /// theirs.
 ///
 /// So, but for that, it never stays a whole window long without having had its share: it has it in the window at one of
-/// these ticks, and in this window taken with the ticks before it, one less than a window has. Nothing more is true in
-/// general: what it was denied while it was out of budget isn't given back, so a partition that always has work may get
-/// little more than half of its budget in the long run, where free time goes by priority.
+/// these ticks, and in this window taken with the ticks before it, one less than a window has. It need not have it in
+/// this very window: what it is denied while it is out of budget isn't given back.
 pub fn own_share()
     ensures { (scenario : Scenario) (order : Order) (h : List Entry)
         → IsScenario scenario
