@@ -21,6 +21,7 @@ fn slides_and_grows(rt: HostRuntime) -> Result<(), Fail> {
     assert_eq!(rt; window.used(system), 1_000_000);
     assert_eq!(rt; window.critical_used(system), 400_000);
     window.rotate();
+    assert_eq!(rt; window.tick(), 8);
     assert_eq!(rt; window.used(system), 0);
     assert_eq!(rt; window.critical_used(system), 0);
     window.resize(9);
