@@ -21,3 +21,4 @@ pub mod Shifted
 pub mod Leaps
 pub mod AnyMoments
 pub mod Rows
+pub mod Moments

@@ -40,3 +40,11 @@ pub record RunsNoLess (s : SchedulerState) (h : List Entry) (left : Contender) (
 -- where a candidate is left, each processor does so
 abbrev pub PassesNobodyOver : SchedulerState → List Entry → Type 0
 PassesNobodyOver s h = (left : Contender) → greatest_ready s h ≡ Some left → (c : ℕ) → c < s.shape.cpus → RunsNoLess s h left c
+
+-- the same after each entry of the history
+abbrev pub NeverPassesOver : Scenario → List Entry → Type 0
+NeverPassesOver scenario h =
+    (before later : List Entry) (e : Entry)
+    → h ≡ before ++ e ∷ later
+    → PassesTime scenario before e
+    → PassesNobodyOver (state_after scenario (before ++ e ∷ [])) (before ++ e ∷ [])

@@ -6,7 +6,7 @@ ghost use Rattle.aps_model.specs.After.{state_after};
 ghost use Rattle.aps_model.specs.Scenario.{Scenario};
 ghost use Rattle.aps_model.specs.Valid.{IsScenario};
 ghost use Rattle.aps_model.specs.Legal.{IsLegal};
-ghost use Rattle.aps_load_laws.specs.Passing.{PassesNobodyOver, PassesTime};
+ghost use Rattle.aps_load_laws.specs.Passing.{NeverPassesOver, PassesNobodyOver, PassesTime};
 
 /// Time never passes with an idle processor beside a candidate, nor with a thread running while one is ready that may
 /// run and has a higher class, or the same class and a higher priority. (Of two threads of class 0 the priority counts
@@ -17,4 +17,9 @@ pub fn nobody_passed_over()
         → IsLegal scenario order (h ++ e ∷ [])
         → PassesTime scenario h e
         → PassesNobodyOver (state_after scenario (h ++ e ∷ [])) (h ++ e ∷ []) }
+{}
+
+/// So it is after each entry of a history.
+pub fn never_passed_over()
+    ensures { (scenario : Scenario) (order : Order) (h : List Entry) → IsScenario scenario → IsLegal scenario order h → NeverPassesOver scenario h }
 {}

@@ -10,6 +10,9 @@ use Rattle.aps_model.specs.Tiled.{IsTiled, IsBilledAsInherited}
 use Rattle.aps_model.specs.Bound.{KeepsWindowBound, KeepsCriticalBound}
 use Rattle.aps_laws.specs.Choices.{EachPickIsGreatest}
 use Rattle.aps_laws.specs.Runs.{EndsNoSooner}
+use Rattle.aps_load_laws.specs.Excess.{KeepsExcess}
+use Rattle.aps_load_laws.specs.OwnShare.{KeepsOwnShare}
+use Rattle.aps_load_laws.specs.Passing.{NeverPassesOver}
 
 -- the history of a run of its scenario in this order, which ended so, or else by this many entries
 pub record IsRun (order : Order) (limit : ℕ) (end : End) (h : History) : Type 0 where
@@ -30,3 +33,11 @@ pub record IsRun (order : Order) (limit : ℕ) (end : End) (h : History) : Type 
   -- processor and critical time; and critical time to the critical budget, but for one tick of each processor
   pub bound : KeepsWindowBound h.scenario h.entries
   pub critical_bound : KeepsCriticalBound h.scenario h.entries
+  -- whoever has work: in ticks without a change, at most as many as a window has, a partition goes beyond its budget only
+  -- by free time, critical time and less than one tick of each processor, and falls short only by what the others so took
+  -- and by idle time
+  pub excess : KeepsExcess h.scenario h.entries
+  -- a partition that has work whenever it is in budget gets its own share
+  pub own_share : KeepsOwnShare h.scenario h.entries
+  -- whenever time passes no processor is idle beside a candidate, and none runs a thread below one
+  pub moments : NeverPassesOver h.scenario h.entries

@@ -43,7 +43,10 @@ fn two_seats_take_turns_and_meet(rt: HostRuntime) -> Result<(), Fail> {
     assert!(rt; turns == expected);
     assert_eq!(rt; (x.seen_len(), y.seen_len()), (2, 1));
     assert_eq!(rt; (x.waited(), y.waited()), (0, 1));
-    assert_eq!(rt; (dispatch.has_grown(&mut x), dispatch.has_grown(&mut y)), (false, true));
+    assert_eq!(rt;
+        (dispatch.has_grown(&mut x), dispatch.has_grown(&mut y)),
+        (false, true)
+    );
     dispatch.meet(&mut x, &mut y);
     assert_eq!(rt; y.seen_len(), 2);
     dispatch.join(&mut x, y);

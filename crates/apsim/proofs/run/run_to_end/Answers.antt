@@ -7,6 +7,12 @@ use Rattle.aps_model.specs.Bound.{KeepsWindowBound, KeepsCriticalBound}
 use Rattle.aps_model.specs.Tiled.{IsTiled, IsBilledAsInherited}
 use Rattle.aps_model.specs.History.{History}
 use Rattle.aps_laws.specs.Choices.{EachPickIsGreatest}
+use Rattle.aps_load_laws.specs.Excess.{KeepsExcess}
+use Rattle.aps_load_laws.specs.OwnShare.{KeepsOwnShare}
+use Rattle.aps_load_laws.specs.Passing.{NeverPassesOver}
+use Rattle.aps_load_laws.proofs.Below.{excess}
+use Rattle.aps_load_laws.proofs.Moments.{never_passed}
+use Rattle.aps_load_laws.proofs.OwnShares.{own_share}
 use Rattle.apsim.proofs.run.run_to_end.Goals as goal
 
 pub returns-clause-run : goal.returns-clause-run
@@ -30,4 +36,10 @@ returns-clause-run c =
       picks = subst (λ (h : History). EachPickIsGreatest h.scenario h.entries) (sym known.same) known.picks;
       bound = subst (λ (h : History). KeepsWindowBound h.scenario h.entries) (sym known.same) known.bound;
       critical_bound = subst (λ (h : History). KeepsCriticalBound h.scenario h.entries) (sym known.same) known.critical_bound;
+      excess = subst (λ (h : History). KeepsExcess h.scenario h.entries) (sym known.same)
+          (excess run.setup.scenario run.setup.order run.entries known.valid known.legal);
+      own_share = subst (λ (h : History). KeepsOwnShare h.scenario h.entries) (sym known.same)
+          (own_share run.setup.scenario run.setup.order run.entries known.valid known.legal);
+      moments = subst (λ (h : History). NeverPassesOver h.scenario h.entries) (sym known.same)
+          (never_passed run.setup.scenario run.setup.order run.entries known.valid known.legal);
     }

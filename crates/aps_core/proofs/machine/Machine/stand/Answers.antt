@@ -1,4 +1,4 @@
-use Rattle.std.proofs.Common.{◌≡◌, ◌≤◌, ap, ◌∙◌, length, All, subst, sym, arith}
+use Rattle.std.proofs.Common.{ap, ◌∙◌, length, All, subst, sym, arith}
 use Rattle.aps_model.specs.Partition.{IsRow}
 use Rattle.aps_model.specs.SchedulerState.{SchedulerState}
 use Rattle.aps_core.specs.Counts.{parts_in}

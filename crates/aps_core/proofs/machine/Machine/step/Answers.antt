@@ -5,20 +5,18 @@ use Rattle.aps_model.specs.declared.merit.Contender.{Contender}
 use Rattle.aps_model.specs.declared.state.Pick.{Pick}
 use Rattle.aps_model.specs.Bill.{bill_of}
 use Rattle.aps_model.specs.Due.{due}
-use Rattle.aps_model.specs.SchedulerState.{SchedulerState, cpu_at, thread_at}
-use Rattle.aps_model.specs.Step.{Step}
-use Rattle.aps_laws.specs.Between.{after_bill}
+use Rattle.aps_model.specs.SchedulerState.{SchedulerState, thread_at}
 use Rattle.aps_laws.specs.Servers.{IsNobodysClient}
 use Rattle.aps_core.specs.Counts.{Counts}
 use Rattle.aps_core.specs.MachineView.{state_of}
 use Rattle.aps_core.specs.Pending.{IsPending}
-use Rattle.aps_core.specs.Room.{HasRoom, HasRoomToWake}
+use Rattle.aps_core.specs.Room.{HasRoomToWake}
 use Rattle.aps_core.specs.Seats.{who_at}
 use Rattle.aps_core.specs.Touched.{IsTouched, is_at_channel, peer_of}
 use Rattle.aps_core.proofs.Seats.{seats_count, who_seats}
 use Rattle.aps_core.proofs.SeatsStay.{step_seat}
 use Rattle.aps_core.proofs.StepCounts.{IsBilling, counts_begun, counts_left, done_bill, entry_of, own_bill, picked_bill, room_to_bill, settled_shape, spent_shape, tested_shape}
-use Rattle.aps_core.proofs.StepParts.{billed_by, none_is, room_after, settled_by, settled_is, step_below, tested_by, ticked_by, where_it_runs}
+use Rattle.aps_core.proofs.StepParts.{billed_by, none_is, room_after, settled_by, settled_is, step_below, tested_by, ticked_by}
 use Rattle.aps_core.proofs.machine.Machine.step.Goals as goal
 
 -- ---- the work of the tick

@@ -1,4 +1,4 @@
-use Rattle.std.proofs.Common.{◌≡◌, ◌/◌, ◌∙◌, sym, ap, subst, length}
+use Rattle.std.proofs.Common.{◌/◌, ◌∙◌, ap}
 use Rattle.aps_model.specs.Budget.{all_parts}
 use Rattle.aps_model.specs.SchedulerState.{SchedulerState}
 use Rattle.aps_laws.specs.Moments.{moment}
