@@ -20,4 +20,6 @@ pub mod Moved
 pub mod Shifted
 pub mod Leaps
 pub mod AnyMoments
+pub mod Untouched
+pub mod InTime
 pub mod Rows
