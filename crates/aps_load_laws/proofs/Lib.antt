@@ -20,5 +20,7 @@ pub mod Moved
 pub mod Shifted
 pub mod Leaps
 pub mod AnyMoments
+pub mod Untouched
+pub mod InTime
 pub mod Rows
 pub mod Moments

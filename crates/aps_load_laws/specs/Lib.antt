@@ -7,3 +7,4 @@ pub mod Work
 pub mod OwnShare
 pub mod Response
 pub mod AnyMoment
+pub mod Operation
