@@ -4,3 +4,6 @@ pub mod Cycle
 pub mod Room
 pub mod Text
 pub mod Whole
+pub mod Tally
+pub mod Few
+pub mod Waits

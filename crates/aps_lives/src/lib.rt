@@ -6,9 +6,13 @@ mod doing;
 pub mod laws;
 mod life;
 mod retracing;
+mod tally;
 pub mod text;
+mod waits;
 
 pub use cycle::{Begun, Cycle, Cycles, Times};
 pub use doing::{Doing, doing_of};
 pub use life::{Life, Segment};
 pub use retracing::lives;
+pub use tally::{Longest, Tally};
+pub use waits::{Wait, Waits, tally_cycles};

@@ -1,0 +1,2 @@
+pub mod AsSolo
+pub mod Said

@@ -1,0 +1,10 @@
+use Rattle.std.proofs.Common.{◌≡◌, ◌≤◌, length, ap, arith}
+use Rattle.aps_model.specs.History.{History}
+use Rattle.apsview.proofs.reading.report.Goals as goal
+
+pub cycles_text-requires-clause-few : goal.cycles_text-requires-clause-few
+cycles_text-requires-clause-few c =
+    let h = c.history-history.result.now in
+    let fit : length h.entries ≤ h.room.entries = c.entries-entries.ensures.keeps.entries_fit in
+    let room : h.room.entries ≡ c.args.core.now.setup.limit = ap (λ (k : History). k.room.entries) c.history-history.ensures.same in
+    omega (arith, fit, room, c.requires.few)
