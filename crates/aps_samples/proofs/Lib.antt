@@ -1,0 +1,9 @@
+pub mod Tests
+pub mod Fill
+pub mod Texts
+pub mod Along
+pub mod Ticks
+pub mod Notes
+pub mod Passing
+pub mod Retraced
+pub mod Samples

@@ -1,0 +1,6 @@
+use Rattle.std.proofs.Common.{◌≡◌, ℕ, ◌||◌, get_or, false}
+use Rattle.aps_samples.proofs.Fill.{IsFilled}
+use Rattle.aps_samples.proofs.note.either.Given as goal
+
+abbrev pub invariant-loop-p : goal.invariant-loop-p
+invariant-loop-p l = IsFilled (λ k. get_or l.a k false || get_or l.b k false) false 32 l.p l.all

@@ -1,0 +1,12 @@
+use Rattle.std.proofs.Common.{refl, arith, ◌≡◌, ℕ, nat_lt, get_or, false}
+use Rattle.aps_samples.proofs.Fill.{filled_none, filled_more, filled_all}
+use Rattle.aps_samples.proofs.sample.before_end.Goals as goal
+
+pub loop-p-init : goal.loop-p-init
+loop-p-init c = filled_none (λ k. nat_lt c.args.first (get_or c.args.lasts.now k 0)) false 32 _ refl
+
+pub loop-p-preserved : goal.loop-p-preserved
+loop-p-preserved c = filled_more (λ k. nat_lt c.args.first (get_or c.args.lasts.now k 0)) false 32 c.loop-p.p c.loop-p.all _ (omega arith) refl c.loop-p.invariant
+
+pub returns : goal.returns
+returns c = filled_all (λ k. nat_lt c.args.first (get_or c.args.lasts.now k 0)) false 32 c.loop-p.p c.loop-p.all (omega arith) c.loop-p.invariant

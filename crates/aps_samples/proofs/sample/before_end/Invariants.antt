@@ -1,0 +1,6 @@
+use Rattle.std.proofs.Common.{◌≡◌, ℕ, nat_lt, get_or, false}
+use Rattle.aps_samples.proofs.Fill.{IsFilled}
+use Rattle.aps_samples.proofs.sample.before_end.Given as goal
+
+abbrev pub invariant-loop-p : goal.invariant-loop-p
+invariant-loop-p l = IsFilled (λ k. nat_lt l.first (get_or l.lasts k 0)) false 32 l.p l.all
