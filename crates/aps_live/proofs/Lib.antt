@@ -1,0 +1,5 @@
+pub mod ReadAt
+pub mod Rows
+pub mod Machines
+pub mod Bests
+pub mod Starts

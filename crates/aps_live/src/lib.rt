@@ -1,0 +1,11 @@
+//! A scheduler for programs with a clock of their own: each caller steps a processor at a moment that it brings, and tells
+//! what became of the thread that ran. Intervals may cross ticks, and may be long.
+#![tactic(auto)]
+
+mod event;
+mod machine;
+mod thread;
+mod turn;
+
+pub use event::LiveEvent;
+pub use turn::LiveTurn;
