@@ -3,3 +3,5 @@ pub mod Rows
 pub mod Machines
 pub mod Bests
 pub mod Starts
+pub mod Billing
+pub mod Parts

@@ -5,3 +5,6 @@ pub mod LiveBound
 pub mod LiveRun
 pub mod Machine
 pub mod MachineView
+pub mod Tied
+pub mod Part
+pub mod BilledTo

@@ -2,6 +2,7 @@
 //! what became of the thread that ran. Intervals may cross ticks, and may be long.
 #![tactic(auto)]
 
+mod bills;
 mod event;
 mod machine;
 mod thread;
