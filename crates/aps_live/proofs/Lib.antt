@@ -5,3 +5,6 @@ pub mod Bests
 pub mod Starts
 pub mod Billing
 pub mod Parts
+pub mod Sizes
+pub mod Tiles
+pub mod Lives

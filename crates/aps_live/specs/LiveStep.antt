@@ -5,6 +5,7 @@ use Rattle.std.specs.Option.{option_map}
 use Rattle.aps_model.specs.declared.entry.Entry.{Entry}
 use Rattle.aps_model.specs.declared.merit.Contender.{Contender}
 use Rattle.aps_model.specs.declared.merit.PartFacts.{PartFacts}
+use Rattle.aps_model.specs.declared.shape.Free.{Free}
 use Rattle.aps_model.specs.declared.state.Pick.{Pick}
 use Rattle.aps_model.specs.Bill.{bill_of}
 use Rattle.aps_model.specs.Budget.{all_parts, part_at}
@@ -89,10 +90,11 @@ live_settled s c event = woken (released s c (doing_after event) (live_cpu_at s 
 abbrev pub live_parts : Scenario → List Entry → ℕ → Entry → List PartFacts
 live_parts scenario h now e = all_parts scenario.shape scenario.partitions (h ++ e ∷ []) (now / scenario.shape.tick)
 
-abbrev pub live_pick : Scenario → List PartFacts → LiveState → ℕ → Entry → LiveStep
-live_pick scenario parts s c e =
+-- the pick, and the entry with it
+abbrev pub live_pick : Free → List PartFacts → LiveState → ℕ → Entry → LiveStep
+live_pick free parts s c e =
     let ready = live_contenders s in
-    let best = greatest scenario.shape.free parts ready in
+    let best = greatest free parts ready in
     record {
       entry = record e { picked = option_map (λ (b : Contender). b.thread) best; starved = missing parts ready };
       state = live_chosen s parts c best;
@@ -102,4 +104,4 @@ live_pick scenario parts s c e =
 abbrev pub live_step : Scenario → LiveState → List Entry → ℕ → ℕ → LiveEvent → LiveStep
 live_step scenario s h c now event =
     let e = live_bill s h c now in
-    live_pick scenario (live_parts scenario h now e) (live_settled s c event) c e
+    live_pick scenario.shape.free (live_parts scenario h now e) (live_settled s c event) c e
