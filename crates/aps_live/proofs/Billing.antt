@@ -101,15 +101,15 @@ billed_more tick window new h e q k ns m same is stands = record {
       let old = m.used p a b (omega (arith, near, same)) in
       let one = sum_by-cons (time_in all_time p a b) bill m.bills in
       let here : time_in all_time p a b bill + cond (nat_eq q p) (overlap tick a (min b k) e.from e.to) 0 ≡ cond (nat_eq q p) (overlap tick a (min b (k + 1)) e.from e.to) 0 =
-          ap (λ n. cond (nat_eq q p && (nat_le a k && nat_lt k b)) n 0 + cond (nat_eq q p) (overlap tick a (min b k) e.from e.to) 0) is
-          ∙ by_test (nat_eq q p) (nat_le a k && nat_lt k b) (overlap tick k (k + 1) e.from e.to) _ _ (one_more tick a b k e.from e.to) in
+      ap (λ n. cond (nat_eq q p && (nat_le a k && nat_lt k b)) n 0 + cond (nat_eq q p) (overlap tick a (min b k) e.from e.to) 0) is
+      ∙ by_test (nat_eq q p) (nat_le a k && nat_lt k b) (overlap tick k (k + 1) e.from e.to) _ _ (one_more tick a b k e.from e.to) in
       omega (arith, old, one, here);
   critical = λ p a b near.
       let old = m.critical p a b (omega (arith, near, same)) in
       let one = sum_by-cons (time_in critical_time p a b) bill m.bills in
       let here : time_in critical_time p a b bill + cond (nat_eq q p && e.critical) (overlap tick a (min b k) e.from e.to) 0 ≡ cond (nat_eq q p && e.critical) (overlap tick a (min b (k + 1)) e.from e.to) 0 =
-          ap (λ n. cond (nat_eq q p && (nat_le a k && nat_lt k b)) (cond e.critical n 0) 0 + cond (nat_eq q p && e.critical) (overlap tick a (min b k) e.from e.to) 0) is
-          ∙ by_marks (nat_eq q p) e.critical (nat_le a k && nat_lt k b) (overlap tick k (k + 1) e.from e.to) _ _ (one_more tick a b k e.from e.to) in
+      ap (λ n. cond (nat_eq q p && (nat_le a k && nat_lt k b)) (cond e.critical n 0) 0 + cond (nat_eq q p && e.critical) (overlap tick a (min b k) e.from e.to) 0) is
+      ∙ by_marks (nat_eq q p) e.critical (nat_le a k && nat_lt k b) (overlap tick k (k + 1) e.from e.to) _ _ (one_more tick a b k e.from e.to) in
       omega (arith, old, one, here);
 }
   where
@@ -142,13 +142,13 @@ billed_all tick window h e q now m is ends = record {
       let old = m.used p a b near in
       let whole : overlap tick a (min b (now + 1)) e.from e.to ≡ overlap tick a b e.from e.to = all_now tick a b now e.from e.to ends in
       let here : cond (nat_eq q p) (overlap tick a (min b (now + 1)) e.from e.to) 0 ≡ billed_by tick p a b e =
-          ap (λ n. cond (nat_eq q p) n 0) whole ∙ ap (λ o. cond (names o p) (overlap tick a b e.from e.to) 0) (sym is) in
+      ap (λ n. cond (nat_eq q p) n 0) whole ∙ ap (λ o. cond (names o p) (overlap tick a b e.from e.to) 0) (sym is) in
       omega (arith, old, here, added (billed_by tick p a b) h e);
   critical = λ p a b near.
       let old = m.critical p a b near in
       let whole : overlap tick a (min b (now + 1)) e.from e.to ≡ overlap tick a b e.from e.to = all_now tick a b now e.from e.to ends in
       let here : cond (nat_eq q p && e.critical) (overlap tick a (min b (now + 1)) e.from e.to) 0 ≡ critical_by tick p a b e =
-          ap (λ n. cond (nat_eq q p && e.critical) n 0) whole ∙ ap (λ o. cond (names o p && e.critical) (overlap tick a b e.from e.to) 0) (sym is) in
+      ap (λ n. cond (nat_eq q p && e.critical) n 0) whole ∙ ap (λ o. cond (names o p && e.critical) (overlap tick a b e.from e.to) 0) (sym is) in
       omega (arith, old, here, added (critical_by tick p a b) h e);
 }
 
@@ -181,7 +181,7 @@ fits_tick tick window h e q k ns m is small past near ns_is fits =
     let old = m.used q k (k + 1) near in
     let none : cond (nat_eq q q) (overlap tick k (min (k + 1) k) e.from e.to) 0 ≡ 0 = empty (nat_eq q q) _ (nothing tick k e.from e.to) in
     let new : billed_by tick q k (k + 1) e ≡ overlap tick k (k + 1) e.from e.to =
-        ap (λ o. cond (names o q) (overlap tick k (k + 1) e.from e.to) 0) is ∙ ap (λ t. cond t (overlap tick k (k + 1) e.from e.to) 0) (same_number q) in
+    ap (λ o. cond (names o q) (overlap tick k (k + 1) e.from e.to) 0) is ∙ ap (λ t. cond t (overlap tick k (k + 1) e.from e.to) 0) (same_number q) in
     omega (arith, on, old, none, new, ns_is, fits q k, added (billed_by tick q k (k + 1)) h e)
   where
     nothing : (tick k from to : ℕ) → overlap tick k (min (k + 1) k) from to ≡ 0

@@ -8,3 +8,6 @@ pub mod Parts
 pub mod Sizes
 pub mod Tiles
 pub mod Lives
+pub mod Cores
+pub mod Advances
+pub mod Takes

@@ -32,9 +32,11 @@ live_more : (scenario : Scenario) (s : LiveState) (h : List Entry) (steps : List
     → IsLiveStep scenario (live_after scenario s h steps) (h ++ entries_of steps) t → AreLiveFrom scenario s h (steps ++ t ∷ [])
 live_more scenario s h [] t live m = (subst (λ (g : List Entry). IsLiveStep scenario s g t) (append-nil h) m, tt)
 live_more scenario s h (u ∷ steps) t live m =
-    let next = (live_step scenario s h u.entry.cpu u.entry.to u.event).state in
-    (live.0, live_more scenario next (h ++ u.entry ∷ []) steps t live.1
-    (subst (λ (g : List Entry). IsLiveStep scenario (live_after scenario next (h ++ u.entry ∷ []) steps) g t) (sym (append_assoc h (u.entry ∷ []) (entries_of steps))) m))
+    let next = (live_step scenario s h u.entry.cpu u.entry.to u.event).state in (
+      live.0,
+      live_more scenario next (h ++ u.entry ∷ []) steps t live.1
+          (subst (λ (g : List Entry). IsLiveStep scenario (live_after scenario next (h ++ u.entry ∷ []) steps) g t) (sym (append_assoc h (u.entry ∷ []) (entries_of steps))) m),
+    )
 
 pub is_live_more : (scenario : Scenario) (steps : List Taken) (t : Taken) → IsLive scenario steps
     → IsLiveStep scenario (live_after scenario (live_opening scenario) [] steps) (entries_of steps) t → IsLive scenario (steps ++ t ∷ [])

@@ -22,8 +22,8 @@ pub part_is : (shape : Shape) (rows : List PartitionRow) (window : Window) (h : 
 part_is shape rows window h p spent critical row part m span some few used_is critical_is row_is is =
     let near : window.tick < window.tick + 1 - shape.window + 400 = omega (arith, some, few) in
     let spent_is : spent ≡ window_used shape h window.tick p =
-        used_is m.bills m.stands ∙ ap (λ n. bills_used m.bills p (window.tick + 1 - n) (window.tick + 1)) span ∙ m.used p (window.tick + 1 - shape.window) (window.tick + 1) near in
+    used_is m.bills m.stands ∙ ap (λ n. bills_used m.bills p (window.tick + 1 - n) (window.tick + 1)) span ∙ m.used p (window.tick + 1 - shape.window) (window.tick + 1) near in
     let crit_is : critical ≡ window_critical shape h window.tick p =
-        critical_is m.bills m.stands ∙ ap (λ n. bills_critical m.bills p (window.tick + 1 - n) (window.tick + 1)) span ∙ m.critical p (window.tick + 1 - shape.window) (window.tick + 1) near in
+    critical_is m.bills m.stands ∙ ap (λ n. bills_critical m.bills p (window.tick + 1 - n) (window.tick + 1)) span ∙ m.critical p (window.tick + 1 - shape.window) (window.tick + 1) near in
     is ∙ ap (λ r. part_of shape r spent critical) row_is ∙ ap (λ n. part_of shape (row_or_none rows p) n critical) spent_is
     ∙ ap (λ n. part_of shape (row_or_none rows p) (window_used shape h window.tick p) n) crit_is

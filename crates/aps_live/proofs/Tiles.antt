@@ -65,7 +65,7 @@ AreTiled tick cpus h = (a b : ℕ) → time_within tick h a b ≡ sum_by (passed
 pub tiled_more : (tick cpus : ℕ) (h : List Entry) (e : Entry) → e.cpu < cpus → e.from ≡ last_end h e.cpu → e.from ≤ e.to → AreTiled tick cpus h → AreTiled tick cpus (h ++ e ∷ [])
 tiled_more tick cpus h e exists joins forward m a b =
     let here : passed tick a b (h ++ e ∷ []) e.cpu ≡ passed tick a b h e.cpu + overlap tick a b e.from e.to =
-        ap (overlap tick a b 0) (end_own h e) ∙ overlap_joins tick a b e.from e.to forward ∙ ap (λ k. overlap tick a b 0 k + overlap tick a b e.from e.to) joins in
+    ap (overlap tick a b 0) (end_own h e) ∙ overlap_joins tick a b e.from e.to forward ∙ ap (λ k. overlap tick a b 0 k + overlap tick a b e.from e.to) joins in
     let more = sum_changed (passed tick a b h) (passed tick a b (h ++ e ∷ [])) e.cpu (overlap tick a b e.from e.to) cpus 0 (omega arith) (omega (arith, exists)) here (λ d ne. ap (overlap tick a b 0) (end_other h e d ne)) in
     let one = sum_by-append (λ (x : Entry). overlap tick a b x.from x.to) h (e ∷ []) in
     let last = sum_by-cons (λ (x : Entry). overlap tick a b x.from x.to) e [] in

@@ -8,3 +8,5 @@ pub mod MachineView
 pub mod Tied
 pub mod Part
 pub mod BilledTo
+pub mod Core
+pub mod CoreView

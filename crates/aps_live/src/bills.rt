@@ -7,7 +7,9 @@ ghost use Rattle.aps_ready.specs.Small.{IsSmall};
 ghost use Rattle.aps_live.specs.Part.{part_of};
 ghost use Rattle.aps_live.specs.Tied.{FitsTicks, IsTied};
 
-use aps_model::{Entry, Nanos, PartFacts, PartitionId, PartitionRow, Shape, has_allowance, overlap};
+use aps_model::{
+    Entry, Nanos, PartFacts, PartitionId, PartitionRow, Shape, has_allowance, overlap,
+};
 use aps_window::Window;
 
 /// How many ticks back a bill is kept.
@@ -101,6 +103,7 @@ pub fn fill_parts(
     requires span { window.now.span ≡ shape.now.window }
     ensures same { parts.new ≡ all_parts shape.now rows.now (_before.now ++ _e.now ∷ []) window.now.tick }
     ensures small { All IsSmall parts.new }
+    ensures length { length parts.new ≡ length parts.old }
 {
     for p in 0..rows.len() {
         let id = PartitionId::at(p);

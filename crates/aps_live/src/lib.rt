@@ -2,9 +2,12 @@
 //! what became of the thread that ran. Intervals may cross ticks, and may be long.
 #![tactic(auto)]
 
+mod append;
 mod bills;
 mod event;
+mod live_core;
 mod machine;
+mod pick;
 mod thread;
 mod turn;
 

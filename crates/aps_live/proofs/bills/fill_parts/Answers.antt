@@ -27,10 +27,10 @@ loop-p-preserved c =
     let row = c.index-rows-p.is ∙ get_or_default c.args.rows.now c.loop-p.p c.index-rows-p.result no_row below in
     let id = c.at-id.ensures in
     let here = part_is c.args.shape.now c.args.rows.now c.args.window.now (c.args._before.now ++ c.args._e.now ∷ []) c.loop-p.p c.used.result c.critical_used.result c.index-rows-p.result c.part_of.result
-        c.requires.tied c.requires.span (omega (arith, shape.window_long)) shape.window_short
-        (λ bills stands. c.used.ensures.stands bills stands ∙ ap (λ p. bills_used bills p (c.args.window.now.tick + 1 - c.args.window.now.span) (c.args.window.now.tick + 1)) id)
-        (λ bills stands. c.critical_used.ensures.stands bills stands ∙ ap (λ p. bills_critical bills p (c.args.window.now.tick + 1 - c.args.window.now.span) (c.args.window.now.tick + 1)) id)
-        row c.part_of.ensures.same in record {
+    c.requires.tied c.requires.span (omega (arith, shape.window_long)) shape.window_short
+    (λ bills stands. c.used.ensures.stands bills stands ∙ ap (λ p. bills_used bills p (c.args.window.now.tick + 1 - c.args.window.now.span) (c.args.window.now.tick + 1)) id)
+    (λ bills stands. c.critical_used.ensures.stands bills stands ∙ ap (λ p. bills_critical bills p (c.args.window.now.tick + 1 - c.args.window.now.span) (c.args.window.now.tick + 1)) id)
+    row c.part_of.ensures.same in record {
       same = set_one (λ k part. part ≡ part_facts c.args.shape.now c.args.rows.now (c.args._before.now ++ c.args._e.now ∷ []) c.args.window.now.tick k) c.loop-p.parts c.loop-p.p c.part_of.result inside i.same here;
       small = set_one (λ k part. IsSmall part) c.loop-p.parts c.loop-p.p c.part_of.result inside i.small c.part_of.ensures.small;
     }
