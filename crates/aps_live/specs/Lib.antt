@@ -10,3 +10,8 @@ pub mod Part
 pub mod BilledTo
 pub mod Core
 pub mod CoreView
+pub mod Seen
+pub mod Seats
+pub mod Idle
+pub mod Rule
+pub mod Kinds

@@ -5,11 +5,20 @@
 mod append;
 mod bills;
 mod event;
+mod history;
+mod live;
 mod live_core;
 mod machine;
 mod pick;
+mod rule;
+mod seat;
 mod thread;
 mod turn;
+mod view;
+mod words;
 
 pub use event::LiveEvent;
+pub use history::LiveHistory;
+pub use live::Live;
+pub use seat::LiveSeat;
 pub use turn::LiveTurn;
