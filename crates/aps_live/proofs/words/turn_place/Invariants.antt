@@ -1,0 +1,4 @@
+use Rattle.aps_live.proofs.words.turn_place.Given as goal
+
+abbrev pub ghosts-publish : goal.ghosts-publish
+ghosts-publish g a = record { run = a._core.now }

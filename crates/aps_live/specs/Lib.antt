@@ -1,0 +1,17 @@
+pub mod LiveState
+pub mod LiveStep
+pub mod LiveHistory
+pub mod LiveBound
+pub mod LiveRun
+pub mod Machine
+pub mod MachineView
+pub mod Tied
+pub mod Part
+pub mod BilledTo
+pub mod Core
+pub mod CoreView
+pub mod Seen
+pub mod Seats
+pub mod Idle
+pub mod Rule
+pub mod Kinds

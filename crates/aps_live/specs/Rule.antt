@@ -1,0 +1,77 @@
+-- The rule of the lock. The words are the next ticket, the ticket that is served, and the length of the history. The
+-- slot holds the core.
+use Rattle.std.specs.Prelude.{◌≡◌, ℕ, ◌+◌, ◌-◌, ◌%◌, ◌^◌, ◌<◌, ◌≤◌, ◌⊎◌, true, Option, Some, List, [], ◌∷◌, length, ⊤}
+use mathlib.Core.Option.{some}
+use lib.ListN.{get_elem?}
+use Rattle.atomic_table.specs.Table.{State}
+use Rattle.atomic_table.specs.Seated.{TableId}
+use Rattle.aps_live.specs.LiveRun.{LiveRun}
+use Rattle.aps_live.specs.declared.view.Ticket.{Ticket}
+use Rattle.aps_live.specs.declared.view.Ticket.TheVariants.{NoTicket, Waiting, Served}
+use Rattle.aps_live.specs.declared.view.View.{View}
+use Rattle.aps_live.specs.Seen.{cpus_of, IsSeenIn}
+
+abbrev pub sum_of : (View → ℕ) → List View → ℕ
+sum_of f [] = 0
+sum_of f (v ∷ vs) = f v + sum_of f vs
+
+-- how many tickets that is
+abbrev pub count_ticket : Ticket → ℕ
+count_ticket NoTicket = 0
+count_ticket (Waiting t) = 1
+count_ticket (Served t) = 1
+
+abbrev pub tickets : View → ℕ
+tickets v = count_ticket v.ticket
+
+-- how many processors the seat has
+abbrev pub room : View → ℕ
+room v = v.after - v.first
+
+abbrev pub IsServed : Ticket → Type 0
+IsServed NoTicket = ⊥
+IsServed (Waiting t) = ⊥
+IsServed (Served t) = ⊤
+
+-- Of the ticket of the seat j, which has so many processors: only a seat that has one has a ticket. A waiting ticket is
+-- some places behind the served one, and the seat is the one that waits at that place
+abbrev pub HasPlace : ℕ → ℕ → (ℕ → ℕ) → ℕ → ℕ → Ticket → Type 0
+HasPlace serving queued waiter j size NoTicket = ⊤
+HasPlace serving queued waiter j size (Waiting t) =
+    (0 < size) × ((k : ℕ) × (k < queued) × (t ≡ (serving + k) % 2 ^ 64) × (waiter k ≡ j))
+HasPlace serving queued waiter j size (Served t) = (0 < size) × (0 < queued) × (t ≡ serving) × (waiter 0 ≡ j)
+
+-- what a live seat knows of the run
+pub record Knows (run : LiveRun) (v : View) : Type 0 where
+  pub seen : IsSeenIn v.first v.after v.seen run
+  pub own : IsSeenIn v.own.first v.own.after v.own.seen v.joined
+  pub other : IsSeenIn v.other.first v.other.after v.other.seen v.joined
+  pub served : IsServed v.ticket → v.seen ≡ run
+
+-- what is true of the seat j
+pub record IsKept (run : LiveRun) (serving queued : ℕ) (waiter owner : ℕ → ℕ) (j : ℕ) (v : View) : Type 0 where
+  pub order : v.first ≤ v.after
+  pub within : v.after ≤ cpus_of run
+  pub owns : (cpu : ℕ) → v.first ≤ cpu → cpu < v.after → owner cpu ≡ j
+  pub place : HasPlace serving queued waiter j (room v) v.ticket
+  pub knows : v.live ≡ true → Knows run v
+
+-- The run is that of the core: at home, or as the served seat has seen it. So many tickets are out; the waiter tells
+-- which seat waits at each place behind the served ticket, and the owner which seat has each processor
+pub record KeepsRule (s : State (Option LiveRun) View) : Type 0 where
+  pub run : LiveRun
+  pub serving : ℕ
+  pub queued : ℕ
+  pub waiter : ℕ → ℕ
+  pub owner : ℕ → ℕ
+  pub words : s.words ≡ ((serving + queued) % 2 ^ 64) ∷ serving ∷ length run.steps ∷ []
+  pub fits : serving < 2 ^ 64
+  pub counted : queued ≡ sum_of tickets s.views
+  pub shared_out : sum_of room s.views ≡ cpus_of run
+  pub few : cpus_of run ≤ 16
+  pub core : (get_elem? s.homes 0 ≡ some (some (Some run))) ⊎ ((v : View) × (get_elem? s.views (waiter 0) ≡ some v) × IsServed v.ticket)
+  pub seats : (j : ℕ) (v : View) → get_elem? s.views j ≡ some v → IsKept run serving queued waiter owner j v
+
+-- the second names the first one's table, which has three words and one slot
+abbrev pub IsFor : TableId → TableId → Type 0
+IsFor shared seat = (seat ≡ shared) × (shared.words ≡ 3) × (shared.slots ≡ 1)

@@ -1,0 +1,24 @@
+//! A scheduler for programs with a clock of their own: each caller steps a processor at a moment that it brings, and tells
+//! what became of the thread that ran. Intervals may cross ticks, and may be long.
+#![tactic(auto)]
+
+mod append;
+mod bills;
+mod event;
+mod history;
+mod live;
+mod live_core;
+mod machine;
+mod pick;
+mod rule;
+mod seat;
+mod thread;
+mod turn;
+mod view;
+mod words;
+
+pub use event::LiveEvent;
+pub use history::LiveHistory;
+pub use live::Live;
+pub use seat::LiveSeat;
+pub use turn::LiveTurn;

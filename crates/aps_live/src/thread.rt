@@ -1,0 +1,17 @@
+//! Threads as they stand between two live steps.
+use aps_model::{Contender, CpuId};
+
+/// What a thread does.
+#[derive(Clone, Copy, Debug, PartialEq, Eq)]
+pub enum Doing {
+    Waiting,
+    Ready,
+    Running(CpuId),
+}
+
+/// A thread: its number, its own values and its stamp, by which it is compared where it is ready; and what it does.
+#[derive(Clone, Copy, Debug, PartialEq, Eq)]
+pub struct LiveThread {
+    pub contender: Contender,
+    pub doing: Doing,
+}
