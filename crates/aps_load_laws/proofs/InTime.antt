@@ -203,7 +203,7 @@ module _ (scenario : Scenario) (order : Order) (r : IsScenario scenario) (x plac
   abbrev WayAfter : List Entry → Type 0
   WayAfter g = IsUnderWay (state_after scenario g) g x place end
 
-  walk : (h more : List Entry) → IsLegal scenario order (h ++ more) → WayAfter h → RunsUnderWay scenario h more x place end → WayAfter (h ++ more) ⊎ RanUntil more x end
+  walk : (h more : List Entry) → IsLegal scenario order (h ++ more) → WayAfter h → RunsUnderWay scenario h more x place end → WayAfter (h ++ more) ⊎ RanUntil scenario h more x place end
   walk h [] legal way runs = inl (subst WayAfter (sym (append-nil h)) way)
   walk h (e ∷ es) legal way runs =
       let cut : (h ++ e ∷ []) ++ es ≡ h ++ e ∷ es = append_assoc h (e ∷ []) es in
@@ -212,7 +212,7 @@ module _ (scenario : Scenario) (order : Order) (r : IsScenario scenario) (x plac
       let first : moment h < e.to → IsRunning (state_after scenario h) x = λ less.
       subst (λ g. IsRunning (state_after scenario g) x) (append-nil h) (runs [] es e refl (subst WayAfter (sym (append-nil h)) way) (subst (λ g. moment g < e.to) (sym (append-nil h)) less)) in
       elim (entry_goes scenario order h e r front x place end way first) [
-        | inr ends ↦ inr (record { before = []; later = es; e = e; same = refl; ran = ends.0; to = ends.1 })
+        | inr ends ↦ inr (record { before = []; later = es; e = e; same = refl; way = subst WayAfter (sym (append-nil h)) way; ran = ends.0; to = ends.1 })
         | inl on ↦
             let rest = walk (h ++ e ∷ []) es legal' on (λ before later f same w less.
             let shift : (h ++ e ∷ []) ++ before ≡ h ++ e ∷ before = append_assoc h (e ∷ []) before in
@@ -220,7 +220,7 @@ module _ (scenario : Scenario) (order : Order) (r : IsScenario scenario) (x plac
             (runs (e ∷ before) later f (ap (λ l. e ∷ l) same) (subst WayAfter shift w) (subst (λ g. moment g < f.to) shift less))) in
             elim rest [
               | inl still ↦ inl (subst WayAfter cut still)
-              | inr done ↦ inr (record { before = e ∷ done.before; later = done.later; e = done.e; same = ap (λ l. e ∷ l) done.same; ran = done.ran; to = done.to })
+              | inr done ↦ inr (record { before = e ∷ done.before; later = done.later; e = done.e; same = ap (λ l. e ∷ l) done.same; way = subst WayAfter (append_assoc h (e ∷ []) done.before) done.way; ran = done.ran; to = done.to })
             ]
       ]
 

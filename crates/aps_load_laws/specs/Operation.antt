@@ -32,12 +32,13 @@ RunsOn scenario h more x =
     → moment (h ++ before) < e.to
     → IsRunning (state_after scenario (h ++ before)) x
 
--- one of these entries ran the thread until the moment `end`
-pub record RanUntil (more : List Entry) (x end : ℕ) : Type 0 where
+-- up to one of these further entries the operation was under way, and that entry ran the thread until the moment `end`
+pub record RanUntil (scenario : Scenario) (h more : List Entry) (x place end : ℕ) : Type 0 where
   pub before : List Entry
   pub later : List Entry
   pub e : Entry
   pub same : more ≡ before ++ e ∷ later
+  pub way : IsUnderWay (state_after scenario (h ++ before)) (h ++ before) x place end
   pub ran : e.ran ≡ Some x
   pub to : e.to ≡ end
 
@@ -57,5 +58,5 @@ StaysAhead scenario h more x =
 -- after these further entries the operation is under way with the same end, or one of them ran the thread until then; and
 -- if a moment later than that has come, one did
 pub record IsDoneInTime (scenario : Scenario) (h more : List Entry) (x place end : ℕ) : Type 0 where
-  pub so_far : IsUnderWay (state_after scenario (h ++ more)) (h ++ more) x place end ⊎ RanUntil more x end
-  pub at_last : end < moment (h ++ more) → RanUntil more x end
+  pub so_far : IsUnderWay (state_after scenario (h ++ more)) (h ++ more) x place end ⊎ RanUntil scenario h more x place end
+  pub at_last : end < moment (h ++ more) → RanUntil scenario h more x place end
