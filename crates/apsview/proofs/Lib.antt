@@ -1,2 +1,3 @@
 pub mod AsSolo
 pub mod Said
+pub mod Dues

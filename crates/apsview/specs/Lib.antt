@@ -6,3 +6,4 @@ pub mod Report
 pub mod Outcome
 pub mod Cause
 pub mod Answer
+pub mod Due

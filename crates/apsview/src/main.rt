@@ -3,6 +3,7 @@
 #![tactic(auto)]
 
 mod asked;
+mod calm;
 mod outcome;
 mod printing;
 mod reading;
