@@ -19,3 +19,4 @@ pub mod Turning
 pub mod Sharing
 pub mod Ends
 pub mod Steps
+pub mod Bounds

@@ -81,7 +81,7 @@ again_cpus s x thread Waiting = refl
 again_cpus s x thread Ready = refl
 again_cpus s x thread (Running c) = refl
 
-woken_cpus : (s : LiveState) (event : LiveEvent) → (woken s event).cpus ≡ s.cpus
+pub woken_cpus : (s : LiveState) (event : LiveEvent) → (woken s event).cpus ≡ s.cpus
 woken_cpus s Stay = refl
 woken_cpus s Block = refl
 woken_cpus s (Wake x) = again_cpus s x (live_thread_at s x) (live_thread_at s x).doing

@@ -1,5 +1,6 @@
 //! A closed history of live steps.
 ghost use Rattle.std.specs.Prelude.{◌≡◌};
+ghost use Rattle.aps_live.specs.LiveBound.{KeepsLiveBound};
 ghost use Rattle.aps_live.specs.LiveHistory.{IsLive, entries_of, events_of};
 
 use crate::event::LiveEvent;
@@ -22,10 +23,12 @@ impl Model for LiveHistory {
 }
 
 impl LiveHistory {
-    /// The entries, in the order in which they were taken. The history is a live one.
+    /// The entries, in the order in which they were taken. The history is a live one, and keeps the
+    /// live bound.
     pub fn entries(&self) -> &[Entry]
         ensures same { result.now ≡ entries_of self.now.steps }
         ensures live { IsLive self.now.setup.scenario self.now.steps }
+        ensures bound { KeepsLiveBound self.now.setup.scenario (entries_of self.now.steps) }
     {
         self.core.entries()
     }

@@ -6,6 +6,7 @@ mod append;
 mod bills;
 mod event;
 mod history;
+pub mod laws;
 mod live;
 mod live_core;
 mod machine;
