@@ -54,7 +54,7 @@ impl Note {
         core.stand(&mut room[..count]);
         let parts = &room[..count];
         self.lacking = either(&self.lacking, &lacking(core, parts, e.cpu));
-        self.out = either(&self.out, &out(parts));
+        self.out = either(&self.out, &unfunded(parts));
         self.starved = or(self.starved, e.starved.is_some());
     }
 }
@@ -103,7 +103,7 @@ fn bills(pick: &Option<Pick>, p: usize) -> bool
 }
 
 /// Which partitions aren't in budget, where they stand so.
-fn out(parts: &[PartFacts]) -> [bool; 32]
+fn unfunded(parts: &[PartFacts]) -> [bool; 32]
     ensures { (p : ℕ) → p < 32 → slice_index_or result p false ≡ not (part_at parts.now p).funded }
 {
     let mut all = [false; PARTITIONS];
