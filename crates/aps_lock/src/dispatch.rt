@@ -4,7 +4,7 @@ ghost use Rattle.aps_model.specs.Seat.{IsSeen, own_entries};
 ghost use Rattle.aps_lock.specs.Seats.{HasAllCpus, HasCpu, HasSeen, IsSeatOf, IsSeatTurn, taken, waited_after};
 ghost use Rattle.aps_lock.specs.Seen.{longer};
 
-use crate::hint::{CpuSet, Hint, next_turns};
+use crate::hint::{CpuSet, Hint};
 use crate::rule::CoreTable;
 use crate::seat::CpuSeat;
 use crate::words::{CORE, cut, len_of, load_len, merge, turn_place, witness};
@@ -45,7 +45,7 @@ impl Dispatch {
         ensures of { IfOk result (λ r. IsSeatOf r.0 r.1 × HasAllCpus r.1) }
         ensures refused { IfErr result (λ c. c ≡ core) }
     {
-        let Ok(hint) = Hint::begin(alloc, next_turns(&core)) else {
+        let Ok(hint) = Hint::begin(alloc, &core) else {
             return Err(core);
         };
         let about = Snapshot::of(&core);

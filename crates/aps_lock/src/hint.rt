@@ -8,9 +8,20 @@ use std::alloc::Global;
 use std::sync::Wait;
 use std::sync::atomic::Ordering::SeqCst;
 use std::sync::atomic::{AtomicBool, AtomicU64};
+use std::{hint, thread};
 
 /// The most processors.
 const CPUS: usize = 16;
+
+/// A run of so many processors has a processor of the machine for each, on most machines.
+const FEW_CPUS: u8 = 4;
+
+/// So often a driver looks before it sleeps, where processors are few: for some 20 microseconds, in which a few turns of
+/// others come and go.
+const LONG_LOOK: u32 = 2_000;
+
+/// So often it looks where they are many, backing off in between, so that the others can run.
+const SHORT_LOOK: u32 = 11;
 
 /// Some processors: bit c stands for processor c.
 #[derive(Clone, Copy)]
@@ -96,11 +107,13 @@ impl Door {
 pub(crate) struct Hint {
     next: AtomicU64,
     doors: Vec<Door>,
+    most_looks: u32,
 }
 
 impl Hint {
-    /// At the start of these turns, with no driver at hand. `NoMemory` comes where there is no room for 16 doors.
-    pub(crate) fn begin(alloc: Global, next: CpuSet) -> Result<Hint, NoMemory> {
+    /// At the turns that come next in this core, with no driver at hand. `NoMemory` comes where there is no room for 16
+    /// doors.
+    pub(crate) fn begin(alloc: Global, core: &Core) -> Result<Hint, NoMemory> {
         let mut doors = Vec::with_capacity(alloc, CPUS)?;
         for c in 0..CPUS {
             doors.push(Door {
@@ -109,9 +122,15 @@ impl Hint {
                 bell: EventCount::new(),
             })?;
         }
+        let cpus = core.history().scenario().shape().cpus;
         Ok(Hint {
-            next: AtomicU64::new(next.bits),
+            next: AtomicU64::new(next_turns(core).bits),
             doors,
+            most_looks: if cpus <= FEW_CPUS {
+                LONG_LOOK
+            } else {
+                SHORT_LOOK
+            },
         })
     }
 
@@ -178,20 +197,33 @@ impl Hint {
     /// Waits until the processor may have the turn: it looks for a while, and then sleeps. It comes back sooner where a
     /// processor that may have the turn has no driver at hand.
     pub(crate) fn await_turn<R: Wait>(&self, rt: &R, cpu: CpuId) {
+        for _ in rt.forever() {
+            if self.is_soon(cpu) {
+                return;
+            }
+            if !self.has_drivers() {
+                thread::yield_now();
+                return;
+            }
+            self.sleep(rt, cpu);
+        }
+    }
+
+    /// Looks for a while whether the processor may have the turn.
+    fn is_soon(&self, cpu: CpuId) -> bool {
         let mine = CpuSet::of(cpu);
         let backoff = Backoff::new();
-        for _ in rt.forever() {
+        for _ in 0..self.most_looks {
             if self.next().meets(mine) {
-                return;
+                return true;
             }
-            if !backoff.is_completed() {
-                backoff.snooze();
-            } else if self.has_drivers() {
-                self.sleep(rt, cpu);
+            if self.most_looks == LONG_LOOK {
+                hint::spin_loop();
             } else {
-                return;
+                backoff.snooze();
             }
         }
+        false
     }
 
     /// Sleeps until somebody rings, unless the processor may have the turn by now.
