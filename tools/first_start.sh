@@ -75,6 +75,54 @@ most_builds() {
     echo "$most"
 }
 
+# The crates of this repository that a crate stands on, directly or not.
+below_of() {
+    local -a collected=()
+    collect "$1"
+    unset 'collected[-1]'
+    echo "${collected[*]}"
+}
+
+# A build keeps every other out of the folders that it reads, so each has a copy: the sources of the crate and of those
+# below, what these were built to, and what an interrupted build of the crate has done already.
+fill_room() {
+    local name=$1 room=$2 one part
+    rm -rf "$room"
+    mkdir -p "$room/crates" || return 1
+    cp "$root/HANDLES" "$room" || return 1
+    for one in $(below_of "$name") "$name"; do
+        mkdir -p "$room/crates/$one/out" || return 1
+        printf '%s:%s\n' "$one" "${crates_below[$one]}" >>"$room/crates.txt"
+        for part in src specs proofs; do
+            [ ! -d "$root/crates/$one/$part" ] || cp -r "$root/crates/$one/$part" "$room/crates/$one" || return 1
+        done
+        [ ! -d "$root/crates/$one/out/rlib" ] || cp -r "$root/crates/$one/out/rlib" "$room/crates/$one/out" || return 1
+    done
+    [ ! -d "$root/crates/$name/out/incremental" ] || cp -r "$root/crates/$name/out/incremental" "$room/crates/$name/out"
+}
+
+# Builds a library in a room of its own, and hands over what came of it, also where the build was stopped.
+build_library() {
+    local name=$1 share=$2 room=$first_start_folder/$1.room status
+    fill_room "$name" "$room" || return 1
+    trap 'take_over "$name" "$room"; exit 1' TERM
+    (cd "$room/crates/$name" && exec rt lib --jobs "$share") &
+    wait $!
+    status=$?
+    take_over "$name" "$room"
+    return "$status"
+}
+
+# Lays what a room holds of a crate's build into the crate's own folder.
+take_over() {
+    local to=$root/crates/$1/out from=$2/crates/$1/out part
+    mkdir -p "$to"
+    for part in rlib incremental; do
+        [ -d "$from/$part" ] && rm -rf "${to:?}/$part" && mv "$from/$part" "$to/$part"
+    done
+    rm -rf "$2"
+}
+
 # Begins the build of a crate in the background, in a process group of its own.
 begin_build() {
     local name=$1 log=$first_start_folder/$1.log share
@@ -83,11 +131,10 @@ begin_build() {
     rm -f "$first_start_folder/$name.status"
     set -m
     (
-        cd "$root/crates/$name" || exit 1
         if [ "$name" = "$first_start_program" ]; then
-            "${first_start_command[@]}"
+            cd "$root/crates/$name" && "${first_start_command[@]}"
         else
-            rt lib --jobs "$share"
+            build_library "$name" "$share"
         fi >"$log" 2>&1 </dev/null
         echo $? >"$first_start_folder/$name.status"
     ) &

@@ -14,6 +14,3 @@ mod text;
 pub use admission::{Admission, Granted, Grants};
 pub use budgets::admit;
 pub use text::print;
-
-#[cfg(test)]
-mod tests;

@@ -9,8 +9,6 @@ mod loaded;
 mod order;
 mod recount;
 mod slide;
-#[cfg(test)]
-mod tests;
 mod usage;
 mod window;
 mod worst;

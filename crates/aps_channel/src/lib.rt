@@ -7,8 +7,6 @@ mod lines;
 mod links;
 mod outcome;
 mod serving;
-#[cfg(test)]
-mod tests;
 mod waiting;
 
 pub use channels::Channels;

@@ -1,9 +1,6 @@
 //! Critical time: whether a partition has standing, whether a bill makes it bankrupt, and what the policy does then.
 #![tactic(auto)]
 
-#[cfg(test)]
-mod tests;
-
 ghost use Rattle.std.specs.Prelude.{◌≡◌, ℕ, ◌+◌, ◌-◌, ◌<◌, List, length};
 ghost use Rattle.aps_model.specs.Budget.{has_standing};
 ghost use Rattle.aps_window.specs.Bills.{Bill as WindowBill, bills_critical};

@@ -5,8 +5,6 @@ mod command;
 pub mod laws;
 mod outcome;
 mod pending;
-#[cfg(test)]
-mod tests;
 
 pub use command::perform;
 pub use outcome::{change_by, mark_by};

@@ -5,4 +5,3 @@ pub mod Tables
 pub mod Values
 pub mod Opening
 pub mod Changes
-pub mod ThreeThreads

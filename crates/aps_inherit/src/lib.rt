@@ -5,8 +5,6 @@ mod content;
 mod inherit;
 mod kept;
 mod order;
-#[cfg(test)]
-mod tests;
 mod triple;
 mod triples;
 

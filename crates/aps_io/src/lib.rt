@@ -14,6 +14,3 @@ pub use scripted::{MemSink, MemSource};
 pub use sink::{Sink, WriteAnswer};
 pub use source::{ReadAnswer, Source};
 pub use standard::{StdSink, StdSource};
-
-#[cfg(test)]
-mod tests;

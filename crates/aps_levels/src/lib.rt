@@ -4,8 +4,6 @@
 
 mod bits;
 mod levels;
-#[cfg(test)]
-mod tests;
 
 pub use bits::Bits64;
 pub use levels::Levels;

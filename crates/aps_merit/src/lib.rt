@@ -4,9 +4,6 @@
 //! Used times are ns of the partition in the window, budgets are parts of all processor time, 100 or 1,000 in all.
 #![tactic(auto)]
 
-#[cfg(test)]
-mod tests;
-
 ghost use Rattle.std.specs.Prelude.{◌≡◌, ◌≤◌};
 ghost use Rattle.aps_model.specs.Merit.{merit_of, is_critical_pick, is_candidate, is_greater, is_below};
 

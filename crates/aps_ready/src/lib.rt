@@ -9,8 +9,6 @@ mod gates;
 mod index;
 mod ready;
 mod seat;
-#[cfg(test)]
-mod tests;
 
 pub use gates::Gates;
 pub use ready::Ready;

@@ -4,7 +4,6 @@ pub mod Sums
 pub mod Cells
 pub mod Windowed
 pub mod Moved
-pub mod TwoEqual
 pub mod Rows
 pub mod Tables
 pub mod Answers

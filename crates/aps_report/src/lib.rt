@@ -13,6 +13,3 @@ mod zeros;
 pub use by_entry::{JournalFault, journal};
 pub use by_window::windows;
 pub use overview::{summary, usage};
-
-#[cfg(test)]
-mod tests;

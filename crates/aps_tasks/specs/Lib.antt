@@ -3,5 +3,4 @@ pub mod Calls
 pub mod Kept
 pub mod Start
 pub mod TasksView
-pub mod Worked
 pub mod Tied

@@ -7,7 +7,5 @@ mod plan;
 mod start;
 mod task;
 mod tasks;
-#[cfg(test)]
-mod tests;
 
 pub use tasks::Tasks;

@@ -15,6 +15,3 @@ pub use printing::print_journal;
 pub use reading::read_journal;
 pub use refusal::JournalRefusal;
 pub use separator::{JournalAt, journal_at};
-
-#[cfg(test)]
-mod tests;

@@ -4,8 +4,6 @@
 mod bracket;
 pub mod laws;
 mod sleeper;
-#[cfg(test)]
-mod tests;
 mod timer;
 
 pub use timer::Timer;

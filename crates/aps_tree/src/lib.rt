@@ -5,8 +5,6 @@
 mod changes;
 mod key;
 mod rows;
-#[cfg(test)]
-mod tests;
 mod tree;
 
 pub use tree::Tree;

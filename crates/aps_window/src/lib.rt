@@ -5,8 +5,6 @@
 mod account;
 mod laws;
 mod slot;
-#[cfg(test)]
-mod tests;
 mod window;
 
 pub use window::Window;

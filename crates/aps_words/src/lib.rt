@@ -5,8 +5,6 @@ mod command;
 mod number;
 mod options;
 mod plain;
-#[cfg(test)]
-mod tests;
 mod values;
 
 pub use command::{Command, Report, WordsRefusal, command_of};

@@ -1,0 +1,2 @@
+pub mod SmallTasks
+pub mod ThreeThreads

@@ -1,0 +1,12 @@
+//! The parts of the scheduler, each used alone.
+mod channel;
+mod critical;
+mod ctl;
+mod inherit;
+mod levels;
+mod merit;
+mod ready;
+mod tasks;
+mod timer;
+mod tree;
+mod window;

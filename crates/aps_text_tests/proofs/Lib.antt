@@ -1,0 +1,2 @@
+pub mod LoneSystem
+pub mod TwoEqual

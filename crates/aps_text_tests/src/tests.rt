@@ -1,0 +1,7 @@
+//! Words, bytes and texts, with values from outside.
+mod admit;
+mod bound;
+mod report;
+mod streams;
+mod text;
+mod words;

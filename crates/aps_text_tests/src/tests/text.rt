@@ -1,0 +1,133 @@
+use aps_model::{Done, Entry, ThreadId};
+use aps_text::{JournalRefusal, journal_at, print_journal, read_journal};
+use std::alloc::Global;
+use std::test::Fail;
+
+const SLEEPING_WORKER: &str = "\
+0 0 0 - - - - 1 - -
+0 0 400000 1 1 - run 0 1 -
+0 400000 1000000 0 0 - - 1 - -
+0 1000000 1001000 1 1 - repeat 1 - -
+0 1001000 1401000 1 1 - run 0 1 -
+0 1401000 2000000 0 0 - - 0 1 -
+0 2000000 3000000 0 0 - - - - -
+";
+
+const SHARED_SERVER: &str = "\
+0 0 0 - - - - 0 - -
+0 0 1000 0 0 - receive:blocked 1 0 -
+0 1000 2000 1 1 - send:0 0 0 -
+0 2000 1000000 0 1 - - 0 0 -
+0 1000000 2000000 0 1 - - 0 0 -
+0 2000000 3000000 0 1 - - 0 0 -
+0 3000000 3002000 0 1 - run 0 0 -
+0 3002000 3003000 0 1 - reply:1 0 - -
+0 3003000 3004000 0 0 - repeat 0 - -
+0 3004000 3005000 0 0 - receive:blocked 1 0 -
+0 3005000 3006000 1 1 - exit - 0 -
+0 3006000 4000000 - - - - - - -
+";
+
+const REFUSED_RECEIVE: &str = "\
+0 0 0 - - - - 1 - -
+0 0 1000 1 0 - send:blocked - 0 -
+0 1000 1000000 - - - - 2 - -
+0 1000000 1001000 2 0 - send:blocked - 0 -
+0 1001000 2000000 - - - - 0 - -
+0 2000000 2001000 0 0 - reply:none 0 - -
+0 2001000 2002000 0 0 - receive:2 0 - -
+0 2002000 2003000 0 0 - receive:holding:2 0 - -
+0 2003000 2004000 0 0 - reply:2 2 - -
+0 2004000 2005000 2 0 - exit 0 - -
+0 2005000 2006000 0 0 - receive:1 0 - -
+0 2006000 2007000 0 0 - reply:1 1 - -
+0 2007000 2008000 1 0 - exit 0 - -
+0 2008000 3000000 0 0 - - - - -
+";
+
+fn entries_of(alloc: Global, text: &str) -> Result<Vec<Entry>, JournalRefusal> {
+    if text.len() > 4_000_000_000 {
+        return Err(JournalRefusal::NoMemory);
+    }
+    read_journal(alloc, text.as_bytes())
+}
+
+#[test]
+fn worked_journals_are_read_and_printed_again(rt: HostRuntime) -> Result<(), Fail> {
+    for (text, count) in [
+        (SLEEPING_WORKER, 7),
+        (SHARED_SERVER, 12),
+        (REFUSED_RECEIVE, 14),
+        ("", 0),
+    ] {
+        let entries = entries_of(rt.alloc(), text)?;
+        assert_eq!(rt; entries.len(), count);
+        let printed = print_journal(rt.alloc(), entries.as_slice())?;
+        assert_eq!(rt; printed.as_str(), text);
+    }
+    Ok(())
+}
+
+#[test]
+fn fields_are_told_apart(rt: HostRuntime) -> Result<(), Fail> {
+    let line = "15 9999999999999 10000000000000 1023 31 c receive:holding:7 5 3 4\n";
+    let entries = entries_of(rt.alloc(), line)?;
+    assert_eq!(rt; entries.len(), 1);
+    for entry in &entries {
+        assert_eq!(rt; entry.cpu.index(), 15);
+        assert_eq!(rt; entry.from, 9_999_999_999_999);
+        assert_eq!(rt; entry.to, 10_000_000_000_000);
+        assert_eq!(rt; entry.ran.map(|thread| thread.index()), Some(1023));
+        assert_eq!(rt; entry.billed.map(|partition| partition.index()), Some(31));
+        assert!(rt; entry.critical);
+        assert_eq!(rt; entry.done, Done::ReceiveHolding(ThreadId::at(7)));
+        assert_eq!(rt; entry.picked.map(|thread| thread.index()), Some(5));
+        assert_eq!(rt; entry.starved.map(|partition| partition.index()), Some(3));
+        assert_eq!(rt; entry.flagged.map(|cpu| cpu.index()), Some(4));
+    }
+    Ok(())
+}
+
+#[test]
+fn bad_lines_have_their_places(rt: HostRuntime) {
+    for (text, line, column) in [
+        ("0 0 x", 1, 5),
+        ("16 0 0 - - - - - - -\n", 1, 2),
+        ("0 00 0 - - - - - - -\n", 1, 4),
+        ("0 0 10000000000001 - - - - - - -\n", 1, 18),
+        ("0 0 0 1024 - - - - - -\n", 1, 10),
+        ("0 0 0 - 32 - - - - -\n", 1, 10),
+        ("0 0 0 - - C - - - -\n", 1, 11),
+        ("0 0 0 - - - receive:holding - - -\n", 1, 28),
+        ("0 0 0 - - - runs - - -\n", 1, 16),
+        ("0 0 0 - - - - - -\n", 1, 18),
+        ("0 0 0 - - - - - - - \n", 1, 20),
+        ("0 0 0 - - - - - - -", 1, 20),
+        ("0 0 0 - - - - - - -\n\n", 2, 1),
+        ("0 0 0 - - - - - - -\n0 0 0 - - - - - - -\n0", 3, 2),
+    ] {
+        match entries_of(rt.alloc(), text) {
+            Err(refusal) => {
+                assert_eq!(rt; refusal, JournalRefusal::BadLine { line, column }, "{text}");
+            }
+            Ok(_) => panic!(rt; "read as a journal: {text}"),
+        }
+    }
+}
+
+// The length of the scenario, and where the journal begins, of such a text.
+fn parts_of(text: &str) -> Option<(usize, usize)> {
+    journal_at(text.as_bytes()).map(|at| (at.scenario_len, at.journal_from))
+}
+
+#[test]
+fn the_journal_begins_behind_its_line(rt: HostRuntime) {
+    assert_eq!(rt; parts_of("version = 1\n--- journal\n0 0 x"), Some((12, 24)));
+    assert_eq!(rt; parts_of("--- journal\n"), Some((0, 12)));
+    assert_eq!(rt; parts_of("a\n--- journal\n--- journal\n"), Some((2, 14)));
+    assert_eq!(rt;
+        parts_of("a --- journal\n\n--- journal \n--- journal\r\n--- journal"),
+        None
+    );
+    assert_eq!(rt; parts_of(""), None);
+}
