@@ -1,10 +1,11 @@
 #!/bin/sh
-# Writes the theorem of each worked scenario in tools/rows/, and the list of them.
+# Writes the theorem of each worked scenario in crates/aps_worked/data/, and the list of them. `usual` is too large for one.
 cd "$(dirname "$0")/.." || exit 1
 out=crates/aps_rows/proofs/Rows
 mkdir -p $out
 : > $out.antt
-for file in tools/rows/*.toml; do
+for file in crates/aps_worked/data/*.toml; do
+  [ "$(basename "$file")" != usual.toml ] || continue
   name=$(basename "$file" .toml | sed -E 's/(^|_)([a-z0-9])/\U\2/g')
   case $name in TwoEqual|TreeCommands|BudgetChange|CriticalThread) more=--upgraded ;; *) more= ;; esac
   python3 tools/row.py "$file" $more > "$out/$name.antt" || exit 1

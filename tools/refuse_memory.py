@@ -57,8 +57,8 @@ def commands(root):
     def text(*path):
         with open(os.path.join(root, *path), "rb") as file:
             return file.read()
-    tree = text("tools", "rows", "tree_commands.toml")
-    two = text("tools", "rows", "two_processors.toml")
+    tree = text("crates", "aps_worked", "data", "tree_commands.toml")
+    two = text("crates", "aps_worked", "data", "two_processors.toml")
     demands = text("scenarios", "demands", "two-needs.toml")
     reports = [(["solo", "--report", report], tree) for report in ("summary", "windows", "journal")]
     return reports + [

@@ -1,7 +1,7 @@
 #!/usr/bin/env python3
 """Writes a worked scenario as a theorem: the definitions compute to the journal and the reports beside it.
 
-    tools/row.py tools/rows/NAME.toml > crates/aps_rows/proofs/Rows/Name.antt
+    tools/row.py crates/aps_worked/data/NAME.toml > crates/aps_rows/proofs/Rows/Name.antt
 
 Beside NAME.toml stand the texts that the definitions have to give: NAME.journal, and where they are there
 NAME.summary and NAME.windows. With --upgraded the scenario in parts per thousand must give the same entries too.

@@ -1,22 +1,10 @@
 //! The program: it reads a scenario from standard input, runs it, and writes what came of it to standard output.
 #![tactic(auto)]
 
-mod answer;
-mod outcome;
-mod printing;
-mod reading;
-mod refusal;
-mod report;
-mod run;
-mod status;
-#[cfg(test)]
-mod tests;
-mod threads;
-mod top;
-
 use aps_cpu::OpenGate;
 use aps_io::{StdSink, StdSource};
-use status::Status;
+use aps_top::status::Status;
+use aps_top::top::top;
 use std::alloc::AllocError;
 use std::env;
 use std::io::ErrorKind;
@@ -39,7 +27,7 @@ fn main(rt: HostRuntime) -> ExitCode {
     let mut source = StdSource::new(rt.stdin());
     // standard output takes each piece at once, so that no fault comes after the last answer
     let mut sink = StdSink::new(rt.stdout());
-    let ended = top::top(&rt, alloc, &words, &mut source, &mut sink, &OpenGate);
+    let ended = top(&rt, alloc, &words, &mut source, &mut sink, &OpenGate);
     if ended.status == Status::WordsRefused.code() {
         // a hint for whoever starts the program by hand; nothing depends on it
         let _ = eprintln!(rt; "usage: apsim solo < SCENARIO.toml (README.md has all commands)");

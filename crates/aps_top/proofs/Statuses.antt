@@ -1,0 +1,341 @@
+-- The status of an answer, by the outcome of the call.
+use Rattle.std.proofs.Common.{rules, ◌≡◌, ◌≢◌, ℕ, ◌≤◌, List, length, ◌⊎◌, inl, inr, Option, Some, None, IfSome, refl, sym, ap, subst, ◌∙◌, arith, Bool, true, false, ◌==◌, ◌||◌, true≢false}
+use Rattle.std.specs.Io.KnownBytes.{IsAtEnd}
+use Rattle.aps_admit.specs.declared.admission.Admission.{Admission}
+use Rattle.aps_admit.specs.declared.admission.Admission.TheVariants.{Budgets, Needs}
+use Rattle.aps_admit.specs.Text.{admission_text}
+use Rattle.aps_check.specs.declared.verdict.Verdict.{Verdict}
+use Rattle.aps_check.specs.declared.verdict.Verdict.TheVariants.{Legal, Breaks}
+use Rattle.aps_check.specs.Text.{verdict_text}
+use Rattle.aps_io.specs.Causes.{Rose}
+use Rattle.aps_model.specs.declared.entry.End.{End}
+use Rattle.aps_model.specs.declared.entry.End.TheVariants.{Horizon, Limit, Reboot}
+use Rattle.aps_model.specs.History.{History}
+use Rattle.aps_words.specs.declared.command.Command.{Command}
+use Rattle.aps_words.specs.declared.command.Command.TheVariants as command
+use Rattle.aps_words.specs.declared.command.Report.{Report}
+use Rattle.aps_top.specs.declared.status.Status.{Status}
+use Rattle.aps_top.specs.declared.status.Status.TheVariants.{Done, WordsRefused, InputRefused, Rebooted, ReadFault, WriteFault, Limited, NoMemory, TooLong, JournalBreaks, NeedsExceed}
+use Rattle.aps_top.specs.declared.outcome.Outcome.{Outcome}
+use Rattle.aps_top.specs.declared.outcome.Outcome.TheVariants as outcome
+use Rattle.aps_top.specs.declared.top.Ended.{Ended}
+use Rattle.aps_top.specs.Asked.{RunAsked, IsToRead, run_asked}
+use Rattle.aps_top.specs.Outcome.{report_text, status_of, text_of, history_of}
+use Rattle.aps_top.specs.Status.{code, or_write_fault, status_of_end, status_of_verdict, status_of_admission}
+use Rattle.aps_top.specs.Due.{IsDueStatus}
+use Rattle.aps_top.specs.Cause.{Input, input_of, HasCause, RanAsRead, CheckedAsRead, AdmittedAsRead, IsOutcome}
+use Rattle.aps_top.specs.Printing.{Output, Prints, WritesWhole}
+use Rattle.aps_top.specs.Reading.{Intake, most_bytes, most_of, refusal_of}
+use Rattle.aps_top.specs.Refusal.{refused_text, scenario_refusal}
+use Rattle.aps_top.specs.Answers.{Tells, Answers, Comes, IsDue, Faulted, OrNoMemory, ReachesHorizon, ReportsWhole, WritesAsked, IsAnswer}
+use Rattle.aps_top.proofs.Due as due
+
+-- ---- what was told of a status that was wanted
+
+-- the status was told that was wanted, with the whole text; or that of a fault of the sink; or want of memory
+abbrev IsTold : Output → List ℕ → Status → ℕ → Type 0
+IsTold output text wanted told =
+    ((told ≡ code wanted) × WritesWhole output text)
+    ⊎ ((told ≡ code (or_write_fault wanted)) × Rose output.faults_before output.faults)
+    ⊎ (told ≡ code NoMemory)
+
+told_of : (output : Output) (text : List ℕ) (wanted status : Status) (told : ℕ)
+    → told ≡ code status → Prints output text wanted status → IsTold output text wanted told
+told_of output text wanted status told is (inl p) = inl (is ∙ ap code p.0, p.1)
+told_of output text wanted status told is (inr (inl p)) = inr (inl (is ∙ ap code p.0, p.1))
+told_of output text wanted status told is (inr (inr p)) = inr (inr (is ∙ ap code p.0))
+
+zero_is_done : (status : Status) → code status ≡ 0 → status ≡ Done
+zero_is_done Done h = refl
+zero_is_done WordsRefused h = absurd (omega arith)
+zero_is_done InputRefused h = absurd (omega arith)
+zero_is_done Rebooted h = absurd (omega arith)
+zero_is_done ReadFault h = absurd (omega arith)
+zero_is_done WriteFault h = absurd (omega arith)
+zero_is_done Limited h = absurd (omega arith)
+zero_is_done NoMemory h = absurd (omega arith)
+zero_is_done TooLong h = absurd (omega arith)
+zero_is_done JournalBreaks h = absurd (omega arith)
+zero_is_done NeedsExceed h = absurd (omega arith)
+
+never_done : (status : Status) → or_write_fault status ≢ Done
+never_done Done h = absurd cc
+never_done WordsRefused h = absurd cc
+never_done InputRefused h = absurd cc
+never_done Rebooted h = absurd cc
+never_done ReadFault h = absurd cc
+never_done WriteFault h = absurd cc
+never_done Limited h = absurd cc
+never_done NoMemory h = absurd cc
+never_done TooLong h = absurd cc
+never_done JournalBreaks h = absurd cc
+never_done NeedsExceed h = absurd cc
+
+-- under status 0 that was wanted, and the whole text was written
+whole_told : (output : Output) (text : List ℕ) (wanted : Status) (told : ℕ) → IsTold output text wanted told → told ≡ 0
+    → (wanted ≡ Done) × WritesWhole output text
+whole_told output text wanted told (inl p) zero = (zero_is_done wanted (sym p.0 ∙ zero), p.1)
+whole_told output text wanted told (inr (inl p)) zero = absurd (never_done wanted (zero_is_done (or_write_fault wanted) (sym p.0 ∙ zero)))
+whole_told output text wanted told (inr (inr p)) zero = absurd (omega (arith, p, zero))
+
+-- where writing didn't fail, a status 0 that was wanted came, or want of memory
+done_told : (output : Output) (text : List ℕ) (told : ℕ) → IsTold output text Done told → told ≢ code WriteFault
+    → (told ≡ code Done) ⊎ (told ≡ code NoMemory)
+done_told output text told (inl p) unfailing = inl p.0
+done_told output text told (inr (inl p)) unfailing = absurd (unfailing p.0)
+done_told output text told (inr (inr p)) unfailing = inr p
+
+-- ---- how the status comes about
+
+module _ (input : Input) (output : Output) (ended : Ended) where
+  only : (status : Status) → IsDueStatus input.asked input.reading.bytes ended.history status
+      → (other : Status) → IsDueStatus input.asked input.reading.bytes ended.history other → other ≡ status
+  only status is other h = due.one_status input.asked input.reading.bytes ended.history other status h is
+
+  came : (text : List ℕ) (status : Status) → IsDueStatus input.asked input.reading.bytes ended.history status
+      → (IsToRead input.asked → status ≢ TooLong → IsAtEnd input.reading.left)
+      → IsTold output text status ended.status → Comes input output ended
+  came text status is to_end (inl p) =
+      inl (record { status = status; due = is; only = only status is; to_end = to_end; told = inl p.0 })
+  came text status is to_end (inr (inl p)) =
+      inl (record { status = status; due = is; only = only status is; to_end = to_end; told = inr p })
+  came text status is to_end (inr (inr p)) = inr (inr p)
+
+  faulted : (text : List ℕ) → HasCause input outcome.ReadFault → ended.history ≡ None
+      → IsTold output text ReadFault ended.status → Comes input output ended
+  faulted text cause none (inl p) =
+      inr (inl (record { told = p.0; rose = cause.1; to_read = cause.0; short = cause.2; no_history = none }))
+  faulted text cause none (inr (inl p)) =
+      inr (inl (record { told = p.0; rose = cause.1; to_read = cause.0; short = cause.2; no_history = none }))
+  faulted text cause none (inr (inr p)) = inr (inr p)
+
+  wanting : (text : List ℕ) → IsTold output text NoMemory ended.status → Comes input output ended
+  wanting text (inl p) = inr (inr p.0)
+  wanting text (inr (inl p)) = inr (inr p.0)
+  wanting text (inr (inr p)) = inr (inr p)
+
+  -- what is due, under another name of the history
+  due_as : (h : Option History) (status : Status) → ended.history ≡ h → IsDueStatus input.asked input.reading.bytes h status
+      → IsDueStatus input.asked input.reading.bytes ended.history status
+  due_as h status same is = subst (λ h. IsDueStatus input.asked input.reading.bytes h status) (sym same) is
+
+  comes : (o : Outcome) → HasCause input o → ended.history ≡ history_of o → IsTold output (text_of o) (status_of o) ended.status
+      → Comes input output ended
+  comes outcome.WordsRefused cause same told =
+      came _ WordsRefused (subst (λ asked. IsDueStatus asked input.reading.bytes ended.history WordsRefused) (sym cause.0) refl)
+      (λ to_read _. absurd (subst IsToRead cause.0 to_read)) told
+  comes outcome.ReadFault cause same told = faulted _ cause same told
+  comes outcome.TooLong cause same told =
+      came _ TooLong (due.too_long input.asked input.reading.bytes ended.history cause.0 cause.1) (λ _ other. absurd (other refl)) told
+  comes (outcome.InputRefused refusal) cause same told =
+      came _ InputRefused (due.refused input.asked input.reading.bytes ended.history refusal cause.0.short cause.1) (λ _ _. cause.0.end) told
+  comes (outcome.Ran report end h) cause same told =
+      came _ (status_of_end end) (due_as (Some h) _ same (due.ran input report end h cause)) (λ _ _. cause.whole.end) told
+  comes (outcome.Generated text) cause same told =
+      came _ Done (due_as None _ same (due.generated input _ cause)) (λ to_read _. absurd (subst IsToRead cause.asked to_read)) told
+  comes (outcome.Upgraded text) cause same told =
+      came _ Done (due_as None _ same (due.upgraded input _ cause)) (λ _ _. cause.whole.end) told
+  comes (outcome.Checked verdict) cause same told =
+      came _ (status_of_verdict verdict) (due_as None _ same (due.checked input verdict cause)) (λ _ _. cause.whole.end) told
+  comes (outcome.Admitted answer) cause same told =
+      came _ (status_of_admission answer) (due_as None _ same (due.admitted input answer cause)) (λ _ _. cause.whole.end) told
+  comes outcome.NoMemory cause same told = wanting _ told
+
+-- ---- the text under status 0
+
+some_same : (a b : RunAsked) → Some a ≡ Some b → a ≡ b
+some_same a b e = cc
+
+reported : (asked : Option Command) (run : RunAsked) (bytes : List ℕ) (h : History) (output : Output) → run_asked asked ≡ Some run
+    → ReportsWhole run.report (Some h) output → WritesAsked asked bytes (Some h) output
+reported None run bytes h output is whole = absurd cc
+reported (Some (command.Solo report limit)) run bytes h output is whole =
+    subst (λ (r : RunAsked). ReportsWhole r.report (Some h) output) (sym (some_same _ _ is)) whole
+reported (Some (command.Run order report limit)) run bytes h output is whole =
+    subst (λ (r : RunAsked). ReportsWhole r.report (Some h) output) (sym (some_same _ _ is)) whole
+reported (Some (command.Gen seed cpus partitions ticks)) run bytes h output is whole = absurd cc
+reported (Some command.Upgrade) run bytes h output is whole = absurd cc
+reported (Some (command.Check order limit)) run bytes h output is whole = absurd cc
+reported (Some command.Admit) run bytes h output is whole = absurd cc
+
+ran_done : (input : Input) (output : Output) (report : Report) (end : End) (h : History) → RanAsRead input report end h
+    → status_of_end end ≡ Done → WritesWhole output (report_text report h)
+    → WritesAsked input.asked input.reading.bytes (Some h) output
+ran_done input output report Horizon h cause is whole =
+    reported input.asked _ input.reading.bytes h output cause.asked (cause.run.ended, whole)
+ran_done input output report Limit h cause is whole = absurd cc
+ran_done input output report (Reboot p) h cause is whole = absurd cc
+
+checked_done : (input : Input) (output : Output) (verdict : Verdict) → CheckedAsRead input verdict → status_of_verdict verdict ≡ Done
+    → WritesWhole output (verdict_text verdict) → WritesAsked input.asked input.reading.bytes None output
+checked_done input output (Legal end) cause is whole =
+    subst (λ asked. WritesAsked asked input.reading.bytes None output) (sym cause.asked)
+    (cause.scenario, cause.entries, end, cause.read, cause.judged, whole)
+checked_done input output (Breaks place rule expected) cause is whole = absurd cc
+
+admitted_done : (input : Input) (output : Output) (answer : Admission) → AdmittedAsRead input answer → status_of_admission answer ≡ Done
+    → WritesWhole output (admission_text answer) → WritesAsked input.asked input.reading.bytes None output
+admitted_done input output (Budgets grants) cause is whole =
+    subst (λ asked. WritesAsked asked input.reading.bytes None output) (sym cause.asked)
+    (cause.demands, grants, cause.read, sym cause.answered, whole)
+admitted_done input output (Needs sum) cause is whole = absurd cc
+
+done : (input : Input) (output : Output) (o : Outcome) → HasCause input o → status_of o ≡ Done → WritesWhole output (text_of o)
+    → WritesAsked input.asked input.reading.bytes (history_of o) output
+done input output outcome.WordsRefused cause is whole = absurd cc
+done input output outcome.ReadFault cause is whole = absurd cc
+done input output outcome.TooLong cause is whole = absurd cc
+done input output (outcome.InputRefused refusal) cause is whole = absurd cc
+done input output (outcome.Ran report end h) cause is whole = ran_done input output report end h cause is whole
+done input output (outcome.Generated text) cause is whole =
+    subst (λ asked. WritesAsked asked input.reading.bytes None output) (sym cause.asked) (_, cause.scenario, whole)
+done input output (outcome.Upgraded text) cause is whole =
+    subst (λ asked. WritesAsked asked input.reading.bytes None output) (sym cause.asked) (cause.scenario, _, cause.read, cause.upgraded, whole)
+done input output (outcome.Checked verdict) cause is whole = checked_done input output verdict cause is whole
+done input output (outcome.Admitted answer) cause is whole = admitted_done input output answer cause is whole
+done input output outcome.NoMemory cause is whole = absurd cc
+
+-- ---- the history
+
+run_told : (input : Input) (o : Outcome) → HasCause input o → IfSome (history_of o) (λ h. (report : Report) × (end : End) × RanAsRead input report end h)
+run_told input outcome.WordsRefused cause = tt
+run_told input outcome.ReadFault cause = tt
+run_told input outcome.TooLong cause = tt
+run_told input (outcome.InputRefused refusal) cause = tt
+run_told input (outcome.Ran report end h) cause = (report, end, cause)
+run_told input (outcome.Generated text) cause = tt
+run_told input (outcome.Upgraded text) cause = tt
+run_told input (outcome.Checked verdict) cause = tt
+run_told input (outcome.Admitted answer) cause = tt
+run_told input outcome.NoMemory cause = tt
+
+no_run : (input : Input) (o : Outcome) → HasCause input o → run_asked input.asked ≡ None → history_of o ≡ None
+no_run input outcome.WordsRefused cause none = refl
+no_run input outcome.ReadFault cause none = refl
+no_run input outcome.TooLong cause none = refl
+no_run input (outcome.InputRefused refusal) cause none = refl
+no_run input (outcome.Ran report end h) cause none = let clash = sym cause.asked ∙ none in absurd cc
+no_run input (outcome.Generated text) cause none = refl
+no_run input (outcome.Upgraded text) cause none = refl
+no_run input (outcome.Checked verdict) cause none = refl
+no_run input (outcome.Admitted answer) cause none = refl
+no_run input outcome.NoMemory cause none = refl
+
+abbrev IsRefusalTold : ℕ → Type 0
+IsRefusalTold told = (told ≡ 1) ⊎ (told ≡ 2) ⊎ (told ≡ 4) ⊎ (told ≡ 8)
+
+abbrev is_refusal : ℕ → Bool
+is_refusal told = told == 1 || told == 2 || told == 4 || told == 8
+
+refusal_is : (told : ℕ) → IsRefusalTold told → is_refusal told ≡ true
+refusal_is told (inl p) = rw p refl
+refusal_is told (inr (inl p)) = rw p refl
+refusal_is told (inr (inr (inl p))) = rw p refl
+refusal_is told (inr (inr (inr p))) = rw p refl
+
+ran_is : (output : Output) (text : List ℕ) (end : End) (told : ℕ) → IsTold output text (status_of_end end) told → is_refusal told ≡ false
+ran_is output text Horizon told (inl p) = rw p.0 refl
+ran_is output text Horizon told (inr (inl p)) = rw p.0 refl
+ran_is output text Horizon told (inr (inr p)) = rw p refl
+ran_is output text Limit told (inl p) = rw p.0 refl
+ran_is output text Limit told (inr (inl p)) = rw p.0 refl
+ran_is output text Limit told (inr (inr p)) = rw p refl
+ran_is output text (Reboot q) told (inl p) = rw p.0 refl
+ran_is output text (Reboot q) told (inr (inl p)) = rw p.0 refl
+ran_is output text (Reboot q) told (inr (inr p)) = rw p refl
+
+ran_told : (output : Output) (text : List ℕ) (end : End) (told : ℕ) → IsTold output text (status_of_end end) told → IsRefusalTold told → ⊥
+ran_told output text end told is h = true≢false (sym (refusal_is told h) ∙ ran_is output text end told is)
+
+no_history : (output : Output) (o : Outcome) (told : ℕ) → IsTold output (text_of o) (status_of o) told → IsRefusalTold told → history_of o ≡ None
+no_history output outcome.WordsRefused told is h = refl
+no_history output outcome.ReadFault told is h = refl
+no_history output outcome.TooLong told is h = refl
+no_history output (outcome.InputRefused refusal) told is h = refl
+no_history output (outcome.Ran report end history) told is h = absurd (ran_told output _ end told is h)
+no_history output (outcome.Generated text) told is h = refl
+no_history output (outcome.Upgraded text) told is h = refl
+no_history output (outcome.Checked verdict) told is h = refl
+no_history output (outcome.Admitted answer) told is h = refl
+no_history output outcome.NoMemory told is h = refl
+
+-- ---- a run in fixed order that reaches the horizon
+
+-- a run takes a scenario
+run_takes : (asked : Option Command) (run : RunAsked) (bytes : List ℕ) → run_asked asked ≡ Some run
+    → (most_of asked ≡ most_bytes) × (refusal_of asked bytes ≡ scenario_refusal bytes)
+run_takes None run bytes is = absurd cc
+run_takes (Some (command.Solo report limit)) run bytes is = (refl, refl)
+run_takes (Some (command.Run order report limit)) run bytes is = (refl, refl)
+run_takes (Some (command.Gen seed cpus partitions ticks)) run bytes is = absurd cc
+run_takes (Some command.Upgrade) run bytes is = absurd cc
+run_takes (Some (command.Check order limit)) run bytes is = absurd cc
+run_takes (Some command.Admit) run bytes is = absurd cc
+
+unread_told : (output : Output) (text : List ℕ) (told : ℕ) → IsTold output text ReadFault told → told ≢ code ReadFault
+    → (told ≡ code Done) ⊎ (told ≡ code NoMemory)
+unread_told output text told (inl p) unread = absurd (unread p.0)
+unread_told output text told (inr (inl p)) unread = absurd (unread p.0)
+unread_told output text told (inr (inr p)) unread = inr p
+
+memory_told : (output : Output) (text : List ℕ) (told : ℕ) → IsTold output text NoMemory told → (told ≡ code Done) ⊎ (told ≡ code NoMemory)
+memory_told output text told (inl p) = inr p.0
+memory_told output text told (inr (inl p)) = inr p.0
+memory_told output text told (inr (inr p)) = inr p
+
+-- the history of such a run reaches the horizon
+ran_to : (input : Input) (report : Report) (end : End) (h : History) → RanAsRead input report end h → ReachesHorizon input → end ≡ Horizon
+ran_to input report end h cause reaches = search rules
+
+complete : (input : Input) (output : Output) (o : Outcome) (ended : Ended) → HasCause input o
+    → IsTold output (text_of o) (status_of o) ended.status → ReachesHorizon input
+    → ended.status ≢ code ReadFault → ended.status ≢ code WriteFault → OrNoMemory ended Done
+complete input output outcome.WordsRefused ended cause told reaches unread unwritten =
+    let clash = sym reaches.asked ∙ ap run_asked cause.0 in absurd cc
+complete input output outcome.ReadFault ended cause told reaches unread unwritten = unread_told output _ ended.status told unread
+complete input output outcome.TooLong ended cause told reaches unread unwritten =
+    let takes = run_takes input.asked _ input.reading.bytes reaches.asked in
+    absurd (omega (arith, cause.1, takes.0, reaches.short))
+complete input output (outcome.InputRefused refusal) ended cause told reaches unread unwritten =
+    let takes = run_takes input.asked _ input.reading.bytes reaches.asked in
+    let clash = sym (ap refused_text reaches.read) ∙ sym takes.1 ∙ cause.1 in
+    absurd cc
+complete input output (outcome.Ran report end h) ended cause told reaches unread unwritten =
+    done_told output _ ended.status
+    (subst (λ e. IsTold output (report_text report h) (status_of_end e) ended.status) (ran_to input report end h cause reaches) told) unwritten
+complete input output (outcome.Generated text) ended cause told reaches unread unwritten = done_told output _ ended.status told unwritten
+complete input output (outcome.Upgraded text) ended cause told reaches unread unwritten = done_told output _ ended.status told unwritten
+complete input output (outcome.Checked verdict) ended cause told reaches unread unwritten =
+    let clash = sym reaches.asked ∙ ap run_asked cause.asked in absurd cc
+complete input output (outcome.Admitted answer) ended cause told reaches unread unwritten =
+    let clash = sym reaches.asked ∙ ap run_asked cause.asked in absurd cc
+complete input output outcome.NoMemory ended cause told reaches unread unwritten = memory_told output _ ended.status told
+
+-- ---- all of it
+
+pub answers : (input : Input) (output : Output) (o : Outcome) (ended : Ended) → HasCause input o → Tells o output ended
+    → Answers input output ended
+answers input output o ended cause tells =
+    let told = told_of output (text_of o) (status_of o) tells.status ended.status tells.told tells.printed in
+    let same = tells.history in
+    record {
+      comes = comes input output ended o cause same told;
+      done = λ zero.
+          let p = whole_told output _ (status_of o) ended.status told zero in
+          subst (λ h. WritesAsked input.asked input.reading.bytes h output) (sym same) (done input output o cause p.0 p.1);
+      history = subst (λ h. IfSome h (λ h. (report : Report) × (end : End) × RanAsRead input report end h)) (sym same) (run_told input o cause);
+      no_run = λ none. same ∙ no_run input o cause none;
+      no_history = λ h. same ∙ no_history output o ended.status told h;
+      complete = λ reaches unread unwritten. complete input output o ended cause told reaches unread unwritten;
+    }
+
+pub answered : (asked : Option Command) (intake : Intake) (output : Output) (o : Outcome) (ended : Ended)
+    → IsOutcome asked intake o → Tells o output ended → IsAnswer asked intake output ended
+answered asked intake output o ended (bytes, read, cause) told = record {
+  bytes = bytes;
+  read = read;
+  outcome = o;
+  cause = cause;
+  told = told;
+  answers = answers (input_of asked intake bytes) output o ended cause told;
+}

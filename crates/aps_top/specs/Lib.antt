@@ -1,0 +1,11 @@
+pub mod Asked
+pub mod Status
+pub mod Run
+pub mod Refusal
+pub mod CheckInput
+pub mod Reading
+pub mod Outcome
+pub mod Due
+pub mod Cause
+pub mod Printing
+pub mod Answers

@@ -1,0 +1,14 @@
+//! The whole program as two calls: what the words ask for is read, done and told, and the answers are those of the
+//! definitions.
+#![tactic(auto)]
+
+mod answer;
+mod outcome;
+mod printing;
+mod reading;
+mod refusal;
+mod report;
+mod run;
+pub mod status;
+mod threads;
+pub mod top;

@@ -1,0 +1,96 @@
+//! How the program ended, as a number.
+ghost use Rattle.std.specs.Prelude.{◌≡◌};
+ghost use Rattle.aps_top.specs.Status.{code, or_write_fault, status_of_end, status_of_verdict, status_of_admission};
+
+use aps_admit::Admission;
+use aps_check::Verdict;
+use aps_model::End;
+
+/// How the program ended.
+#[derive(Clone, Copy, Debug, PartialEq, Eq)]
+pub enum Status {
+    /// The whole text was written.
+    Done,
+    /// The words are no command.
+    WordsRefused,
+    /// The input is none that the command takes.
+    InputRefused,
+    /// The run ended by a reboot.
+    Rebooted,
+    /// Reading failed.
+    ReadFault,
+    /// Writing failed, and nothing else did.
+    WriteFault,
+    /// The run ended by its limit of entries.
+    Limited,
+    /// There was no memory.
+    NoMemory,
+    /// The input has more bytes than the command takes.
+    TooLong,
+    /// The journal that was checked breaks a rule.
+    JournalBreaks,
+    /// The demands need more parts than there are.
+    NeedsExceed,
+}
+
+impl Status {
+    /// The exit status, 0 to 10.
+    pub fn code(self) -> u8
+        ensures { result ≡ code self }
+    {
+        match self {
+            Status::Done => 0,
+            Status::WordsRefused => 1,
+            Status::InputRefused => 2,
+            Status::Rebooted => 3,
+            Status::ReadFault => 4,
+            Status::WriteFault => 5,
+            Status::Limited => 6,
+            Status::NoMemory => 7,
+            Status::TooLong => 8,
+            Status::JournalBreaks => 9,
+            Status::NeedsExceed => 10,
+        }
+    }
+
+    /// The status of a run that ended so.
+    pub fn of_end(end: &End) -> Status
+        ensures { result ≡ status_of_end end.now }
+    {
+        match end {
+            End::Horizon => Status::Done,
+            End::Limit => Status::Limited,
+            End::Reboot(_) => Status::Rebooted,
+        }
+    }
+
+    /// The status of a verdict on a journal.
+    pub fn of_verdict(verdict: &Verdict) -> Status
+        ensures { result ≡ status_of_verdict verdict.now }
+    {
+        match verdict {
+            Verdict::Legal { .. } => Status::Done,
+            Verdict::Breaks { .. } => Status::JournalBreaks,
+        }
+    }
+
+    /// The status of an answer to demands.
+    pub fn of_admission(admission: &Admission) -> Status
+        ensures { result ≡ status_of_admission admission.now }
+    {
+        match admission {
+            Admission::Budgets(_) => Status::Done,
+            Admission::Needs { .. } => Status::NeedsExceed,
+        }
+    }
+
+    /// The same status after a fault of the sink, which takes the place of `Done` alone.
+    pub fn or_write_fault(self) -> Status
+        ensures { result ≡ or_write_fault self }
+    {
+        match self {
+            Status::Done => Status::WriteFault,
+            other => other,
+        }
+    }
+}
