@@ -9,6 +9,8 @@ pub mod PrintedThreads
 pub mod PrintedCommands
 pub mod PrintedJoinable
 pub mod PrintedScenario
+pub mod DocumentText
+pub mod ScenarioText
 pub mod PrintedTable
 pub mod PrintedListing
 pub mod Paths

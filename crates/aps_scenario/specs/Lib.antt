@@ -26,4 +26,6 @@ pub mod PrintedOperation
 pub mod PrintedThreads
 pub mod PrintedCommands
 pub mod PrintedScenario
+pub mod DocumentText
+pub mod ScenarioText
 pub mod Upgrading

@@ -8,6 +8,7 @@ mod demands;
 mod joinable;
 mod key;
 mod kind;
+pub mod laws;
 mod operation;
 mod partitions;
 mod path;

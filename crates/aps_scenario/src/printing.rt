@@ -5,6 +5,7 @@ ghost use Rattle.aps_model.specs.Shape.{IsShape};
 ghost use Rattle.aps_model.specs.Valid.{IsScenario};
 ghost use Rattle.aps_scenario.specs.PrintedScenario.{shape_members, scenario_members};
 ghost use Rattle.aps_scenario.specs.Reading.{reads};
+ghost use Rattle.aps_scenario.specs.ScenarioText.{scenario_text};
 
 mod commands;
 mod operations;
@@ -59,10 +60,11 @@ fn scenario_table(alloc: Global, scenario: &Scenario) -> Result<Table, NoMemory>
     Ok(table)
 }
 
-/// A text that reads as the scenario: every key is written, a budget as it is before the partition's children take
-/// theirs. `NoMemory` comes where memory runs out.
+/// The one text of the scenario, which reads as the scenario: every key is written, in a fixed order and form, a budget
+/// as it is before the partition's children take theirs. `NoMemory` comes where memory runs out.
 pub fn print(alloc: Global, scenario: &Scenario) -> Result<String, NoMemory>
-    ensures { IfOk result (λ text. reads (string_bytes text) ≡ Ok scenario.now) }
+    ensures reads_back { IfOk result (λ text. reads (string_bytes text) ≡ Ok scenario.now) }
+    ensures text { IfOk result (λ text. string_bytes text ≡ scenario_text scenario.now) }
 {
     let table = scenario_table(alloc, scenario)?;
     match toml::table_to_string_pretty(alloc, &table) {
