@@ -9,8 +9,11 @@ pub mod PrintedThreads
 pub mod PrintedCommands
 pub mod PrintedJoinable
 pub mod PrintedScenario
+pub mod PlainData
 pub mod DocumentText
+pub mod AsciiText
 pub mod ScenarioText
+pub mod UpgradedText
 pub mod PrintedTable
 pub mod PrintedListing
 pub mod Paths

@@ -2,18 +2,19 @@
 ghost use Rattle.std.specs.Prelude.{◌≡◌, ℕ, List, Ok};
 ghost use Rattle.aps_model.specs.Scenario.{Scenario};
 ghost use Rattle.aps_model.specs.Upgrade.{upgraded};
+ghost use Rattle.aps_model.specs.Valid.{IsScenario};
 ghost use Rattle.aps_scenario.specs.Reading.{reads};
-ghost use Rattle.aps_scenario.specs.ScenarioText.{IsPrinted, scenario_text};
+ghost use Rattle.aps_scenario.specs.ScenarioText.{scenario_text, upgraded_text};
 
-/// A scenario is printed as one text at most, and a text is printed of one scenario at most.
-pub fn printed_one_to_one()
-    ensures text { (s : Scenario) (text other : List ℕ) → IsPrinted s text → IsPrinted s other → text ≡ other }
-    ensures scenario { (s other : Scenario) (text : List ℕ) → IsPrinted s text → IsPrinted other text → s ≡ other }
+/// A scenario's text reads as the scenario, so that no two scenarios have the same text.
+pub fn text_reads_back()
+    ensures back { (s : Scenario) → IsScenario s → reads (scenario_text s) ≡ Ok s }
+    ensures apart { (s other : Scenario) → IsScenario s → IsScenario other → scenario_text s ≡ scenario_text other → s ≡ other }
 {}
 
-/// Upgrading twice gives the text that upgrading once gives. And what is printed of an upgraded scenario is printed
-/// again, byte for byte, of what it reads as, upgraded once more.
+/// Upgrading twice gives the text that upgrading once gives: of each scenario, and of each text that is upgraded to
+/// another, which is then upgraded to itself.
 pub fn upgraded_text_stays()
-    ensures once { (s : Scenario) → scenario_text (upgraded (upgraded s)) ≡ scenario_text (upgraded s) }
-    ensures again { (s read : Scenario) (text : List ℕ) → IsPrinted (upgraded s) text → reads text ≡ Ok read → IsPrinted (upgraded read) text }
+    ensures scenario { (s : Scenario) → scenario_text (upgraded (upgraded s)) ≡ scenario_text (upgraded s) }
+    ensures text { (bytes text : List ℕ) → upgraded_text bytes ≡ Ok text → upgraded_text text ≡ Ok text }
 {}

@@ -56,6 +56,73 @@ command = [
 ]
 "#;
 
+const SMALL: &str = r#"version = 2
+cpus = 2
+ticks = 9
+free = "ratio"
+bankruptcy = "reboot"
+partition = [
+  {name = "A", budget = 400, max = 500},
+  {name = "B", parent = "A", budget = 150, critical = 7, max = 900},
+]
+thread = [
+  {name = "s", priority = 3, program = ["run 10", "exit"]},
+  {name = "b", partition = "B", priority = 9, policy = "rr", critical = true, program = ["exit"]},
+]
+command = [{tick = 8, do = "modify", partition = "B", budget = 20}]
+"#;
+
+const TEXT_OF_SMALL: &str = r#"bankruptcy = "reboot"
+call_ns = 1000
+channel = []
+cpus = 2
+free = "ratio"
+limit = false
+tick = 1000000
+ticks = 9
+version = 2
+window = 100
+
+[[command]]
+budget = 20
+do = "modify"
+partition = "B"
+tick = 8
+
+[[partition]]
+budget = 400
+critical = 0
+max = 500
+name = "A"
+parent = "System"
+
+[[partition]]
+budget = 150
+critical = 7
+max = 900
+name = "B"
+parent = "A"
+
+[[thread]]
+critical = false
+name = "s"
+partition = "System"
+policy = "fifo"
+priority = 3
+program = [
+    "run 10",
+    "exit",
+]
+
+[[thread]]
+critical = true
+name = "b"
+partition = "B"
+policy = "rr"
+priority = 9
+program = ["exit"]
+"#;
+
 fn is_same_thread(a: &ThreadRow, b: &ThreadRow) -> bool {
     a.name == b.name
         && a.partition == b.partition
@@ -105,5 +172,14 @@ fn budgets_are_printed_as_a_text_gives_them(rt: HostRuntime) -> Result<(), Fail>
     assert!(rt; printed.contains("budget = 400\n"));
     assert!(rt; printed.contains("budget = 150\n"));
     assert!(rt; printed.contains("budget = 25\n"));
+    Ok(())
+}
+
+/// The text is written out by hand, from the form that a scenario's text has.
+#[test]
+fn a_scenario_is_printed_as_its_text(rt: HostRuntime) -> Result<(), Fail> {
+    let scenario = scenario_of(rt.alloc(), SMALL.as_bytes())?;
+    let printed = print(rt.alloc(), &scenario)?;
+    assert_eq!(rt; printed.as_str(), TEXT_OF_SMALL);
     Ok(())
 }

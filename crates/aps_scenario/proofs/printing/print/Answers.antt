@@ -21,4 +21,4 @@ returns-in-Ok-clause-text c =
     let s = c.args.scenario.now in
     let written : IsDocumentText true (scenario_members s) (string_bytes c.in-Ok.text) =
     subst (λ (t : Members). IsDocumentText true t (string_bytes c.in-Ok.text)) c.in_ok-table.ensures.table c.in-Ok.ensures.text in
-    scenario-text s (string_bytes c.in-Ok.text) written
+    scenario-text s (string_bytes c.in-Ok.text) c.in_ok-table.ensures.valid written
