@@ -1,0 +1,5 @@
+pub mod Billed
+pub mod CallsLonger
+pub mod CallsSmall
+pub mod Pieces
+pub mod KnownLines

@@ -1,0 +1,5 @@
+pub mod News
+pub mod Calls
+pub mod Answered
+pub mod Bills
+pub mod Text
