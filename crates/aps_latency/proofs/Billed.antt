@@ -7,7 +7,7 @@ use Rattle.aps_model.specs.declared.entry.Entry.{Entry}
 use Rattle.aps_model.specs.declared.usage.Usage.{Usage}
 use Rattle.aps_model.specs.Report.{length_of}
 use Rattle.aps_model.specs.Sums.{IsAtMost}
-use Rattle.aps_latency.specs.Bills.{AreBilled, AreBills, billed_in, no_bills}
+use Rattle.aps_latency.specs.Bills.{AreBilled, AreBills, billed_in, critical_in, no_bills}
 
 -- what is at most so much is at most more
 pub at_most_more : (n m : ℕ) (usage : Usage) → n ≤ m → IsAtMost n usage → IsAtMost m usage
@@ -28,6 +28,9 @@ bills_none bills is = record {
   each = λ x p less below.
       ap (λ (l : List Usage). slice_index (get_or l x no_bills).used p) is
       ∙ ap (λ (u : Usage). slice_index u.used p) (none_at x less) ∙ none_used p below;
+  critical = λ x p less below.
+      ap (λ (l : List Usage). slice_index (get_or l x no_bills).critical p) is
+      ∙ ap (λ (u : Usage). slice_index u.critical p) (none_at x less) ∙ none_used p below;
 }
 
 pub small_none : (bills : List Usage) → bills ≡ replicate 1024 no_bills → (x : ℕ) → x < 1024 → IsAtMost 0 (get_or bills x no_bills)
@@ -43,6 +46,8 @@ bills_more h e before after are billed = record {
   count = billed.count ∙ are.count;
   each = λ x p less below.
       billed.each x p less below ∙ ap (λ n. n + billed_in x p e) (are.each x p less below) ∙ sym (sum_by_push (billed_in x p) h e);
+  critical = λ x p less below.
+      billed.critical x p less below ∙ ap (λ n. n + critical_in x p e) (are.critical x p less below) ∙ sym (sum_by_push (critical_in x p) h e);
 }
 
 pub small_more : (i : ℕ) (e : Entry) (before after : List Usage) → length_of e ≤ 10000000 → AreBilled before e after

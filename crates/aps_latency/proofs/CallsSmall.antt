@@ -25,18 +25,18 @@ use Rattle.aps_latency.specs.Calls.{AreCalls, Calls, HaveRoom, HasRoom, calls_fr
 
 -- ---- no entry tells of more time than its own
 
-sent_none : (op : Op) (k : ℕ) → time_of (sent_by op) ≤ k
+pub sent_none : (op : Op) (k : ℕ) → time_of (sent_by op) ≤ k
 sent_none (Send c) k = omega arith
 sent_none op k = omega arith
 
 taken_none : (is_taken : Bool) (k : ℕ) → time_of (taken_if is_taken) ≤ k
 taken_none is_taken k = elim (cases_Bool is_taken) [ inl taken ↦ rw taken (omega arith) | inr left ↦ rw left (omega arith) ]
 
-taking_none : (x : ℕ) (done : Done) (k : ℕ) → time_of (news_of_taking x done) ≤ k
+pub taking_none : (x : ℕ) (done : Done) (k : ℕ) → time_of (news_of_taking x done) ≤ k
 taking_none x (ReceiveGot sender) k = taken_none _ k
 taking_none x done k = omega arith
 
-served_time : (done : Done) (ns : ℕ) → time_of (served done ns) ≡ ns
+pub served_time : (done : Done) (ns : ℕ) → time_of (served done ns) ≡ ns
 served_time (ReplyFreed client) ns = refl
 served_time Exit ns = refl
 served_time done ns = refl

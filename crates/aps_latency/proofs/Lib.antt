@@ -3,3 +3,4 @@ pub mod CallsLonger
 pub mod CallsSmall
 pub mod Pieces
 pub mod KnownLines
+pub mod Holding

@@ -3,3 +3,4 @@ pub mod Calls
 pub mod Answered
 pub mod Bills
 pub mod Text
+pub mod Held
