@@ -1,5 +1,5 @@
 -- How long a call that goes on has been served: no longer than all entries together.
-use Rattle.std.proofs.Common.{◌≡◌, ℕ, ◌+◌, ◌*◌, ◌<◌, ◌≤◌, Bool, ◌&&◌, List, [], ◌∷◌, ◌++◌, length, Option, Some, None, inl, inr, All, refl, sym, ap, subst, arith}
+use Rattle.std.proofs.Common.{◌≡◌, ℕ, ◌+◌, ◌*◌, ◌≤◌, Bool, ◌&&◌, List, [], ◌∷◌, ◌++◌, length, Option, Some, None, inl, inr, All, refl, sym, subst, arith}
 use Rattle.std.specs.Prelude.{IfSome}
 use Rattle.std.specs.List.{AllByRecursion}
 use Rattle.std.proofs.lemmas.Bool.{cases_Bool}
@@ -15,7 +15,7 @@ use Rattle.aps_model.specs.After.{state_after}
 use Rattle.aps_model.specs.History.{IsEntry}
 use Rattle.aps_model.specs.Report.{length_of}
 use Rattle.aps_model.specs.Scenario.{Scenario, op_at}
-use Rattle.aps_model.specs.SchedulerState.{SchedulerState, thread_at}
+use Rattle.aps_model.specs.SchedulerState.{thread_at}
 use Rattle.aps_model.specs.Usage.{names}
 use Rattle.aps_latency.specs.declared.call.Asked.{Asked}
 use Rattle.aps_latency.specs.declared.news.News.{News}

@@ -1,5 +1,5 @@
 -- Whom a server holds, and whose call its time counts for.
-use Rattle.std.proofs.Common.{◌≡◌, ◌≢◌, ℕ, ◌+◌, ◌<◌, ◌≤◌, List, [], ◌∷◌, Bool, true, false, ◌&&◌, cond, nat_eq, Option, Some, None, inl, inr, refl, sym, ap, subst, ◌∙◌, arith}
+use Rattle.std.proofs.Common.{◌≡◌, ◌≢◌, ℕ, ◌<◌, ◌≤◌, List, [], ◌∷◌, Bool, true, false, ◌&&◌, cond, nat_eq, Option, Some, None, inl, inr, refl, sym, ap, subst, ◌∙◌, arith}
 use Rattle.std.proofs.lemmas.Bool.{cases_Bool, cases_eq, eqb-true}
 use Rattle.aps_model.specs.declared.entry.Entry.{Entry}
 use Rattle.aps_model.specs.declared.entry.Order.{Order}
@@ -10,14 +10,14 @@ use Rattle.aps_model.specs.Inherit.{IsFree, IsMade, client_of}
 use Rattle.aps_model.specs.Legal.{IsLegal}
 use Rattle.aps_model.specs.Report.{length_of}
 use Rattle.aps_model.specs.Scenario.{Scenario, op_at}
-use Rattle.aps_model.specs.SchedulerState.{SchedulerState, Triple, channel_at, thread_at}
+use Rattle.aps_model.specs.SchedulerState.{Triple, thread_at}
 use Rattle.aps_model.specs.Usage.{names}
 use Rattle.aps_model.specs.Valid.{IsScenario}
-use Rattle.aps_laws.specs.Waits.{IsWaiting, is_replying, one_if, state_at, times_paired}
+use Rattle.aps_laws.specs.Waits.{is_replying, one_if, times_paired}
 use Rattle.aps_laws.proofs.Sound.{sound}
 use Rattle.aps_laws.proofs.WaitFacts.{client_replies, test_eq, test_ne}
 use Rattle.aps_latency.specs.Held.{IsCountedOnce, IsHeldByState}
-use Rattle.aps_latency.specs.News.{is_send, news_in, news_of, time_of}
+use Rattle.aps_latency.specs.News.{is_send, news_in, time_of}
 use Rattle.aps_latency.proofs.CallsSmall.{sent_none, served_time, taking_none}
 
 -- ---- whom a server holds

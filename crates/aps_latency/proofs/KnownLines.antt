@@ -1,14 +1,11 @@
 -- The lines of all threads, by what is known of them.
-use Rattle.std.proofs.Common.{◌≡◌, ℕ, ◌+◌, ◌<◌, ◌≤◌, List, [], ◌∷◌, length, refl, ap, ◌∙◌, arith}
+use Rattle.std.proofs.Common.{◌≡◌, ℕ, ◌+◌, ◌<◌, ◌≤◌, List, [], ◌∷◌, length, refl, ap, arith}
 use Rattle.std.specs.List.{flat_map, enumerate_from}
 use Rattle.aps_model.specs.declared.entry.Entry.{Entry}
 use Rattle.aps_model.specs.declared.scenario.ThreadRow.{ThreadRow}
 use Rattle.aps_model.specs.Scenario.{Scenario}
-use Rattle.aps_lives.specs.declared.life.Segment.{Segment}
-use Rattle.aps_lives.specs.Life.{life_of}
 use Rattle.aps_latency.specs.Bills.{AreBills, bill_at, billed_time}
-use Rattle.aps_latency.specs.Calls.{Calls}
-use Rattle.aps_latency.specs.Text.{HasPlaces, IsKnown, Known, bill_line, bill_lines, thread_by, thread_lines, thread_text, thread_with}
+use Rattle.aps_latency.specs.Text.{HasPlaces, IsKnown, Known, bill_line, bill_lines, thread_text, thread_with}
 use Rattle.aps_latency.proofs.Pieces.{pieces_same}
 
 bills_same : (h : List Entry) (known : Known) (x : ℕ) → AreBills h known.bills → x < 1024 → bill_lines (bill_at known.bills x) ≡ bill_lines (billed_time h x)

@@ -5,8 +5,8 @@ mod answered;
 mod billing;
 mod call;
 mod calling;
-pub mod laws;
 mod latency;
+pub mod laws;
 mod lines;
 mod news;
 
