@@ -1,0 +1,6 @@
+pub mod News
+pub mod Calls
+pub mod Answered
+pub mod Bills
+pub mod Text
+pub mod Held

@@ -1,0 +1,57 @@
+//! What each thread ran on the bill of each partition.
+ghost use Rattle.std.specs.Prelude.{◌≡◌, ◌≤◌, ◌-◌, All, length, replicate, IfOk};
+ghost use Rattle.aps_model.specs.History.{IsEntry};
+ghost use Rattle.aps_latency.specs.Bills as spec;
+
+use aps_model::{Entry, NoMemory, Usage};
+use std::alloc::Global;
+
+const PARTITIONS: usize = 32;
+
+const THREADS: usize = 1024;
+
+/// What each thread ran on the bill of each partition, and what of that was critical (ns), in one pass over these entries. There is
+/// a place for each number that a thread can have. `NoMemory` comes where memory runs out.
+pub fn bills(alloc: Global, entries: &[Entry]) -> Result<Vec<Usage>, NoMemory>
+    requires entries { All IsEntry entries.now }
+    requires few { length entries.now ≤ 4294967295 }
+    ensures { IfOk result (λ bills. spec.AreBills entries.now bills.items) }
+{
+    let mut bills = nothing(alloc)?;
+    for e in entries {
+        add(&mut bills, e);
+    }
+    Ok(bills)
+}
+
+/// Of each thread, that it ran on nobody's bill.
+fn nothing(alloc: Global) -> Result<Vec<Usage>, NoMemory>
+    ensures { IfOk result (λ bills. bills.items ≡ replicate 1024 spec.no_bills) }
+{
+    let mut bills = Vec::with_capacity(alloc, THREADS)?;
+    for _ in 0..THREADS {
+        bills.push(no_bills())?;
+    }
+    Ok(bills)
+}
+
+/// Nothing on any bill.
+fn no_bills() -> Usage
+    ensures { result ≡ spec.no_bills }
+{
+    Usage {
+        used: [0; PARTITIONS],
+        critical: [0; PARTITIONS],
+    }
+}
+
+/// What the entry bills is added to its thread's.
+fn add(bills: &mut Vec<Usage>, e: &Entry)
+    requires entry { IsEntry e.now }
+    requires room { spec.HaveRoom bills.old.items }
+    ensures { spec.AreBilled bills.old.items e.now bills.new.items }
+{
+    if let Some(x) = e.ran {
+        bills[x.index()].bill(e, e.to - e.from);
+    }
+}

@@ -1,0 +1,18 @@
+//! What threads wait for, by a recorded history: to run, and for the servers that they call.
+#![tactic(auto)]
+
+mod answered;
+mod billing;
+mod call;
+mod calling;
+mod latency;
+pub mod laws;
+mod lines;
+mod news;
+
+pub use answered::Answered;
+pub use billing::bills;
+pub use call::{Asked, Call, Calls};
+pub use calling::calls;
+pub use latency::latency_text;
+pub use news::{News, news_of};
