@@ -1,12 +1,15 @@
-//! The command that a list of words is.
+//! The command that a list of words is, and what other commands' words are read with.
 #![tactic(auto)]
 
 mod command;
 mod number;
-mod options;
+pub mod options;
 mod plain;
 #[cfg(test)]
 mod tests;
 mod values;
 
 pub use command::{Command, Report, WordsRefusal, command_of};
+pub use number::number_in;
+pub use plain::is_plain;
+pub use values::{limit_of, required_in};
