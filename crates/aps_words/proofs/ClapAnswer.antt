@@ -1,18 +1,17 @@
 -- What clap answers for a command with options of one plain value each.
-use Rattle.std.proofs.Common.{◌≡◌, ℕ, List, [], ◌∷◌, Option, Some, None, Bool, true, false, fold, refl, ap, ◌∙◌, inl, inr, is_some}
+use Rattle.std.proofs.Common.{◌≡◌, List, [], ◌∷◌, Option, Some, None, true, false, fold, refl, ap, ◌∙◌, inl, inr}
 use Rattle.std.proofs.lemmas.Bool.{cases_Bool}
 use Rattle.std.specs.Str.{bytes_eq}
 use Rattle.std.specs.Prelude.{MatchOption}
 use Rattle.clap.specs.Words.{App, Text, Row, first_of}
 use Rattle.clap.specs.Kinds.{Kinds, or_else}
-use Rattle.clap.specs.Walk.{Walk, Held, has_row, settled, walked, with_default, finished, rows_after, nothing_held}
+use Rattle.clap.specs.Walk.{Walk, has_row, settled, walked, with_default, rows_after, nothing_held}
 use Rattle.clap.specs.Faults.{walk_fault, settle_fault, default_fault, defaults_fault, check_fault, built_fault}
-use Rattle.clap.specs.Simple.{entered}
 use Rattle.aps_words.specs.Options.{Given, value_of}
 use Rattle.aps_words.specs.Plain.{is_plain}
 use Rattle.aps_words.proofs.Uses.{uses}
 use Rattle.aps_words.proofs.ClapRules.{opt, opts}
-use Rattle.aps_words.proofs.ClapTurns.{row, rows_as, shape, at_rest, walk_at, IsFault}
+use Rattle.aps_words.proofs.ClapTurns.{rows_as, shape, at_rest, walk_at, IsFault}
 use Rattle.aps_words.proofs.ClapWalk.{total, AreTexts, Answers, walk-uses}
 
 -- a built command with options of these names

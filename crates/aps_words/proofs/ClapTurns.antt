@@ -1,16 +1,15 @@
 -- One word of clap's walk over options with one plain value each.
-use Rattle.std.proofs.Common.{◌≡◌, ℕ, List, [], ◌∷◌, ◌++◌, map, codes, Option, Some, None, Bool, true, false, not, ◌||◌, ◌&&◌, cond, refl, ap, sym, ◌∙◌, rules, inl, inr, append-nil}
+use Rattle.std.proofs.Common.{◌≡◌, ℕ, List, [], ◌∷◌, ◌++◌, map, Option, Some, None, true, false, refl, ap, sym, ◌∙◌, inl, inr, append-nil}
 use Rattle.std.proofs.lemmas.Bool.{cases_Bool, false≢true}
 use Rattle.std.proofs.lemmas.Slice.Eq.{bytes_eq-Decides}
 use Rattle.std.specs.Str.{bytes_eq, chars}
 use Rattle.std.specs.Prelude.{slice_get}
 use Rattle.clap.specs.Lexer.{long_of, short_of}
-use Rattle.clap.specs.Words.{App, Rule, Row, Text, built}
+use Rattle.clap.specs.Words.{Row, Text, built}
 use Rattle.clap.specs.Kinds.{Kinds, or_else}
-use Rattle.clap.specs.Walk.{Held, Waiting, idle, option, Walk, at_row, has_row, used, settled, walked, reading_by, more_values}
-use Rattle.clap.specs.Faults.{turn_fault, use_fault, settle_fault, flags_fault}
+use Rattle.clap.specs.Walk.{Waiting, idle, option, Walk, at_row, has_row, used, walked, reading_by, more_values}
+use Rattle.clap.specs.Faults.{turn_fault, use_fault, flags_fault}
 use Rattle.clap.specs.Simple.{Shape}
-use Rattle.clap.specs.declared.error.kind.ErrorKind.TheVariants as kind
 use Rattle.clap.specs.declared.parser.matches.ValueSource.TheVariants.{CommandLine}
 use Rattle.aps_words.specs.Clap.{plain_app}
 use Rattle.aps_words.specs.Options.{Given, is_known}

@@ -1,21 +1,20 @@
 -- clap's walk over all the words gives the uses, or a fault.
-use Rattle.std.proofs.Common.{◌≡◌, ◌<◌, ◌≤◌, ◌+◌, ℕ, List, [], ◌∷◌, ◌++◌, map, Option, Some, None, is_some, Bool, true, false, not, ◌||◌, ◌&&◌, ◌==◌, cond, length, get_or, drop, slice_get, fold, refl, ap, sym, subst, ◌∙◌, rules, inl, inr, arith}
-use Rattle.std.proofs.lemmas.Bool.{cases_Bool, false≢true, and_parts}
+use Rattle.std.proofs.Common.{◌≡◌, ℕ, List, [], ◌∷◌, ◌++◌, map, Option, Some, None, Bool, true, false, not, ◌||◌, ◌==◌, slice_get, fold, refl, ap, sym, subst, ◌∙◌, inl, inr, arith}
+use Rattle.std.proofs.lemmas.Bool.{cases_Bool, and_parts}
 use Rattle.std.proofs.lemmas.Bool.Decides.{nat_tests}
 use Rattle.std.proofs.lemmas.List.{map_push}
 use Rattle.std.proofs.lemmas.Str.{encodes-chars, IsUtf8-drop, IsCharBoundary-after_ascii}
-use Rattle.std.specs.Prelude.{encode_utf8_all, if◌then◌else◌}
+use Rattle.std.specs.Prelude.{encode_utf8_all}
 use Rattle.std.specs.Str.{bytes_eq, chars, IsUtf8}
-use Rattle.std.specs.List.{list_any}
 use Rattle.clap.specs.Lexer.{long_of, short_of}
-use Rattle.clap.specs.Words.{Text, Row}
+use Rattle.clap.specs.Words.{Text}
 use Rattle.clap.specs.Kinds.{Kinds, or_else}
 use Rattle.clap.specs.Walk.{Walk, idle, option, has_row, settled, walked}
 use Rattle.clap.specs.Faults.{turn_fault, walk_fault, settle_fault}
 use Rattle.aps_words.specs.Options.{Given, is_known, option_of}
 use Rattle.aps_words.specs.Plain.{is_plain}
 use Rattle.aps_words.proofs.Uses.{uses}
-use Rattle.aps_words.proofs.ClapRules.{opt, opts, by_id}
+use Rattle.aps_words.proofs.ClapRules.{opts, by_id}
 use Rattle.aps_words.proofs.ClapTurns.{row, rows_as, shape, At, at_rest, with_one, wants, walk_with, walk_at, IsFault, fault_first, used_new, use_ok, use_bad, dashes, unknown, bundled, stray_at_rest, stray_with_one, cut_off, value_faultless, value_walked, equals_rest, bare_rest, equals_one, bare_one}
 
 -- ---- the first character of a bundle

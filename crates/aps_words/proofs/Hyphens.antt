@@ -1,9 +1,9 @@
 -- No option has a value that begins with a hyphen, so it doesn't matter who takes such a word for one.
-use Rattle.std.proofs.Common.{◌≡◌, ℕ, List, [], ◌∷◌, ◌++◌, ◌==◌, ◌&&◌, ◌||◌, map, Option, Some, None, Bool, true, false, not, refl, ap, sym, ◌∙◌, subst, inl, inr, is_some, arith}
+use Rattle.std.proofs.Common.{◌≡◌, List, [], ◌∷◌, ◌++◌, ◌==◌, ◌&&◌, ◌||◌, map, Option, Some, None, Bool, true, false, not, refl, ap, sym, ◌∙◌, subst, inl, inr, is_some}
 use Rattle.std.proofs.lemmas.Bool.{cases_Bool, false≢true}
 use Rattle.std.proofs.lemmas.Slice.Eq.{bytes_eq-Decides}
 use Rattle.std.proofs.lemmas.List.{map_push}
-use Rattle.std.specs.Prelude.{if◌then◌else◌, ⊤}
+use Rattle.std.specs.Prelude.{⊤}
 use Rattle.std.specs.Str.{bytes_eq}
 use Rattle.aps_words.specs.Options.{Text, Given, value_of, is_known, is_given, option_of, options_after}
 use Rattle.aps_words.specs.Plain.{is_plain}
@@ -96,23 +96,23 @@ unreadable names true read h = h
 unreadable names false read h = h
 
 -- an option that waits for its value is a new one
-abbrev IsNew : List Text → List Given → Option Text → Type 0
+abbrev pub IsNew : List Text → List Given → Option Text → Type 0
 IsNew names given None = ⊤
 IsNew names given (Some name) = (is_known names name ≡ true) × (is_given given name ≡ false)
 
-abbrev seen_with : List Given → Option Text → List Text
+abbrev pub seen_with : List Given → Option Text → List Text
 seen_with given None = map (λ u. u.0) given
 seen_with given (Some name) = map (λ u. u.0) given ++ name ∷ []
 
-seen_or_not : (given : List Given) (name : Text) → is_known (map (λ u. u.0) given) name ≡ is_given given name
+pub seen_or_not : (given : List Given) (name : Text) → is_known (map (λ u. u.0) given) name ≡ is_given given name
 seen_or_not [] name = refl
 seen_or_not (u ∷ given) name = ap (λ b. bytes_eq u.0 name || b) (seen_or_not given name)
 
-abbrev dashes : Text
+abbrev pub dashes : Text
 dashes = 45 ∷ 45 ∷ []
 
 -- an option isn't `--`
-option_is_no_dashes : (word : Text) (p : Text × Option Text) → option_of word ≡ Some p → bytes_eq word dashes ≡ false
+pub option_is_no_dashes : (word : Text) (p : Text × Option Text) → option_of word ≡ Some p → bytes_eq word dashes ≡ false
 option_is_no_dashes word p is =
     elim (cases_Bool (bytes_eq word dashes)) [
       | inl same ↦ let e : word ≡ dashes = (bytes_eq-Decides word dashes).0 same in let bad : option_of dashes ≡ Some p = subst (λ w. option_of w ≡ Some p) e is in cc
@@ -127,7 +127,7 @@ hyphen_if_option (c ∷ cs) h =
 dashes_begin : (word : Text) → bytes_eq word dashes ≡ true → begins_with_hyphen word ≡ true
 dashes_begin word same = ap begins_with_hyphen ((bytes_eq-Decides word dashes).0 same)
 
-no_option : (word : Text) → looks_like_option word ≡ false → option_of word ≡ None
+pub no_option : (word : Text) → looks_like_option word ≡ false → option_of word ≡ None
 no_option word h = none (option_of word) _ h
   where
     none : (o : Option (Text × Option Text)) (b : Bool) → (is_some o || b) ≡ false → o ≡ None

@@ -4,6 +4,8 @@ pub mod ClapTurns
 pub mod ClapWalk
 pub mod ClapAnswer
 pub mod Hyphens
+pub mod Unhyphened
+pub mod Reading
 pub mod Meaning
 pub mod Numerals
 pub mod Plainness

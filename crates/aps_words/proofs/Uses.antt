@@ -1,5 +1,5 @@
 -- The options among the words as clap takes them: a word that looks like an option is no value.
-use Rattle.std.specs.Prelude.{ℕ, ◌==◌, ◌||◌, Bool, List, [], ◌∷◌, ◌++◌, Option, Some, None, is_some, if◌then◌else◌, option_and_then}
+use Rattle.std.specs.Prelude.{◌==◌, ◌||◌, Bool, List, [], ◌∷◌, ◌++◌, Option, Some, None, is_some, if◌then◌else◌, option_and_then}
 use Rattle.aps_words.specs.Options.{Text, Given, after_hyphen, option_of, is_known}
 
 abbrev bundle_of_rest : Text → Option Text

@@ -1,5 +1,5 @@
 -- The commands that clap is given.
-use Rattle.std.specs.Prelude.{List, codes, Some, true, fold}
+use Rattle.std.specs.Prelude.{List, Some, true, fold}
 use Rattle.clap.specs.Words.{App, Rule, Text, new_app, new_rule, with_rule}
 use Rattle.clap.specs.declared.builder.ArgAction.TheVariants.{Set}
 

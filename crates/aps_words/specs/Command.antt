@@ -1,11 +1,11 @@
 -- The command that a list of words is.
-use Rattle.std.specs.Prelude.{◌≡◌, ℕ, ◌≤◌, List, [], ◌∷◌, codes, Option, Some, None, Result, Ok, Err, if◌then◌else◌, option_map, option_and_then, ⊤}
+use Rattle.std.specs.Prelude.{◌≡◌, ◌≤◌, List, [], ◌∷◌, codes, Option, Some, None, Result, Ok, Err, if◌then◌else◌, ⊤}
 use Rattle.std.specs.Str.{bytes_eq}
 use Rattle.aps_words.specs.declared.command.Command.{Command}
 use Rattle.aps_words.specs.declared.command.Command.TheVariants.{Solo, Run, Gen, Upgrade, Check, Admit}
 use Rattle.aps_words.specs.declared.command.WordsRefusal.{WordsRefusal}
 use Rattle.aps_words.specs.declared.command.WordsRefusal.TheVariants as refusal
-use Rattle.aps_words.specs.Options.{Text, Given, value_of, options}
+use Rattle.aps_words.specs.Options.{Text, value_of, options}
 use Rattle.aps_words.specs.Values.{report_of, order_of, limit_of, required_in}
 
 infixl 10 ◌>>=◌
@@ -56,8 +56,8 @@ gen_options = codes "seed" ∷ codes "cpus" ∷ codes "partitions" ∷ codes "ti
 abbrev pub check_options : List Text
 check_options = codes "order" ∷ codes "limit" ∷ []
 
--- a command with options of these names, by the words behind its own
-abbrev pub with_options : List Text → ((Text → Option Text) → Option Command) → List Text → Option Command
+-- what options of these names say, by the words behind the command's own
+abbrev pub with_options : {A : Type 0} → List Text → ((Text → Option Text) → Option A) → List Text → Option A
 with_options names by words = options names words >>= λ given. by (value_of given)
 
 -- a command that has no options, by the words behind its own
@@ -76,8 +76,8 @@ command (word ∷ words) =
     else (if bytes_eq word (codes "check") then with_options check_options check words
     else (if bytes_eq word (codes "admit") then alone Admit words else None)))))
 
--- the answer is this command, or a refusal of the words where there is none; want of memory tells nothing
-abbrev pub Says : Result Command WordsRefusal → Option Command → Type 0
+-- the answer is this, or a refusal of the words where there is none; want of memory tells nothing
+abbrev pub Says : {A : Type 0} → Result A WordsRefusal → Option A → Type 0
 Says (Ok said) meant = meant ≡ Some said
 Says (Err refusal.Words) meant = meant ≡ None
 Says (Err refusal.NoMemory) meant = ⊤

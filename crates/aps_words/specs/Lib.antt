@@ -4,3 +4,4 @@ pub mod Values
 pub mod Command
 pub mod Plain
 pub mod Clap
+pub mod Unhyphened

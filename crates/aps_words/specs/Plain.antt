@@ -1,5 +1,5 @@
 -- Words that repeat no option and have no `--`.
-use Rattle.std.specs.Prelude.{ℕ, ◌&&◌, Bool, true, not, List, [], ◌∷◌, ◌++◌, Option, Some, None}
+use Rattle.std.specs.Prelude.{◌&&◌, Bool, true, not, List, [], ◌∷◌, ◌++◌, Option, Some, None}
 use Rattle.std.specs.Str.{bytes_eq}
 use Rattle.aps_words.specs.Options.{Text, option_of, is_known}
 

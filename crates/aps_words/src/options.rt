@@ -10,7 +10,7 @@ use clap::{Arg, ArgAction, ArgMatches, Command};
 use std::alloc::{AllocError, Global};
 
 /// An option with one value, as `--name value` or `--name=value`.
-fn option<'a>(alloc: Global, name: &'a str) -> Arg<'a>
+pub fn option<'a>(alloc: Global, name: &'a str) -> Arg<'a>
     ensures rule { rule_of result ≡ option_rule name.now }
     ensures local { result.global ≡ false }
 {
@@ -60,7 +60,8 @@ pub fn check_options<'a>(alloc: Global) -> Result<Command<'a>, AllocError>
         .arg(option(alloc, "limit"))
 }
 
-/// What clap reads in the words, whose first is the command's own.
+/// What clap reads in the words, whose first is the command's own: no options but the command's, each with its value. `Words`
+/// comes where clap finds a fault, and `NoMemory` where memory runs out.
 pub fn matches_in<'a>(
     command: Command<'a>,
     words: &'a [String],

@@ -1,3 +1,5 @@
-pub mod AsSolo
 pub mod Said
+pub mod Separated
+pub mod Retraced
+pub mod Viewed
 pub mod Dues

@@ -1,7 +1,7 @@
 -- What the answer of a call tells.
 use Rattle.std.specs.Prelude.{◌≡◌, ℕ, List, Option}
 use Rattle.std.specs.Io.KnownBytes.{Consumes}
-use Rattle.apsview.specs.declared.asked.Asked.{Asked}
+use Rattle.aps_view_words.specs.declared.asked.Asked.{Asked}
 use Rattle.apsview.specs.declared.outcome.Outcome.{Outcome}
 use Rattle.apsview.specs.declared.status.Status.{Status}
 use Rattle.apsview.specs.Cause.{HasCause}

@@ -1,38 +1,38 @@
 -- Why a call has its outcome.
-use Rattle.std.specs.Prelude.{◌≡◌, ℕ, ◌+◌, ◌≤◌, List, [], length, Option, Some, None, Ok, Err, ⊤, string_bytes}
+use Rattle.std.specs.Prelude.{◌≡◌, ℕ, ◌+◌, ◌≤◌, ◌⊎◌, List, [], length, Option, Some, None, ⊤}
 use Rattle.std.specs.Io.KnownBytes.{Consumes, IsAtEnd}
 use Rattle.aps_io.specs.Causes.{Rose}
 use Rattle.aps_io.specs.declared.all.ReadRefusal.{ReadRefusal}
 use Rattle.aps_io.specs.declared.all.ReadRefusal.TheVariants as unread
-use Rattle.aps_model.specs.declared.entry.End.{End}
-use Rattle.aps_model.specs.After.{end_of}
-use Rattle.aps_model.specs.Legal.{fixed_run}
-use Rattle.aps_model.specs.Scenario.{Scenario}
-use Rattle.aps_scenario.specs.Reading.{reads}
 use Rattle.aps_scenario.specs.declared.refusal.ScenarioRefusal.{ScenarioRefusal}
 use Rattle.aps_scenario.specs.declared.refusal.ScenarioRefusal.TheVariants as refusal
-use Rattle.apsview.specs.declared.asked.Asked.{Asked}
+use Rattle.aps_text.specs.declared.refusal.JournalRefusal.{JournalRefusal}
+use Rattle.aps_text.specs.declared.refusal.JournalRefusal.TheVariants as journal
+use Rattle.aps_view_words.specs.declared.asked.Asked.{Asked}
 use Rattle.apsview.specs.declared.outcome.Outcome.{Outcome}
-use Rattle.apsview.specs.declared.outcome.Outcome.TheVariants.{WordsRefused, ReadFault, TooLong, InputRefused, Ran, NoMemory}
+use Rattle.apsview.specs.declared.outcome.Outcome.TheVariants.{WordsRefused, ReadFault, TooLong, InputRefused, NoMemory}
+use Rattle.apsview.specs.declared.refusal.InputRefusal.TheVariants.{Text, BadJournal}
+use Rattle.apsview.specs.Due.{Due, IsDueOfInput}
 use Rattle.apsview.specs.Intake.{Intake, most_bytes}
-use Rattle.apsview.specs.Report.{report_text}
+use Rattle.apsview.specs.Outcome.{status_of, text_of}
 
--- the scenario's run in fixed order ends so, and this is the report of it
-pub record RunsTo (asked : Asked) (scenario : Scenario) (end : End) (text : List ℕ) : Type 0 where
-  pub ended : end_of scenario asked.limit (fixed_run scenario asked.limit) ≡ Some end
-  pub text_is : text ≡ report_text asked.report scenario (fixed_run scenario asked.limit)
+-- the status and the text of an outcome
+abbrev pub told_by : Outcome → Due
+told_by outcome = record { status = status_of outcome; text = text_of outcome }
 
--- what comes of bytes that are the whole input
-abbrev pub ComesOf : Asked → List ℕ → Outcome → Type 0
-ComesOf asked bytes (InputRefused kind path) = reads bytes ≡ Err (record { kind = kind; path = path })
-ComesOf asked bytes (Ran end text) = (scenario : Scenario) × (reads bytes ≡ Ok scenario) × RunsTo asked scenario end (string_bytes text)
-ComesOf asked bytes NoMemory = ⊤
-ComesOf asked bytes _ = ⊥
+-- what is told is such, unless memory ran out
+abbrev pub TellsDue : (Due → Type 0) → Outcome → Type 0
+TellsDue IsSuch outcome = (outcome ≡ NoMemory) ⊎ IsSuch (told_by outcome)
 
 -- what comes of a text that is no scenario
 abbrev pub of_refusal : ScenarioRefusal → Outcome
-of_refusal (refusal.Refused kind path) = InputRefused kind path
+of_refusal (refusal.Refused kind path) = InputRefused (Text kind path)
 of_refusal refusal.NoMemory = NoMemory
+
+-- what comes of a text that is no journal
+abbrev pub of_journal_refusal : JournalRefusal → Outcome
+of_journal_refusal (journal.BadLine line column) = InputRefused (BadJournal line column)
+of_journal_refusal journal.NoMemory = NoMemory
 
 -- what comes of an input that wasn't read to its end
 abbrev pub not_read : ReadRefusal → Outcome
@@ -40,19 +40,27 @@ not_read unread.ReadFault = ReadFault
 not_read unread.TooLong = TooLong
 not_read unread.NoMemory = NoMemory
 
--- the input was read to its end, and isn't too long
-pub record IsReadWhole (intake : Intake) (bytes : List ℕ) : Type 0 where
+-- reading failed
+pub record IsFaulted (intake : Intake) (bytes : List ℕ) (outcome : Outcome) : Type 0 where
+  pub is : outcome ≡ ReadFault
+  pub rose : Rose intake.faults_before intake.faults
+  pub short : length bytes ≤ most_bytes
+
+-- more bytes were delivered than are taken
+pub record IsOverlong (bytes : List ℕ) (outcome : Outcome) : Type 0 where
+  pub is : outcome ≡ TooLong
+  pub long : length bytes ≡ most_bytes + 1
+
+-- the input was read to its end, isn't too long, and makes due what is told
+pub record IsOfWhole (asked : Asked) (intake : Intake) (bytes : List ℕ) (outcome : Outcome) : Type 0 where
   pub end : IsAtEnd intake.after
   pub short : length bytes ≤ most_bytes
+  pub due : IsDueOfInput asked bytes (told_by outcome)
 
 -- where a report is asked for, the reading comes before what the bytes are
 abbrev pub HasCauseIn : Asked → Intake → List ℕ → Outcome → Type 0
-HasCauseIn asked intake bytes WordsRefused = ⊥
-HasCauseIn asked intake bytes ReadFault = Rose intake.faults_before intake.faults × (length bytes ≤ most_bytes)
-HasCauseIn asked intake bytes TooLong = length bytes ≡ most_bytes + 1
-HasCauseIn asked intake bytes (InputRefused kind path) = IsReadWhole intake bytes × ComesOf asked bytes (InputRefused kind path)
-HasCauseIn asked intake bytes (Ran end text) = IsReadWhole intake bytes × ComesOf asked bytes (Ran end text)
-HasCauseIn asked intake bytes NoMemory = ⊤
+HasCauseIn asked intake bytes outcome =
+    (outcome ≡ NoMemory) ⊎ IsFaulted intake bytes outcome ⊎ IsOverlong bytes outcome ⊎ IsOfWhole asked intake bytes outcome
 
 -- words that ask for no report come before all else, and nothing is read then
 abbrev pub IsUnasked : List ℕ → Outcome → Type 0

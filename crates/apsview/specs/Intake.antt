@@ -12,6 +12,10 @@ abbrev pub intake_of : (before after : Option (List ℕ)) → (faults_before fau
 intake_of before after faults_before faults =
     record { before = before; after = after; faults_before = faults_before; faults = faults }
 
--- the most bytes that are taken as a scenario
+-- the most bytes that are taken as a scenario with a journal
 abbrev pub most_bytes : ℕ
-most_bytes = 1048576
+most_bytes = 310000000
+
+-- the most that are taken as a scenario alone
+abbrev pub most_scenario_bytes : ℕ
+most_scenario_bytes = 1048576

@@ -3,7 +3,8 @@ pub mod Status
 pub mod Printing
 pub mod Intake
 pub mod Report
+pub mod Refusal
 pub mod Outcome
+pub mod Due
 pub mod Cause
 pub mod Answer
-pub mod Due

@@ -1,23 +1,21 @@
 -- The outcome of a call: its status and its text.
-use Rattle.std.specs.Prelude.{ℕ, List, [], ◌++◌, codes, string_bytes}
-use Rattle.aps_scenario.specs.declared.kind.Kind.{Kind}
-use Rattle.aps_scenario.specs.Kind.{kind_word}
+use Rattle.std.specs.Prelude.{ℕ, List, [], codes, string_bytes}
+use Rattle.aps_check.specs.Text.{verdict_text}
 use Rattle.apsview.specs.declared.outcome.Outcome.{Outcome}
-use Rattle.apsview.specs.declared.outcome.Outcome.TheVariants.{WordsRefused, ReadFault, TooLong, InputRefused, Ran, NoMemory}
+use Rattle.apsview.specs.declared.outcome.Outcome.TheVariants.{WordsRefused, ReadFault, TooLong, InputRefused, Ran, Viewed, Broken, NoMemory}
 use Rattle.apsview.specs.declared.status.Status.{Status}
 use Rattle.apsview.specs.declared.status.Status.TheVariants as status
+use Rattle.apsview.specs.Refusal.{refusal_text}
 use Rattle.apsview.specs.Status.{status_of_end}
-
--- the line of a text that is no scenario
-abbrev pub refusal_text : Kind → List ℕ → List ℕ
-refusal_text kind path = codes "aps: scenario refused: " ++ (kind_word kind ++ codes " " ++ path ++ codes "\n")
 
 abbrev pub status_of : Outcome → Status
 status_of WordsRefused = status.WordsRefused
 status_of ReadFault = status.ReadFault
 status_of TooLong = status.TooLong
-status_of (InputRefused kind path) = status.InputRefused
+status_of (InputRefused refusal) = status.InputRefused
 status_of (Ran end text) = status_of_end end
+status_of (Viewed text) = status.Done
+status_of (Broken verdict) = status.JournalBreaks
 status_of NoMemory = status.NoMemory
 
 -- what is written
@@ -25,6 +23,8 @@ abbrev pub text_of : Outcome → List ℕ
 text_of WordsRefused = codes "aps: words refused\n"
 text_of ReadFault = codes "aps: read fault\n"
 text_of TooLong = codes "aps: input too long\n"
-text_of (InputRefused kind path) = refusal_text kind path
+text_of (InputRefused refusal) = refusal_text refusal
 text_of (Ran end text) = string_bytes text
+text_of (Viewed text) = string_bytes text
+text_of (Broken verdict) = verdict_text verdict
 text_of NoMemory = []

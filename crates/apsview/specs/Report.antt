@@ -1,11 +1,15 @@
 -- The texts of the reports.
-use Rattle.std.specs.Prelude.{ℕ, List}
+use Rattle.std.specs.Prelude.{ℕ, List, Option, Some, None}
 use Rattle.aps_model.specs.declared.entry.Entry.{Entry}
 use Rattle.aps_model.specs.Scenario.{Scenario}
 use Rattle.aps_lives.specs.Text.{cycles_text}
-use Rattle.apsview.specs.declared.asked.Report.{Report}
-use Rattle.apsview.specs.declared.asked.Report.TheVariants.{Cycles}
+use Rattle.aps_view_words.specs.declared.asked.Report.{Report}
+use Rattle.aps_view_words.specs.declared.asked.Report.TheVariants.{Cycles, Csv, Shares, Latency, Explain}
 
--- this report of a history
-abbrev pub report_text : Report → Scenario → List Entry → List ℕ
-report_text Cycles scenario h = cycles_text scenario h
+-- this report of a history, or nothing where the scenario has no thread of the name that it is asked about
+abbrev pub report_text : Report → Scenario → List Entry → Option (List ℕ)
+report_text Cycles scenario h = Some (cycles_text scenario h)
+report_text (Csv ticks) scenario h = None
+report_text Shares scenario h = None
+report_text Latency scenario h = None
+report_text (Explain thread moment) scenario h = None

@@ -3,7 +3,7 @@ use Rattle.std.specs.Prelude.{ℕ}
 use Rattle.aps_model.specs.declared.entry.End.{End}
 use Rattle.aps_model.specs.declared.entry.End.TheVariants.{Horizon, Limit, Reboot}
 use Rattle.apsview.specs.declared.status.Status.{Status}
-use Rattle.apsview.specs.declared.status.Status.TheVariants.{Done, WordsRefused, InputRefused, Rebooted, ReadFault, WriteFault, Limited, NoMemory, TooLong}
+use Rattle.apsview.specs.declared.status.Status.TheVariants.{Done, WordsRefused, InputRefused, Rebooted, ReadFault, WriteFault, Limited, NoMemory, TooLong, JournalBreaks}
 
 abbrev pub code : Status → ℕ
 code Done = 0
@@ -15,6 +15,7 @@ code WriteFault = 5
 code Limited = 6
 code NoMemory = 7
 code TooLong = 8
+code JournalBreaks = 9
 
 -- the status of a run that ended so
 abbrev pub status_of_end : End → Status
@@ -33,3 +34,4 @@ or_write_fault WriteFault = WriteFault
 or_write_fault Limited = Limited
 or_write_fault NoMemory = NoMemory
 or_write_fault TooLong = TooLong
+or_write_fault JournalBreaks = JournalBreaks

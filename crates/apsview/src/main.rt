@@ -1,5 +1,5 @@
-//! Reports of a run for who looks at it: the program reads a scenario from standard input, runs it in fixed order, and writes
-//! a report of its history to standard output.
+//! Reports of a history for who looks at it: the program reads a scenario from standard input and runs it in fixed order, or
+//! reads a scenario with a journal and judges that, and writes a report of the history to standard output.
 #![tactic(auto)]
 
 mod asked;
@@ -7,8 +7,13 @@ mod calm;
 mod outcome;
 mod printing;
 mod reading;
+mod refusal;
+mod report;
 mod status;
+#[cfg(test)]
+mod tests;
 mod top;
+mod viewing;
 
 use aps_io::{StdSink, StdSource};
 use status::Status;
@@ -16,6 +21,11 @@ use std::alloc::AllocError;
 use std::env;
 use std::io::ErrorKind;
 use std::process::ExitCode;
+
+/// A hint for whoever starts the program by hand.
+const USAGE: &str = "usage: apsview REPORT < INPUT
+INPUT is a scenario, or a scenario, the line `--- journal` and a journal of it; REPORT is one of these:
+  cycles [--limit ENTRIES]";
 
 /// The words after the program's name, or none where one of them isn't UTF-8: no report has such a word.
 fn words_of(rt: &HostRuntime) -> Result<Vec<String>, AllocError> {
@@ -36,8 +46,8 @@ fn main(rt: HostRuntime) -> ExitCode {
     let mut sink = StdSink::new(rt.stdout());
     let code = top::top(alloc, &words, &mut source, &mut sink);
     if code == Status::WordsRefused.code() {
-        // a hint for whoever starts the program by hand; nothing depends on it
-        let _ = eprintln!(rt; "usage: apsview cycles < SCENARIO.toml (README.md has all reports)");
+        // nothing depends on it
+        let _ = eprintln!(rt; "{USAGE}");
     }
     ExitCode::from(code)
 }

@@ -1,19 +1,20 @@
 //! The outcome of a call of the program, by its words and its input.
-ghost use Rattle.std.specs.Prelude.{◌≡◌, map, string_bytes, vec_items, IfOk};
+ghost use Rattle.std.specs.Prelude.{◌≡◌, map, string_bytes};
+ghost use Rattle.aps_check.specs.Text.{verdict_text};
 ghost use Rattle.apsview.specs.Asked.{asked};
 ghost use Rattle.apsview.specs.Cause.{IsOutcome};
 ghost use Rattle.apsview.specs.Intake.{intake_of};
-ghost use Rattle.apsview.specs.Outcome.{refusal_text, status_of, text_of};
+ghost use Rattle.apsview.specs.Outcome.{status_of, text_of};
 ghost use Rattle.apsview.specs.Printing.{Prints, output_of};
-ghost use Rattle.apsview.specs.declared.status.Status.TheVariants.{InputRefused};
 
 use crate::asked::asked_of;
 use crate::printing::print;
 use crate::reading::outcome_of;
+use crate::refusal::{InputRefusal, print_refusal};
 use crate::status::Status;
+use aps_check::Verdict;
 use aps_io::{Sink, Source};
-use aps_model::{End, NoMemory};
-use aps_scenario::{Kind, PathText};
+use aps_model::End;
 use aps_words::WordsRefusal;
 use std::alloc::Global;
 
@@ -26,10 +27,14 @@ pub enum Outcome {
     ReadFault,
     /// The input is too long.
     TooLong,
-    /// The input is no scenario: what is wrong with the first part that breaks a rule, and the path of that part.
-    InputRefused { kind: Kind, path: PathText },
+    /// The input is none that the report takes.
+    InputRefused(InputRefusal),
     /// The scenario was run to this end, and this is the report of it.
     Ran { end: End, text: String },
+    /// The journal is legal, and this is the report of it.
+    Viewed { text: String },
+    /// The journal breaks a rule, as this verdict says.
+    Broken { verdict: Verdict },
     /// There was no memory.
     NoMemory,
 }
@@ -56,33 +61,22 @@ impl Outcome {
             Outcome::WordsRefused => print(sink, b"aps: words refused\n", Status::WordsRefused),
             Outcome::ReadFault => print(sink, b"aps: read fault\n", Status::ReadFault),
             Outcome::TooLong => print(sink, b"aps: input too long\n", Status::TooLong),
-            Outcome::InputRefused { kind, path } => say_refusal(alloc, kind, path, sink),
+            Outcome::InputRefused(refusal) => print_refusal(alloc, refusal, sink),
             Outcome::Ran { end, text } => print(sink, text.as_bytes(), Status::of_end(end)),
+            Outcome::Viewed { text } => print(sink, text.as_bytes(), Status::Done),
+            Outcome::Broken { verdict } => print_verdict(alloc, verdict, sink),
             Outcome::NoMemory => Status::NoMemory,
         }
     }
 }
 
-/// Writes the line that says why the input is no scenario, and gives the status for that.
-fn say_refusal<K: Sink>(alloc: Global, kind: &Kind, path: &PathText, sink: &mut K) -> Status
+/// Writes the line of a verdict on a journal that breaks a rule, and gives the status for that.
+fn print_verdict<K: Sink>(alloc: Global, verdict: &Verdict, sink: &mut K) -> Status
     ensures { Prints (output_of (K.written sink.old) (K.written sink.new) (K.faults sink.old) (K.faults sink.new))
-        (refusal_text kind.now path.now) InputRefused result }
+        (verdict_text verdict.now) Status.JournalBreaks result }
 {
-    match refusal_line(alloc, kind, path) {
-        Ok(line) => print(sink, &line, Status::InputRefused),
+    match aps_check::text::print_verdict(alloc, verdict) {
+        Ok(text) => print(sink, text.as_bytes(), Status::JournalBreaks),
         Err(_) => Status::NoMemory,
     }
-}
-
-/// The line that says why a text is no scenario.
-fn refusal_line(alloc: Global, kind: &Kind, path: &PathText) -> Result<Vec<u8>, NoMemory>
-    ensures { IfOk result (λ line. vec_items line ≡ refusal_text kind.now path.now) }
-{
-    let mut line = Vec::new(alloc);
-    line.extend_from_slice(b"aps: scenario refused: ")?;
-    line.extend_from_slice(kind.word().as_bytes())?;
-    line.extend_from_slice(b" ")?;
-    line.extend_from_slice(path.text())?;
-    line.extend_from_slice(b"\n")?;
-    Ok(line)
 }

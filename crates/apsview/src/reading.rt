@@ -1,23 +1,28 @@
-//! The report of the scenario that a source gives, or the outcome of the call where it gives none.
-ghost use Rattle.std.specs.Prelude.{◌≡◌, ◌≤◌, Some, string_bytes, IfOk};
-ghost use Rattle.aps_model.specs.declared.entry.Order.TheVariants.{Fixed};
-ghost use Rattle.apsview.specs.Cause.{ComesOf, IsOutcome, RunsTo, not_read, of_refusal};
+//! What comes of the input: a scenario, or a scenario with a journal.
+ghost use Rattle.std.specs.Prelude.{◌≡◌, ◌≤◌, length, Some, IfSome};
+ghost use Rattle.aps_scenario.specs.Reading.{reads};
+ghost use Rattle.aps_text.specs.Separator.{journal_place};
+ghost use Rattle.apsview.specs.Cause.{IsOutcome, TellsDue, not_read, of_journal_refusal, of_refusal};
+ghost use Rattle.apsview.specs.Due.{IsDueOfInput, IsDueOfJournal, IsDueOfRead, due_alone};
 ghost use Rattle.apsview.specs.Intake.{intake_of};
-ghost use Rattle.apsview.specs.Report.{report_text};
 
-use crate::asked::{Asked, Report};
 use crate::outcome::Outcome;
-use aps_core::Core;
+use crate::refusal::InputRefusal;
+use crate::viewing::{judged, ran};
 use aps_io::{ReadRefusal, Source, read_all};
-use aps_lives::text::cycles_text;
-use aps_model::{End, NoMemory, Order, Scenario};
+use aps_model::Scenario;
 use aps_scenario::{ScenarioRefusal, scenario_of};
+use aps_text::{JournalAt, JournalRefusal, journal_at, read_journal};
+use aps_view_words::Asked;
 use std::alloc::Global;
 
-/// The most bytes that are taken as a scenario.
-const MOST_BYTES: usize = 1_048_576;
+/// The most bytes that are taken as a scenario with a journal.
+const MOST_BYTES: usize = 310_000_000;
 
-/// Reads the source, runs the scenario that its bytes are, and makes the report that was asked for.
+/// The most bytes that are taken as a scenario alone.
+const MOST_SCENARIO_BYTES: usize = 1_048_576;
+
+/// Reads the source, and makes the report that was asked for of what its bytes are.
 pub fn outcome_of<S: Source>(alloc: Global, asked: Asked, source: &mut S) -> Outcome
     requires some { 1 ≤ asked.limit }
     requires few { asked.limit ≤ 4000000 }
@@ -40,18 +45,87 @@ fn not_read(refusal: ReadRefusal) -> Outcome
     }
 }
 
-/// What comes of these bytes.
+/// What comes of these bytes: with a line `--- journal` they are a scenario and a journal, without one a scenario.
 fn of_bytes(alloc: Global, asked: Asked, bytes: &[u8]) -> Outcome
     requires some { 1 ≤ asked.limit }
     requires few { asked.limit ≤ 4000000 }
-    ensures { ComesOf asked bytes.now result }
+    requires short { length bytes.now ≤ 310000000 }
+    ensures { TellsDue (IsDueOfInput asked bytes.now) result }
 {
-    match scenario_of(alloc, bytes) {
-        Ok(scenario) => match reported(alloc, asked, scenario) {
-            Ok((end, text)) => Outcome::Ran { end, text },
+    match parted(bytes) {
+        Some(at) => {
+            let scenario = &bytes[..at.scenario_len];
+            let journal = &bytes[at.journal_from..];
+            of_parts(alloc, asked, scenario, journal)
+        }
+        None => of_scenario(alloc, asked, bytes),
+    }
+}
+
+/// Where a scenario ends and its journal begins, if the line between them is there: both places lie in the bytes.
+fn parted(bytes: &[u8]) -> Option<JournalAt>
+    ensures same { result ≡ journal_place bytes.now }
+    ensures inside { IfSome result (λ at. (at.scenario_len ≤ length bytes.now) × (at.journal_from ≤ length bytes.now)) }
+{
+    journal_at(bytes)
+}
+
+/// What comes of a scenario alone.
+fn of_scenario(alloc: Global, asked: Asked, text: &[u8]) -> Outcome
+    requires some { 1 ≤ asked.limit }
+    requires few { asked.limit ≤ 4000000 }
+    ensures { TellsDue (λ due. due ≡ due_alone asked text.now) result }
+{
+    if text.len() > MOST_SCENARIO_BYTES {
+        return Outcome::TooLong;
+    }
+    match scenario_of(alloc, text) {
+        Ok(scenario) => match ran(alloc, asked, scenario) {
+            Ok(outcome) => outcome,
             Err(_) => Outcome::NoMemory,
         },
         Err(refusal) => of_refusal(&refusal),
+    }
+}
+
+/// What comes of a scenario and what stands behind the line `--- journal`.
+fn of_parts(alloc: Global, asked: Asked, text: &[u8], journal: &[u8]) -> Outcome
+    requires some { 1 ≤ asked.limit }
+    requires few { asked.limit ≤ 4000000 }
+    requires short { length journal.now ≤ 310000000 }
+    ensures { TellsDue (IsDueOfRead asked (reads text.now) journal.now) result }
+{
+    match scenario_of(alloc, text) {
+        Ok(scenario) => of_journal(alloc, asked, scenario, journal),
+        Err(refusal) => of_refusal(&refusal),
+    }
+}
+
+/// What comes of a scenario with what may be its journal.
+fn of_journal(alloc: Global, asked: Asked, scenario: Scenario, journal: &[u8]) -> Outcome
+    requires some { 1 ≤ asked.limit }
+    requires few { asked.limit ≤ 4000000 }
+    requires short { length journal.now ≤ 310000000 }
+    ensures { TellsDue (IsDueOfJournal asked scenario journal.now) result }
+{
+    match read_journal(alloc, journal) {
+        Ok(entries) => match judged(alloc, asked, scenario, &entries) {
+            Ok(outcome) => outcome,
+            Err(_) => Outcome::NoMemory,
+        },
+        Err(refusal) => of_journal_refusal(refusal),
+    }
+}
+
+/// What comes of a text that is no journal.
+fn of_journal_refusal(refusal: JournalRefusal) -> Outcome
+    ensures { result ≡ of_journal_refusal refusal }
+{
+    match refusal {
+        JournalRefusal::BadLine { line, column } => {
+            Outcome::InputRefused(InputRefusal::BadJournal { line, column })
+        }
+        JournalRefusal::NoMemory => Outcome::NoMemory,
     }
 }
 
@@ -60,36 +134,10 @@ fn of_refusal(refusal: &ScenarioRefusal) -> Outcome
     ensures { result ≡ of_refusal refusal.now }
 {
     match refusal {
-        ScenarioRefusal::Refused { kind, path } => Outcome::InputRefused {
+        ScenarioRefusal::Refused { kind, path } => Outcome::InputRefused(InputRefusal::Text {
             kind: *kind,
             path: *path,
-        },
+        }),
         ScenarioRefusal::NoMemory => Outcome::NoMemory,
-    }
-}
-
-/// The end of the scenario's run, and the report of it.
-fn reported(alloc: Global, asked: Asked, scenario: Scenario) -> Result<(End, String), NoMemory>
-    requires some { 1 ≤ asked.limit }
-    requires few { asked.limit ≤ 4000000 }
-    ensures { IfOk result (λ told. RunsTo asked scenario told.0 (string_bytes told.1)) }
-{
-    let mut core = Core::boot(alloc, scenario, Order::Fixed, asked.limit)?;
-    let end = core.finish();
-    let text = report(alloc, asked.report, &core)?;
-    Ok((end, text))
-}
-
-/// This report of the run of the core, which is in fixed order.
-fn report(alloc: Global, report: Report, core: &Core) -> Result<String, NoMemory>
-    requires fixed { core.now.setup.order ≡ Fixed }
-    requires few { core.now.setup.limit ≤ 4000000 }
-    ensures { IfOk result (λ text. string_bytes text ≡ report_text report core.now.setup.scenario core.now.entries) }
-{
-    let history = core.history();
-    // the check wants to see here that the entries are no more than there is room for
-    let _entries = history.entries();
-    match report {
-        Report::Cycles => cycles_text(alloc, history, Order::Fixed),
     }
 }

@@ -11,7 +11,7 @@ pub enum Status {
     Done,
     /// The words ask for no report.
     WordsRefused,
-    /// The input is no scenario.
+    /// The input is none that the report takes.
     InputRefused,
     /// The run ended by a reboot.
     Rebooted,
@@ -25,10 +25,12 @@ pub enum Status {
     NoMemory,
     /// The input is too long.
     TooLong,
+    /// The journal that was read breaks a rule.
+    JournalBreaks,
 }
 
 impl Status {
-    /// The exit status, 0 to 8.
+    /// The exit status, 0 to 9.
     pub fn code(self) -> u8
         ensures { result ≡ code self }
     {
@@ -42,6 +44,7 @@ impl Status {
             Status::Limited => 6,
             Status::NoMemory => 7,
             Status::TooLong => 8,
+            Status::JournalBreaks => 9,
         }
     }
 

@@ -9,8 +9,9 @@ use crate::outcome::Outcome;
 use aps_io::{Sink, Source};
 use std::alloc::Global;
 
-/// Does what the words ask for: reads a scenario from the source, runs it in fixed order up to the named limit, and writes
-/// the named report of its history to the sink. The answer is the exit status, 0 to 8.
+/// Does what the words ask for: reads a scenario from the source and runs it in fixed order up to the named limit, or reads a
+/// scenario, the line `--- journal` and a journal and judges that as a history in free order up to the named limit; and writes
+/// the named report of the history to the sink. The answer is the exit status, 0 to 9.
 ///
 /// A refusal and a fault of the source are written to the sink too, as `apsim` writes them. A fault of the sink leaves a
 /// prefix of the text there, and so does want of memory.

@@ -1,7 +1,8 @@
-use Rattle.std.proofs.Common.{◌≡◌, codes, Ok, Err, sym, ◌∙◌}
+use Rattle.std.proofs.Common.{codes, Ok, Err, sym, ◌∙◌}
 use Rattle.std.proofs.lemmas.Result.{err_from_is_err_and}
 use Rattle.aps_words.specs.Command.{gen, gen_options}
-use Rattle.aps_words.proofs.Meaning.{meant, refusal_says, gen_is_read}
+use Rattle.aps_words.proofs.Meaning.{gen_is_read}
+use Rattle.aps_words.proofs.Reading.{meant, refusal_says}
 use Rattle.aps_words.proofs.command.gen_of.Goals as goal
 
 pub returns-in_err-matches-clause-same : goal.returns-in_err-matches-clause-same

@@ -1,4 +1,4 @@
-use Rattle.std.proofs.Common.{◌≡◌, List, [], ◌∷◌, ◌++◌, arith, ap, sym, ◌∙◌, map, rules}
+use Rattle.std.proofs.Common.{◌≡◌, [], ◌∷◌, ◌++◌, arith, ap, ◌∙◌, map, rules}
 use Rattle.std.proofs.lemmas.List.{map_push}
 use Rattle.aps_words.proofs.Plainness.{known-map, at_dashes, at_repeat, at_other, at_option, at_end}
 use Rattle.aps_words.proofs.plain.is_plain.Goals as goal

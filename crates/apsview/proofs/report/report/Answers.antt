@@ -1,6 +1,6 @@
 use Rattle.std.proofs.Common.{◌≡◌, ◌≤◌, length, ap, arith}
 use Rattle.aps_model.specs.History.{History}
-use Rattle.apsview.proofs.reading.report.Goals as goal
+use Rattle.apsview.proofs.report.report.Goals as goal
 
 pub cycles_text-requires-clause-few : goal.cycles_text-requires-clause-few
 cycles_text-requires-clause-few c =

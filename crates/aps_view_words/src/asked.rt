@@ -1,0 +1,142 @@
+//! The report that a list of words asks for.
+ghost use Rattle.std.specs.Prelude.{◌≡◌, [], drop, map, string_bytes, true, IfOk, IfSome};
+ghost use Rattle.clap.specs.Words.{first_value, found_of};
+ghost use Rattle.aps_words.specs.Command.{Says};
+ghost use Rattle.aps_words.specs.Plain.{is_plain};
+ghost use Rattle.aps_words.specs.Unhyphened.{with_unhyphened};
+ghost use Rattle.aps_view_words.specs.Asked as spec;
+
+use crate::options::{limit_options, thread_options, ticks_options};
+use crate::values::{thread_of, ticks_of};
+use aps_model::{Name, Nanos};
+use aps_words::options::matches_in;
+use aps_words::{WordsRefusal, is_plain, limit_of, required_in};
+use clap::ArgMatches;
+use std::alloc::Global;
+
+/// The last moment that can be asked about, in ns.
+const LAST_MOMENT: u64 = 10_000_000_000_000;
+
+/// From a tick, 0 to 1,000,000, to a later one, up to 1,000,000; or to the end, where there is none.
+#[derive(Clone, Copy, Debug, PartialEq, Eq)]
+pub struct Ticks {
+    pub from: u32,
+    pub to: Option<u32>,
+}
+
+/// What is written of a history.
+#[derive(Clone, Copy, Debug, PartialEq, Eq)]
+pub enum Report {
+    /// The cycles of each thread that have ended.
+    Cycles,
+    /// What each partition used and was allowed, by tick.
+    Csv { ticks: Ticks },
+    /// Whether each partition gets its share, and when it overspends.
+    Shares,
+    /// What each thread waits for, and how long.
+    Latency,
+    /// Why the thread of this name does or doesn't run at this moment, up to 10,000,000,000,000 ns. There is no name where
+    /// the given text is none: no thread has it.
+    Explain { thread: Option<Name>, at: Nanos },
+}
+
+/// What the program is asked for: a report of a history of up to `limit` entries, 1 to 4,000,000.
+#[derive(Clone, Copy, Debug, PartialEq, Eq)]
+pub struct Asked {
+    pub report: Report,
+    pub limit: u32,
+}
+
+/// What these words ask for (docs/FORMATS.md, "Views"): the word of a report, and then its options in any order, each at most
+/// once, as `--name value` or `--name=value`. Numbers have the ranges that `Asked` names. Without `--limit` the limit is
+/// 1,000,000 entries, without `--from` the ticks begin with 0, and without `--to` they have no end. `explain` needs
+/// `--thread`, which takes any text, and `--at`. A value that begins with a hyphen and goes on is given behind `=`.
+///
+/// All other words are refused: another report or none, `--`, an option that the report doesn't have, an option twice or
+/// without a value, a value that is none of the option's, ticks that end before they begin, any further word, and words
+/// that ask for help or for the version. `NoMemory` comes where memory runs out, and tells nothing of the words.
+pub fn asked_of(alloc: Global, words: &[String]) -> Result<Asked, WordsRefusal>
+    ensures same { Says result (spec.asked (map string_bytes words.now)) }
+    ensures ranges { IfOk result spec.HasRanges }
+{
+    let [word, options @ ..] = words else {
+        return Err(WordsRefusal::Words);
+    };
+    if !is_plain(alloc, options)? {
+        return Err(WordsRefusal::Words);
+    }
+    match word.as_str() {
+        "cycles" => limited(alloc, words, Report::Cycles),
+        "csv" => csv_of(alloc, words),
+        "shares" => limited(alloc, words, Report::Shares),
+        "latency" => limited(alloc, words, Report::Latency),
+        "explain" => explain_of(alloc, words),
+        _ => Err(WordsRefusal::Words),
+    }
+}
+
+/// A report that has but the option of each, by the words behind the first.
+fn limited(alloc: Global, words: &[String], report: Report) -> Result<Asked, WordsRefusal>
+    requires plain { is_plain [] (drop 1 (map string_bytes words.now)) ≡ true }
+    requires ranges { spec.ReportHasRanges report }
+    ensures same { Says result (with_unhyphened spec.limit_options (spec.limited report) (drop 1 (map string_bytes words.now))) }
+    ensures ranges { IfOk result spec.HasRanges }
+{
+    let matches = matches_in(limit_options(alloc)?, words)?;
+    match limited_from(&matches, report) {
+        Some(asked) => Ok(asked),
+        None => Err(WordsRefusal::Words),
+    }
+}
+
+/// `csv`, by the words behind the first.
+fn csv_of(alloc: Global, words: &[String]) -> Result<Asked, WordsRefusal>
+    requires plain { is_plain [] (drop 1 (map string_bytes words.now)) ≡ true }
+    ensures same { Says result (with_unhyphened spec.ticks_options spec.csv (drop 1 (map string_bytes words.now))) }
+    ensures ranges { IfOk result spec.HasRanges }
+{
+    let matches = matches_in(ticks_options(alloc)?, words)?;
+    match csv_from(&matches) {
+        Some(asked) => Ok(asked),
+        None => Err(WordsRefusal::Words),
+    }
+}
+
+/// `explain`, by the words behind the first.
+fn explain_of(alloc: Global, words: &[String]) -> Result<Asked, WordsRefusal>
+    requires plain { is_plain [] (drop 1 (map string_bytes words.now)) ≡ true }
+    ensures same { Says result (with_unhyphened spec.thread_options spec.explain (drop 1 (map string_bytes words.now))) }
+    ensures ranges { IfOk result spec.HasRanges }
+{
+    let matches = matches_in(thread_options(alloc)?, words)?;
+    match explain_from(&matches) {
+        Some(asked) => Ok(asked),
+        None => Err(WordsRefusal::Words),
+    }
+}
+
+fn limited_from(matches: &ArgMatches<'_>, report: Report) -> Option<Asked>
+    requires ranges { spec.ReportHasRanges report }
+    ensures same { result ≡ spec.limited report (first_value (found_of matches.now)) }
+    ensures ranges { IfSome result spec.HasRanges }
+{
+    let limit = limit_of(matches.get_str("limit"))?;
+    Some(Asked { report, limit })
+}
+
+fn csv_from(matches: &ArgMatches<'_>) -> Option<Asked>
+    ensures same { result ≡ spec.csv (first_value (found_of matches.now)) }
+    ensures ranges { IfSome result spec.HasRanges }
+{
+    let ticks = ticks_of(matches.get_str("from"), matches.get_str("to"))?;
+    limited_from(matches, Report::Csv { ticks })
+}
+
+fn explain_from(matches: &ArgMatches<'_>) -> Option<Asked>
+    ensures same { result ≡ spec.explain (first_value (found_of matches.now)) }
+    ensures ranges { IfSome result spec.HasRanges }
+{
+    let thread = thread_of(matches.get_str("thread"))?;
+    let at = required_in(0, LAST_MOMENT, matches.get_str("at"))?;
+    limited_from(matches, Report::Explain { thread, at })
+}

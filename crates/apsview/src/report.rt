@@ -1,0 +1,24 @@
+//! The report of a history.
+ghost use Rattle.std.specs.Prelude.{◌≡◌, ◌≤◌, option_map, string_bytes, IfOk};
+ghost use Rattle.apsview.specs.Report.{report_text};
+
+use aps_core::Core;
+use aps_lives::text::cycles_text;
+use aps_model::NoMemory;
+use aps_view_words::Report;
+use std::alloc::Global;
+
+/// This report of what the core has recorded, or none where it is asked for a thread that the scenario hasn't.
+pub fn report(alloc: Global, report: Report, core: &Core) -> Result<Option<String>, NoMemory>
+    requires few { core.now.setup.limit ≤ 4000000 }
+    ensures { IfOk result (λ text. option_map string_bytes text ≡ report_text report core.now.setup.scenario core.now.entries) }
+{
+    let history = core.history();
+    let order = core.order();
+    // the check wants to see here that the entries are no more than there is room for
+    let _entries = history.entries();
+    match report {
+        Report::Cycles => Ok(Some(cycles_text(alloc, history, order)?)),
+        Report::Csv { .. } | Report::Shares | Report::Latency | Report::Explain { .. } => Ok(None),
+    }
+}
