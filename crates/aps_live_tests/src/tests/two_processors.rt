@@ -1,0 +1,33 @@
+//! A run of two processors.
+ghost use Rattle.std.specs.Prelude.{◌≤◌, IfOk};
+ghost use Rattle.aps_live_tests.specs.Opened.{HasFour};
+ghost use Rattle.aps_live.specs.Seats.{HasAllCpus, IsSeatOf};
+
+use aps_live::{Live, LiveSeat};
+use aps_scenario::scenario_of;
+use std::alloc::{AllocError, Global};
+use std::test::Fail;
+
+const TWO_PROCESSORS: &str = r#"version = 1
+cpus = 2
+window = 10
+ticks = 10
+partition = [{name = "A", budget = 50}]
+thread = [
+  {name = "s0", priority = 20, program = ["run forever"]},
+  {name = "s1", priority = 20, program = ["run forever"]},
+  {name = "a0", partition = "A", program = ["run forever"]},
+  {name = "a1", partition = "A", program = ["run forever"]},
+]
+"#;
+
+/// The run, with room for 1,000 entries, and the seat of both processors.
+pub fn opened(alloc: Global) -> Result<(Live, LiveSeat), Fail>
+    ensures { IfOk result (λ r. IsSeatOf r.0 r.1 × HasAllCpus r.1 × HasFour r.0) }
+{
+    let scenario = scenario_of(alloc, TWO_PROCESSORS.as_bytes())?;
+    if scenario.threads().len() < 4 {
+        return Err(AllocError)?;
+    }
+    Ok(Live::open(alloc, scenario, 1000)?)
+}
