@@ -1,14 +1,10 @@
 -- Tests along a history.
-use Rattle.std.proofs.Common.{◌≡◌, ℕ, ◌/◌, ◌+◌, ◌<◌, ◌≤◌, List, [], ◌∷◌, ◌++◌, Bool, true, false, ◌&&◌, ◌||◌, nat_le, refl, sym, ap, ◌∙◌, append_assoc, append-nil, arith, All}
+use Rattle.std.proofs.Common.{◌≡◌, ℕ, ◌/◌, ◌+◌, ◌<◌, ◌≤◌, List, [], ◌∷◌, ◌++◌, Bool, false, ◌&&◌, ◌||◌, nat_le, refl, sym, ap, ◌∙◌, append_assoc, append-nil}
 use Rattle.std.specs.List.{AllByRecursion, list_any}
 use Rattle.aps_model.specs.declared.entry.Entry.{Entry}
 use Rattle.aps_model.specs.Loaded.{is_among}
-use Rattle.aps_samples.specs.Along.{any_along}
-use Rattle.aps_samples.proofs.Tests.{among_before, among_none, among_split, and_false, or_assoc, or_false, shuffled}
-
--- a test of the entry in its place, and of its tick
-abbrev pub in_ticks : (List Entry → Entry → Bool) → (Entry → ℕ) → ℕ → ℕ → List Entry → Entry → Bool
-in_ticks test tick_of a b before e = test before e && is_among a b (tick_of e)
+use Rattle.aps_samples.specs.Along.{any_along, any_of, in_ticks}
+use Rattle.aps_samples.proofs.Tests.{among_before, among_none, among_past, among_split, and_false, or_assoc, or_false, shuffled}
 
 -- one entry more
 pub along_more : (f : List Entry → Entry → Bool) (before es : List Entry) (e : Entry) → any_along f before (es ++ e ∷ []) ≡ (any_along f before es || f (before ++ es) e)
@@ -51,6 +47,26 @@ pub along_any : (test : Entry → Bool) (before es : List Entry) → list_any te
 along_any test before [] = refl
 along_any test before (e ∷ es) = ap (λ b. test e || b) (along_any test (before ++ e ∷ []) es)
 
--- some entry that ends in ticks a to b-1 passes the test
-abbrev pub any_of : (List Entry → Entry → Bool) → ℕ → ℕ → ℕ → List Entry → Bool
-any_of test tick a b h = any_along (in_ticks test (λ e. e.to / tick) a b) [] h
+-- ticks that are past
+pub along_past : (test : List Entry → Entry → Bool) (tick_of : Entry → ℕ) (a b : ℕ) (before es : List Entry) → AllByRecursion (λ (e : Entry). b ≤ tick_of e) es
+    → any_along (in_ticks test tick_of a b) before es ≡ false
+along_past test tick_of a b before [] past = refl
+along_past test tick_of a b before (e ∷ es) past =
+    ap (λ t. (test before e && t) || any_along (in_ticks test tick_of a b) (before ++ e ∷ []) es) (among_past a b (tick_of e) past.0)
+    ∙ ap (λ t. t || any_along (in_ticks test tick_of a b) (before ++ e ∷ []) es) (and_false (test before e))
+    ∙ along_past test tick_of a b (before ++ e ∷ []) es past.1
+
+-- two histories, one after the other
+pub along_append : (f : List Entry → Entry → Bool) (before xs ys : List Entry) → any_along f before (xs ++ ys) ≡ (any_along f before xs || any_along f (before ++ xs) ys)
+along_append f before [] ys = ap (λ h. any_along f h ys) (sym (append-nil before))
+along_append f before (d ∷ xs) ys =
+    ap (λ b. f before d || b) (along_append f (before ++ d ∷ []) xs ys)
+    ∙ or_assoc (f before d) (any_along f (before ++ d ∷ []) xs) (any_along f ((before ++ d ∷ []) ++ xs) ys)
+    ∙ ap (λ h. (f before d || any_along f (before ++ d ∷ []) xs) || any_along f h ys) (append_assoc before (d ∷ []) xs)
+
+-- what comes after these ticks tells nothing of them
+pub any_longer : (test : List Entry → Entry → Bool) (tick a b : ℕ) (h later : List Entry) → AllByRecursion (λ (e : Entry). b ≤ e.to / tick) later → any_of test tick a b (h ++ later) ≡ any_of test tick a b h
+any_longer test tick a b h later past =
+    along_append (in_ticks test (λ e. e.to / tick) a b) [] h later
+    ∙ ap (λ t. any_of test tick a b h || t) (along_past test (λ e. e.to / tick) a b h later past)
+    ∙ or_false (any_of test tick a b h)

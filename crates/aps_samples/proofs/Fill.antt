@@ -1,5 +1,5 @@
 -- A loop that fills a list place by place.
-use Rattle.std.proofs.Common.{◌≡◌, ℕ, zero, suc, [], ◌∷◌, refl, ap, ◌+◌, ◌<◌, ◌≤◌, List, length, get_or, map, ◌∙◌, sym, subst, arith}
+use Rattle.std.proofs.Common.{◌≡◌, ℕ, zero, suc, [], ◌∷◌, refl, ◌+◌, ◌<◌, ◌≤◌, List, length, get_or, map, ◌∙◌, sym, subst, arith}
 use Rattle.std.specs.List.{range_with_len}
 use Rattle.std.proofs.Math.ListN.{length-set, set}
 use Rattle.std.proofs.lemmas.List.Edits.{fill_by_more}

@@ -3,7 +3,15 @@ pub mod Fill
 pub mod Texts
 pub mod Along
 pub mod Ticks
+pub mod Changes
+pub mod Looks
 pub mod Notes
 pub mod Passing
 pub mod Retraced
-pub mod Samples
+pub mod Freed
+pub mod Billing
+pub mod Cuts
+pub mod Steps
+pub mod Ticked
+pub mod Begun
+pub mod Fields

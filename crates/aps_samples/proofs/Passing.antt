@@ -1,9 +1,8 @@
 -- A tick passes.
-use Rattle.std.proofs.Common.{◌≡◌, ℕ, ◌/◌, ◌+◌, ◌*◌, ◌<◌, ◌≤◌, List, [], ◌∷◌, ◌++◌, Bool, true, false, not, ◌&&◌, ◌||◌, nat_lt, nat_le, slice_index, slice_index_or, is_some, replicate, refl, sym, ap, ◌∙◌, arith}
+use Rattle.std.proofs.Common.{◌≡◌, ℕ, ◌/◌, ◌+◌, ◌<◌, ◌≤◌, List, [], Bool, true, false, ◌&&◌, ◌||◌, nat_lt, nat_le, slice_index, is_some, replicate, refl, sym, ap, ◌∙◌, arith}
 use Rattle.std.proofs.lemmas.Bool.Decides.{nat_tests}
 use Rattle.std.proofs.lemmas.List.{get_or-replicate}
 use Rattle.aps_model.specs.declared.entry.Entry.{Entry}
-use Rattle.aps_model.specs.After.{state_after}
 use Rattle.aps_model.specs.Loaded.{has_starved, is_among}
 use Rattle.aps_model.specs.Scenario.{Scenario}
 use Rattle.aps_samples.specs.declared.lasts.Lasts.{Lasts}
@@ -11,22 +10,17 @@ use Rattle.aps_samples.specs.declared.note.Note.{Note}
 use Rattle.aps_samples.specs.Lasts.{AreLasts, IsLast}
 use Rattle.aps_samples.specs.Note.{IsNote}
 use Rattle.aps_samples.specs.Passed.{IsPassed, later, no_lasts}
-use Rattle.aps_samples.specs.Picks.{had_candidate, is_in_budget, lacks, was_out}
-use Rattle.aps_samples.proofs.Along.{along_any, along_no_tick, along_split, any_of}
+use Rattle.aps_samples.specs.Along.{any_of}
+use Rattle.aps_samples.specs.Picks.{changes_by, changes_in, lacks, lacks_test, out_test, was_out}
+use Rattle.aps_samples.proofs.Along.{along_any, along_no_tick, along_split}
 use Rattle.aps_samples.proofs.Tests.{and_false}
 
 -- ---- the tests of the picks, as tests along the history
 
-abbrev pub lacks_test : Scenario → ℕ → List Entry → Entry → Bool
-lacks_test scenario p before e = not (had_candidate (state_after scenario (before ++ e ∷ [])) (before ++ e ∷ []) e.cpu p)
-
-abbrev pub out_test : Scenario → ℕ → List Entry → Entry → Bool
-out_test scenario p before e = not (is_in_budget (state_after scenario (before ++ e ∷ [])) (before ++ e ∷ []) p)
-
 abbrev pub starved_test : List Entry → Entry → Bool
 starved_test before e = is_some e.starved
 
-abbrev pub tick_by : ℕ → Entry → ℕ
+abbrev tick_by : ℕ → Entry → ℕ
 tick_by tick e = e.to / tick
 
 pub lacks_is : (scenario : Scenario) (h : List Entry) (p a b : ℕ) → lacks scenario h p a b ≡ any_of (lacks_test scenario p) scenario.shape.tick a b h
@@ -36,6 +30,10 @@ lacks_is scenario h p a b = refl
 pub out_is : (scenario : Scenario) (h : List Entry) (p a b : ℕ) → was_out scenario h p a b ≡ any_of (out_test scenario p) scenario.shape.tick a b h
 unfolding was_out
 out_is scenario h p a b = refl
+
+pub changes_are : (scenario : Scenario) (h : List Entry) (a b : ℕ) → changes_in scenario h a b ≡ any_of (changes_by scenario) scenario.shape.tick a b h
+unfolding changes_in
+changes_are scenario h a b = refl
 
 pub starved_is : (tick : ℕ) (h : List Entry) (a b : ℕ) → has_starved tick h a b ≡ any_of starved_test tick a b h
 starved_is tick h a b = along_any (λ (e : Entry). is_some e.starved && is_among a b (e.to / tick)) [] h
@@ -69,6 +67,9 @@ out_passes scenario h p = passes_same (was_out scenario h p) (λ a b. any_of (ou
 
 starved_passes : (tick : ℕ) (h : List Entry) → PassesBy (has_starved tick h)
 starved_passes tick h = passes_same (has_starved tick h) (λ a b. any_of starved_test tick a b h) (starved_is tick h) (any_passes starved_test tick h)
+
+changes_pass : (scenario : Scenario) (h : List Entry) → PassesBy (changes_in scenario h)
+changes_pass scenario h = passes_same (changes_in scenario h) (λ a b. any_of (changes_by scenario) scenario.shape.tick a b h) (changes_are scenario h) (any_passes (changes_by scenario) scenario.shape.tick h)
 
 last_none : (was : ℕ → ℕ → Bool) → PassesBy was → IsLast was 0 0
 last_none was passes = record { same = λ a. passes.none a ∙ nothing a; within = omega arith }
@@ -106,6 +107,7 @@ lasts_none scenario h = record {
   lacked = λ p less. from (lacks scenario h p) p less (lacks_passes scenario h p);
   out = λ p less. from (was_out scenario h p) p less (out_passes scenario h p);
   starved = last_none (has_starved scenario.shape.tick h) (starved_passes scenario.shape.tick h);
+  changed = last_none (changes_in scenario h) (changes_pass scenario h);
 }
   where
     from : (was : ℕ → ℕ → Bool) (p : ℕ) → p < 32 → PassesBy was → IsLast was 0 (slice_index (replicate 32 0) p)
@@ -117,6 +119,7 @@ lasts_more scenario h j note before after is are passed = record {
   lacked = λ p less. one (lacks scenario h p) _ _ _ (lacks_passes scenario h p) (passed.lacked p less) (sym (is.lacking p less)) (are.lacked p less);
   out = λ p less. one (was_out scenario h p) _ _ _ (out_passes scenario h p) (passed.out p less) (sym (is.out p less)) (are.out p less);
   starved = one (has_starved scenario.shape.tick h) _ _ _ (starved_passes scenario.shape.tick h) passed.starved (sym is.starved) are.starved;
+  changed = one (changes_in scenario h) _ _ _ (changes_pass scenario h) passed.changed (sym is.changed) are.changed;
 }
   where
     one : (was : ℕ → ℕ → Bool) (last next : ℕ) (t : Bool) → PassesBy was → next ≡ later last t j → was j (j + 1) ≡ t → IsLast was j last → IsLast was (j + 1) next

@@ -12,12 +12,9 @@ use Rattle.aps_laws.proofs.Prefixes.{goes_on}
 use Rattle.aps_laws.proofs.WaitFacts.{test_ne}
 use Rattle.aps_laws.specs.Runs.{GoesOn}
 use Rattle.aps_core.specs.Run.{Run, Setup}
+use Rattle.aps_samples.specs.Retraced.{front}
 use Rattle.aps_core.specs.Turn.{IsTaken, with_entry}
 use Rattle.aps_core.proofs.Turns.{cpus_exist}
-
--- the run of the first entries
-abbrev pub front : Scenario → Order → ℕ → List Entry → ℕ → Run
-front scenario order limit h i = record { setup = record { scenario = scenario; order = order; limit = limit }; entries = take i h }
 
 -- the history by the entries before one, that one, and those after it
 pub parted : (h : List Entry) (i : ℕ) (e : Entry) → i < length h → get_or h i e ≡ e → h ≡ take i h ++ e ∷ drop (i + 1) h

@@ -1,8 +1,5 @@
 -- Tests, and when a tick is among others.
-use Rattle.std.proofs.Common.{◌≡◌, ℕ, ◌+◌, ◌<◌, ◌≤◌, List, [], ◌∷◌, ◌++◌, length, take, get_or, Bool, true, false, ◌&&◌, ◌||◌, nat_eq, nat_lt, nat_le, refl, sym, ap, ◌∙◌, arith}
-use Rattle.std.specs.List.{list_any}
-use Rattle.std.proofs.lemmas.List.{take_more}
-use Rattle.std.proofs.lemmas.List.Folds.{list_any-append}
+use Rattle.std.proofs.Common.{◌≡◌, ℕ, ◌+◌, ◌<◌, ◌≤◌, Bool, true, false, ◌&&◌, ◌||◌, nat_le, refl, arith}
 use Rattle.std.proofs.lemmas.Bool.Decides.{nat_tests}
 use Rattle.aps_model.specs.Loaded.{is_among}
 
@@ -21,6 +18,10 @@ and_true false = refl
 pub or_assoc : (a b c : Bool) → (a || (b || c)) ≡ ((a || b) || c)
 or_assoc true b c = refl
 or_assoc false b c = refl
+
+pub and_assoc : (a b c : Bool) → ((a && b) && c) ≡ (a && (b && c))
+and_assoc true b c = refl
+and_assoc false b c = refl
 
 -- a test of two parts, here and in the rest
 pub shuffled : (q x k y r s : Bool) → ((q && (x || (k && y))) || (r || (k && s))) ≡ (((q && x) || r) || (k && ((q && y) || s)))
@@ -49,7 +50,5 @@ among_same j t is = grind (arith, nat_tests)
 pub among_after : (j t : ℕ) → j < t → is_among j (j + 1) t ≡ false
 among_after j t far = grind (arith, nat_tests)
 
--- some item passes, of those up to and with this one
-pub any_more : {A : Type 0} (test : A → Bool) (xs : List A) (i : ℕ) (x : A) → i < length xs → get_or xs i x ≡ x → list_any test (take (i + 1) xs) ≡ (list_any test (take i xs) || test x)
-any_more {A} test xs i x less is =
-    ap (list_any test) (take_more xs i x less ∙ ap (λ (y : A). take i xs ++ y ∷ []) is) ∙ list_any-append test (take i xs) (x ∷ []) ∙ ap (λ b. list_any test (take i xs) || b) (or_false (test x))
+pub among_past : (a b t : ℕ) → b ≤ t → is_among a b t ≡ false
+among_past a b t far = grind (arith, nat_tests)

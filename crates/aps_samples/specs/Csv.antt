@@ -1,6 +1,6 @@
 -- The samples as lines of numbers with commas between them.
 use lib.Chars.{codes}
-use Rattle.std.specs.Prelude.{ℕ, ◌+◌, ◌-◌, ◌*◌, ◌++◌, min, List, length, slice_index, slice_index_or, Bool, false, if◌then◌else◌}
+use Rattle.std.specs.Prelude.{ℕ, ◌+◌, ◌-◌, ◌*◌, ◌++◌, min, List, length, slice_index, slice_index_or, Bool, false, unwrap_or, if◌then◌else◌}
 use Rattle.std.specs.List.{flat_map, range_with_len}
 use Rattle.std.specs.Fmt.{decimal}
 use Rattle.aps_model.specs.declared.entry.Entry.{Entry}
@@ -9,6 +9,7 @@ use Rattle.aps_model.specs.After.{state_after}
 use Rattle.aps_model.specs.Loaded.{finished_ticks}
 use Rattle.aps_model.specs.Scenario.{Scenario}
 use Rattle.aps_samples.specs.declared.sample.Sample.{Sample}
+use Rattle.aps_samples.specs.declared.table.Ticks.{Ticks}
 use Rattle.aps_samples.specs.Sample.{sample_of}
 
 -- the cells of a partition in the first line
@@ -43,8 +44,12 @@ sample_line tick rows sample =
 abbrev pub line_at : Scenario → List Entry → ℕ → List ℕ
 line_at scenario h j = sample_line scenario.shape.tick (length (state_after scenario h).rows) (sample_of scenario h j)
 
--- a line of titles, by the rows that stand last, and a line for each finished tick from one to before another
-abbrev pub csv_text : Scenario → List Entry → ℕ → ℕ → List ℕ
-csv_text scenario h first past =
+-- the tick before which the lines end, where so many are finished
+abbrev pub past_of : Ticks → ℕ → ℕ
+past_of ticks finished = min finished (unwrap_or ticks.to finished)
+
+-- a line of titles, by the rows that stand last, and a line for each of these of the finished ticks
+abbrev pub csv_text : Scenario → List Entry → Ticks → List ℕ
+csv_text scenario h ticks =
     head_line (state_after scenario h).rows
-    ++ flat_map (line_at scenario h) (range_with_len first (min past (finished_ticks scenario.shape h) - first))
+    ++ flat_map (line_at scenario h) (range_with_len ticks.from (past_of ticks (finished_ticks scenario.shape h) - ticks.from))

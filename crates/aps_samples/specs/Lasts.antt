@@ -4,7 +4,7 @@ use Rattle.aps_model.specs.declared.entry.Entry.{Entry}
 use Rattle.aps_model.specs.Loaded.{has_starved}
 use Rattle.aps_model.specs.Scenario.{Scenario}
 use Rattle.aps_samples.specs.declared.lasts.Lasts.{Lasts}
-use Rattle.aps_samples.specs.Picks.{lacks, was_out}
+use Rattle.aps_samples.specs.Picks.{changes_in, lacks, was_out}
 
 -- of ticks below j, this is the one after the last in which it was so, or 0
 pub record IsLast (was : ℕ → ℕ → Bool) (j after : ℕ) : Type 0 where
@@ -15,3 +15,4 @@ pub record AreLasts (scenario : Scenario) (h : List Entry) (j : ℕ) (lasts : La
   pub lacked : (p : ℕ) → p < 32 → IsLast (lacks scenario h p) j (slice_index lasts.lacked p)
   pub out : (p : ℕ) → p < 32 → IsLast (was_out scenario h p) j (slice_index lasts.out p)
   pub starved : IsLast (has_starved scenario.shape.tick h) j lasts.starved
+  pub changed : IsLast (changes_in scenario h) j lasts.changed

@@ -1,7 +1,12 @@
 pub mod Along
 pub mod Picks
+pub mod Look
 pub mod Sample
 pub mod Note
 pub mod Passed
 pub mod Lasts
+pub mod Retraced
+pub mod Sums
+pub mod Window
+pub mod Pass
 pub mod Csv

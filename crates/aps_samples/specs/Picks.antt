@@ -1,16 +1,16 @@
 -- Which partitions had work at a pick, and which had had their share.
-use Rattle.std.specs.Prelude.{ℕ, ◌/◌, ◌+◌, ◌*◌, ◌++◌, List, [], ◌∷◌, Bool, false, not, ◌&&◌, ◌||◌, nat_eq, Option, Some, None}
+use Rattle.std.specs.Prelude.{ℕ, ◌++◌, List, [], ◌∷◌, length, Bool, false, not, ◌&&◌, ◌||◌, nat_eq, nat_lt, Option, Some, None}
 use Rattle.aps_model.specs.declared.entry.Entry.{Entry}
+use Rattle.aps_model.specs.declared.merit.PartFacts.{PartFacts}
 use Rattle.aps_model.specs.declared.state.Pick.{Pick}
 use Rattle.aps_model.specs.After.{state_after}
 use Rattle.aps_model.specs.Budget.{part_at}
-use Rattle.aps_model.specs.Loaded.{is_among}
 use Rattle.aps_model.specs.Pick.{contenders}
 use Rattle.aps_model.specs.Scenario.{Scenario}
 use Rattle.aps_model.specs.SchedulerState.{SchedulerState, cpu_at}
 use Rattle.aps_core.specs.Scan.{has_candidate}
 use Rattle.aps_load_laws.specs.Passing.{parts_now}
-use Rattle.aps_samples.specs.Along.{any_along}
+use Rattle.aps_samples.specs.Along.{any_of}
 
 -- the pick bills this partition
 abbrev pub bills : Option Pick → ℕ → Bool
@@ -26,19 +26,31 @@ had_candidate s h c p = bills (cpu_at s c).running p || has_candidate (parts_now
 abbrev pub is_in_budget : SchedulerState → List Entry → ℕ → Bool
 is_in_budget s h p = (part_at (parts_now s h) p).funded
 
--- at the pick of the entry, which ends in one of the ticks a to b-1, the partition had no candidate
-abbrev pub lacks_by : Scenario → ℕ → ℕ → ℕ → List Entry → Entry → Bool
-lacks_by scenario a b p before e =
-    not (had_candidate (state_after scenario (before ++ e ∷ [])) (before ++ e ∷ []) e.cpu p) && is_among a b (e.to / scenario.shape.tick)
+-- somebody was picked, out of budget and not critically: where this is what the pick fixed, and the partitions stand so
+abbrev pub is_unfunded : List PartFacts → Option ℕ → Option Pick → Bool
+is_unfunded parts None pick = false
+is_unfunded parts (Some x) None = false
+is_unfunded parts (Some x) (Some pick) = not (part_at parts pick.partition).funded && not pick.critical
 
--- at some pick of ticks a to b-1 the partition had no candidate
+-- at the pick of the entry, which follows on these, the partition had no candidate
+abbrev pub lacks_test : Scenario → ℕ → List Entry → Entry → Bool
+lacks_test scenario p before e = not (had_candidate (state_after scenario (before ++ e ∷ [])) (before ++ e ∷ []) e.cpu p)
+
+-- at some pick of ticks a to b-1 it had none
 unfoldable pub lacks : Scenario → List Entry → ℕ → ℕ → ℕ → Bool
-lacks scenario h p a b = any_along (lacks_by scenario a b p) [] h
+lacks scenario h p a b = any_of (lacks_test scenario p) scenario.shape.tick a b h
 
 -- the same of a partition that wasn't in budget: it had had its whole share
-abbrev pub out_by : Scenario → ℕ → ℕ → ℕ → List Entry → Entry → Bool
-out_by scenario a b p before e =
-    not (is_in_budget (state_after scenario (before ++ e ∷ [])) (before ++ e ∷ []) p) && is_among a b (e.to / scenario.shape.tick)
+abbrev pub out_test : Scenario → ℕ → List Entry → Entry → Bool
+out_test scenario p before e = not (is_in_budget (state_after scenario (before ++ e ∷ [])) (before ++ e ∷ []) p)
 
 unfoldable pub was_out : Scenario → List Entry → ℕ → ℕ → ℕ → Bool
-was_out scenario h p a b = any_along (out_by scenario a b p) [] h
+was_out scenario h p a b = any_of (out_test scenario p) scenario.shape.tick a b h
+
+-- the step of the entry, which follows on these, made a change
+abbrev pub changes_by : Scenario → List Entry → Entry → Bool
+changes_by scenario before e = nat_lt (length (state_after scenario before).changes) (length (state_after scenario (before ++ e ∷ [])).changes)
+
+-- some step of ticks a to b-1 did
+unfoldable pub changes_in : Scenario → List Entry → ℕ → ℕ → Bool
+changes_in scenario h a b = any_of (changes_by scenario) scenario.shape.tick a b h

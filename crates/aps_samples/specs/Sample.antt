@@ -8,6 +8,7 @@ use Rattle.aps_model.specs.Loaded.{has_change, has_starved, state_of_tick}
 use Rattle.aps_model.specs.Partition.{row_or_none}
 use Rattle.aps_model.specs.Scenario.{Scenario}
 use Rattle.aps_model.specs.Usage.{critical_used, used}
+use Rattle.aps_load_laws.specs.FreeTime.{free_used}
 use Rattle.aps_samples.specs.declared.sample.Sample.{Sample}
 use Rattle.aps_samples.specs.Picks.{lacks, was_out}
 
@@ -29,6 +30,10 @@ used_at scenario h j p = used scenario.shape.tick h p (first_at scenario h j) (j
 
 abbrev pub critical_at : Scenario → List Entry → ℕ → ℕ → ℕ
 critical_at scenario h j p = critical_used scenario.shape.tick h p (first_at scenario h j) (j + 1)
+
+-- what it ran in free time there
+abbrev pub free_at : Scenario → List Entry → ℕ → ℕ → ℕ
+free_at scenario h j p = free_used scenario scenario.shape.tick h p (first_at scenario h j) (j + 1)
 
 -- what its budget allows in a window, by the rows of tick j; 0 where it didn't exist
 abbrev pub allowance_at : Scenario → List Entry → ℕ → ℕ → ℕ
@@ -66,6 +71,7 @@ sample_of scenario h j = record {
     used = of_each (used_at scenario h j);
     critical = of_each (critical_at scenario h j);
   };
+  free = of_each (free_at scenario h j);
   allowance = of_each (allowance_at scenario h j);
   demand = of_each (λ p. is_full scenario h j && has_work scenario h j p);
   had = of_each (had_share scenario h j);

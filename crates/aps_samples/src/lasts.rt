@@ -7,12 +7,13 @@ use crate::note::Note;
 const PARTITIONS: usize = 32;
 
 /// Of the ticks that have passed, the one after the last in which each partition had no candidate at some pick, the same for
-/// one that wasn't in budget, and for a pick with a starved partition. It is 0 where there was none.
+/// one that wasn't in budget, for a pick with a starved partition, and for a change. It is 0 where there was none.
 #[derive(Clone, Copy)]
 pub struct Lasts {
     pub lacked: [u64; PARTITIONS],
     pub out: [u64; PARTITIONS],
     pub starved: u64,
+    pub changed: u64,
 }
 
 impl Lasts {
@@ -24,6 +25,7 @@ impl Lasts {
             lacked: [0; PARTITIONS],
             out: [0; PARTITIONS],
             starved: 0,
+            changed: 0,
         }
     }
 
@@ -35,6 +37,7 @@ impl Lasts {
         self.lacked = all_later(&self.lacked, &note.lacking, j);
         self.out = all_later(&self.out, &note.out, j);
         self.starved = later(self.starved, note.starved, j);
+        self.changed = later(self.changed, note.changed, j);
     }
 }
 

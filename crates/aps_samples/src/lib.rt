@@ -1,13 +1,17 @@
-//! Samples of a recorded history: what is told of the window that ends with each finished tick. And the texts that are made of
-//! them.
+//! Samples of a recorded history: what is told of the window that ends with each finished tick. One pass over the entries
+//! gives one sample after the other. And the texts that are made of them.
 #![tactic(auto)]
 
 mod lasts;
+mod look;
 mod note;
-mod noting;
+mod pass;
+mod retracing;
 mod sample;
-mod table;
+mod sums;
+pub mod table;
 mod truth;
 
+pub use pass::Samples;
+pub use retracing::rows_after;
 pub use sample::Sample;
-pub use table::csv;

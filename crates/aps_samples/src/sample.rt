@@ -1,22 +1,25 @@
 //! The sample of a finished tick.
-ghost use Rattle.std.specs.Prelude.{◌≡◌, ℕ, ◌+◌, ◌-◌, ◌<◌, ◌≤◌, slice_index, length, nat_lt, nat_le, not, ◌&&◌};
+ghost use Rattle.std.specs.Prelude.{◌≡◌, ℕ, ◌+◌, ◌≤◌, slice_index, nat_lt, not, ◌&&◌};
 ghost use Rattle.aps_model.specs.After.{state_after};
-ghost use Rattle.aps_model.specs.Loaded.{has_change, is_among};
+ghost use Rattle.aps_model.specs.Loaded.{has_change};
 ghost use Rattle.aps_samples.specs.Lasts.{AreLasts};
 ghost use Rattle.aps_samples.specs.Note.{IsNote};
+ghost use Rattle.aps_samples.specs.Picks.{changes_in};
 ghost use Rattle.aps_samples.specs.Sample.{of_each, sample_of};
+ghost use Rattle.aps_samples.specs.Window.{AreOfWindow};
 
 use crate::lasts::Lasts;
 use crate::note::Note;
-use crate::truth::{and, and_not_below, or};
-use aps_model::{Change, History, Nanos, Usage};
+use crate::sums::Sums;
+use crate::truth::and_not_below;
+use aps_model::{History, Nanos, Usage};
 
 const PARTITIONS: usize = 32;
 
 /// What is told of the window that ends with a finished tick: that tick, the window in ticks, and whether there are as many
 /// ticks (`full`), and then no change stands in it (`unchanged`), nor has any of its picks a starved partition (`steady`).
-/// Of each partition: what it used and what was critical of that, what its budget allows (ns), whether the window is full and
-/// it had a candidate at each pick in it, and whether at some pick it wasn't in budget.
+/// Of each partition: what it used, what was critical of that, what it ran in free time and what its budget allows (ns),
+/// whether the window is full and it had a candidate at each pick in it, and whether at some pick it wasn't in budget.
 #[derive(Clone, Copy)]
 pub struct Sample {
     pub tick: u64,
@@ -25,61 +28,38 @@ pub struct Sample {
     pub unchanged: bool,
     pub steady: bool,
     pub usage: Usage,
+    pub free: [Nanos; PARTITIONS],
     pub allowance: [Nanos; PARTITIONS],
     pub demand: [bool; PARTITIONS],
     pub had: [bool; PARTITIONS],
 }
 
-/// The sample of tick `j`, of which this is the note, after all ticks up to it.
-pub fn sample_at(
-    history: &History,
-    changes: &[Change],
-    note: &Note,
-    lasts: &Lasts,
-    j: u64,
-) -> Sample
+/// The sample of tick `j`, of which this is the note, after all ticks up to it, and with the sums of its window.
+pub fn sample_at(history: &History, note: &Note, lasts: &Lasts, sums: &Sums, j: u64) -> Sample
     requires note { IsNote history.now.scenario history.now.entries j note.now }
     requires lasts { AreLasts history.now.scenario history.now.entries (j + 1) lasts.now }
-    requires changes { changes.now ≡ (state_after history.now.scenario history.now.entries).changes }
+    requires sums { AreOfWindow history.now.scenario history.now.entries j sums.now }
+    requires changes { (a b : ℕ) → has_change (state_after history.now.scenario history.now.entries).changes a b ≡ changes_in history.now.scenario history.now.entries a b }
     requires j { j ≤ 100000000 }
     ensures { result ≡ sample_of history.now.scenario history.now.entries j }
 {
-    let tick = history.scenario().shape().tick;
     let end = j + 1;
     let window = u64::from(note.window);
     let first = end.saturating_sub(window);
     let full = window <= end;
-    let unchanged = !has_change(changes, first, end);
-    let steady = and_not_below(unchanged, first, lasts.starved);
+    let unchanged = and_not_below(full, first, lasts.changed);
     Sample {
         tick: j,
         window: note.window,
         full,
-        unchanged: and(full, unchanged),
-        steady: and(full, steady),
-        usage: Usage::of(history.entries(), tick, first, end),
+        unchanged,
+        steady: and_not_below(unchanged, first, lasts.starved),
+        usage: sums.usage(),
+        free: sums.free_time(),
         allowance: note.allowance,
         demand: since(&lasts.lacked, first, full),
         had: before_end(&lasts.out, first),
     }
-}
-
-/// Whether a change stands at one of the ticks `a` to `b - 1`.
-fn has_change(changes: &[Change], a: u64, b: u64) -> bool
-    ensures { result ≡ has_change changes.now a b }
-{
-    let mut found = false;
-    for change in changes {
-        found = or(found, is_among(a, b, u64::from(change.tick)));
-    }
-    found
-}
-
-/// Whether the tick is one of `a` to `b - 1`.
-fn is_among(a: u64, b: u64, tick: u64) -> bool
-    ensures { result ≡ is_among a b tick }
-{
-    a <= tick && tick < b
 }
 
 /// Of each partition, whether this is so and no such tick came from `first` on.

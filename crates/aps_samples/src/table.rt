@@ -1,47 +1,77 @@
 //! The samples as lines of numbers with commas between them.
-ghost use Rattle.std.specs.Prelude.{◌≡◌, ◌+◌, ◌-◌, ◌*◌, ◌<◌, ◌≤◌, ◌++◌, All, min, codes, length, string_bytes, IfOk, OnOk};
+ghost use Rattle.std.specs.Prelude.{◌≡◌, ◌+◌, ◌-◌, ◌*◌, ◌<◌, ◌≤◌, ◌++◌, codes, length, string_bytes, IfOk, OnOk};
 ghost use Rattle.std.specs.List.{flat_map, range_with_len};
 ghost use Rattle.aps_model.specs.After.{state_after};
 ghost use Rattle.aps_model.specs.Legal.{IsLegal};
 ghost use Rattle.aps_model.specs.Loaded.{finished_ticks};
-ghost use Rattle.aps_samples.specs.Csv.{bit, csv_text, first_cells, head_line, line_at, part_cells, row_titles, sample_line};
-ghost use Rattle.aps_samples.specs.Note.{AreNotes};
+ghost use Rattle.aps_samples.specs.Csv.{bit, csv_text, first_cells, head_line, line_at, part_cells, past_of, row_titles, sample_line};
+ghost use Rattle.aps_samples.specs.Pass.{IsAt, scenario_of};
 
-use crate::lasts::Lasts;
-use crate::note::Note;
-use crate::noting::noted;
-use crate::sample::{Sample, sample_at};
-use aps_core::Core;
-use aps_model::{Change, History, Name, NoMemory, Order, PartitionRow, finished_ticks};
+use crate::pass::Samples;
+use crate::retracing::rows_after;
+use crate::sample::Sample;
+use aps_model::{History, Name, NoMemory, Order, PartitionRow, finished_ticks};
 use std::alloc::Global;
 use std::fmt::Write;
 use std::str::from_utf8;
 
-/// The samples of the finished ticks from `first` to `past - 1`, of a history that is legal in this order of turns: a line of
-/// titles, and a line for each (docs/FORMATS.md). `NoMemory` comes where memory runs out.
-pub fn csv(
-    alloc: Global,
-    history: &History,
-    order: Order,
-    first: u64,
-    past: u64,
-) -> Result<String, NoMemory>
+/// Which ticks are told: from one on, and to before another, or to the last.
+#[derive(Clone, Copy)]
+pub struct Ticks {
+    pub from: u32,
+    pub to: Option<u32>,
+}
+
+/// The samples of these of the finished ticks, of a history that is legal in this order of turns: a line of titles, and a
+/// line for each (docs/FORMATS.md). `NoMemory` comes where memory runs out.
+pub fn csv(alloc: Global, history: &History, order: Order, ticks: Ticks) -> Result<String, NoMemory>
     requires legal { IsLegal history.now.scenario order history.now.entries }
     requires few { length history.now.entries ≤ 4000000 }
-    ensures { IfOk result (λ text. string_bytes text ≡ csv_text history.now.scenario history.now.entries first past) }
+    ensures { IfOk result (λ text. string_bytes text ≡ csv_text history.now.scenario history.now.entries ticks) }
 {
-    let scenario = history.scenario();
-    let shape = scenario.shape();
-    let entries = history.entries();
-    let limit = (entries.len() as u32).max(1);
-    let mut core = Core::boot(alloc, scenario.copy(alloc)?, order, limit)?;
-    let notes = noted(alloc, &mut core, shape, entries)?;
-    let last = core.history();
+    let rows = rows_after(alloc, history, order)?;
+    let mut samples = Samples::begin(alloc, history, order)?;
+    text_of_samples(alloc, history, rows.as_slice(), &mut samples, ticks)
+}
+
+/// The text, by the rows that stand last and a pass that begins.
+fn text_of_samples(
+    alloc: Global,
+    history: &History,
+    rows: &[PartitionRow],
+    samples: &mut Samples,
+    ticks: Ticks,
+) -> Result<String, NoMemory>
+    requires rows { rows.now ≡ (state_after history.now.scenario history.now.entries).rows }
+    requires at { IsAt history.now.entries samples.old }
+    requires of { scenario_of samples.old.cursor ≡ history.now.scenario }
+    requires first { samples.old.tick ≡ 0 }
+    requires few_rows { length rows.now ≤ 32 }
+    ensures { IfOk result (λ text. string_bytes text ≡ csv_text history.now.scenario history.now.entries ticks) }
+{
+    let finished = finished_ticks(history.scenario().shape(), history.entries());
+    let end = past_of(ticks, finished);
     let mut out = String::new(alloc);
-    add_head(&mut out, last.rows())?;
-    let end = past.min(finished_ticks(shape, entries));
-    add_lines(&mut out, history, last, notes.as_slice(), first, end)?;
+    add_head(&mut out, rows)?;
+    add_lines(
+        &mut out,
+        history,
+        rows.len(),
+        samples,
+        u64::from(ticks.from),
+        end,
+    )?;
     Ok(out)
+}
+
+/// The tick before which the lines end, where so many are finished.
+fn past_of(ticks: Ticks, finished: u64) -> u64
+    ensures { result ≡ past_of ticks finished }
+{
+    match ticks.to {
+        Some(to) => finished.min(u64::from(to)),
+        None => finished,
+    }
 }
 
 /// The line of titles.
@@ -95,31 +125,29 @@ fn text_of(name: &Name) -> &str
     }
 }
 
-/// A line for each tick from `first` to `end - 1`. These are finished and have notes; `last` has what stands last.
+/// A line for each tick from `first` to `end - 1`, which are finished, by a pass that begins.
 fn add_lines(
     out: &mut String,
     history: &History,
-    last: &History,
-    notes: &[Note],
+    rows: usize,
+    samples: &mut Samples,
     first: u64,
     end: u64,
 ) -> Result<(), NoMemory>
-    requires notes { AreNotes history.now.scenario history.now.entries end notes.now }
-    requires enough { end ≤ length notes.now }
+    requires rows { rows ≡ length (state_after history.now.scenario history.now.entries).rows }
+    requires few_rows { rows ≤ 32 }
+    requires at { IsAt history.now.entries samples.old }
+    requires of { scenario_of samples.old.cursor ≡ history.now.scenario }
+    requires first { samples.old.tick ≡ 0 }
+    requires finished { end ≤ finished_ticks history.now.scenario.shape history.now.entries }
     requires few { end ≤ 100000000 }
-    requires changes { last.now.changes ≡ (state_after history.now.scenario history.now.entries).changes }
-    requires rows { last.now.rows ≡ (state_after history.now.scenario history.now.entries).rows }
     ensures { OnOk result (string_bytes out.new ≡ string_bytes out.old ++ flat_map (line_at history.now.scenario history.now.entries) (range_with_len first (end - first))) }
 {
     let tick = history.scenario().shape().tick;
-    let count = last.rows().len();
-    let mut lasts = Lasts::none();
     for j in 0..end {
-        let note = &notes[j as usize];
-        lasts.pass(note, j);
+        let sample = samples.next(history);
         if first <= j {
-            let sample = sample_at(history, last.changes(), note, &lasts, j);
-            add_line(out, tick, count, &sample)?;
+            add_line(out, tick, rows, &sample)?;
         }
     }
     Ok(())

@@ -15,14 +15,7 @@ pub fn nor(a: bool, b: bool) -> bool
     !(a || b)
 }
 
-/// Whether both hold.
-pub fn and(a: bool, b: bool) -> bool
-    ensures { result ≡ (a && b) }
-{
-    a && b
-}
-
-/// Whether the first holds, and the number isn't below the other.
+/// Whether this holds, and the number isn't below the other.
 pub fn and_not_below(holds: bool, first: u64, last: u64) -> bool
     ensures { result ≡ (holds && not (nat_lt first last)) }
 {

@@ -1,4 +1,4 @@
-use Rattle.std.proofs.Common.{◌≡◌, ℕ, get_or, false}
+use Rattle.std.proofs.Common.{get_or, false}
 use Rattle.aps_samples.specs.Passed.{later}
 use Rattle.aps_samples.proofs.Fill.{IsFilled}
 use Rattle.aps_samples.proofs.lasts.all_later.Given as goal

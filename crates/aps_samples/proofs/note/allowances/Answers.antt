@@ -1,4 +1,4 @@
-use Rattle.std.proofs.Common.{refl, arith, ◌≡◌, ℕ}
+use Rattle.std.proofs.Common.{refl, arith}
 use Rattle.aps_model.specs.Audit.{allowance}
 use Rattle.aps_model.specs.Partition.{row_or_none}
 use Rattle.aps_samples.proofs.Fill.{filled_none, filled_more}

@@ -1,4 +1,3 @@
-use Rattle.std.proofs.Common.{◌≡◌, ℕ}
 use Rattle.aps_model.specs.Audit.{allowance}
 use Rattle.aps_model.specs.Partition.{row_or_none}
 use Rattle.aps_samples.proofs.Fill.{IsFilled}

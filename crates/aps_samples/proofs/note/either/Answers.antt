@@ -1,4 +1,4 @@
-use Rattle.std.proofs.Common.{refl, arith, ◌≡◌, ℕ, ◌||◌, get_or, false}
+use Rattle.std.proofs.Common.{refl, arith, ◌||◌, get_or, false}
 use Rattle.aps_samples.proofs.Fill.{filled_none, filled_more}
 use Rattle.aps_samples.proofs.note.either.Goals as goal
 

@@ -1,4 +1,4 @@
-use Rattle.std.proofs.Common.{◌≡◌, ℕ, nat_lt, get_or, false}
+use Rattle.std.proofs.Common.{nat_lt, get_or, false}
 use Rattle.aps_samples.proofs.Fill.{IsFilled}
 use Rattle.aps_samples.proofs.sample.before_end.Given as goal
 

@@ -1,4 +1,4 @@
-use Rattle.std.proofs.Common.{refl, arith, ◌≡◌, ℕ, ◌&&◌, not, nat_lt, get_or, false}
+use Rattle.std.proofs.Common.{refl, arith, ◌&&◌, not, nat_lt, get_or, false}
 use Rattle.aps_samples.proofs.Fill.{filled_none, filled_more, filled_all}
 use Rattle.aps_samples.proofs.sample.since.Goals as goal
 

@@ -1,4 +1,4 @@
-use Rattle.std.proofs.Common.{◌≡◌, ℕ, ◌&&◌, not, nat_lt, get_or, false}
+use Rattle.std.proofs.Common.{◌&&◌, not, nat_lt, get_or, false}
 use Rattle.aps_samples.proofs.Fill.{IsFilled}
 use Rattle.aps_samples.proofs.sample.since.Given as goal
 

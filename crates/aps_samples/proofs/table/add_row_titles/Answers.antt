@@ -1,6 +1,4 @@
-use Rattle.std.proofs.Common.{◌≡◌, ◌∙◌, ◌++◌, ap, sym, arith}
-use Rattle.std.specs.List.{flat_map}
-use Rattle.std.proofs.lemmas.List.{take_all}
+use Rattle.std.proofs.Common.{sym}
 use Rattle.aps_samples.specs.Csv.{row_titles}
 use Rattle.aps_samples.proofs.Texts.{line_more}
 use Rattle.aps_samples.proofs.table.add_row_titles.Goals as goal

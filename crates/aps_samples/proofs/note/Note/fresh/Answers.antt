@@ -1,4 +1,4 @@
-use Rattle.std.proofs.Common.{◌≡◌, ◌∙◌, ℕ, List, ap, sym, refl, arith, false, slice_index}
+use Rattle.std.proofs.Common.{◌∙◌, List, ap, refl, false}
 use Rattle.std.proofs.lemmas.List.{get_or-replicate}
 use Rattle.aps_model.specs.declared.partition.PartitionRow.{PartitionRow}
 use Rattle.aps_model.specs.declared.shape.Shape.{Shape}
@@ -22,4 +22,5 @@ returns c =
       lacking = λ p less. get_or-replicate 32 p false false less;
       out = λ p less. get_or-replicate 32 p false false less;
       starved = refl;
+      changed = refl;
     }

@@ -1,7 +1,0 @@
-use Rattle.std.proofs.Common.{◌≡◌, ℕ, ◌||◌, not, get_or, false}
-use Rattle.aps_samples.specs.Picks.{bills}
-use Rattle.aps_samples.proofs.Fill.{IsFilled}
-use Rattle.aps_samples.proofs.note.neither.Given as goal
-
-abbrev pub invariant-loop-p : goal.invariant-loop-p
-invariant-loop-p l = IsFilled (λ k. not (bills l.pick k || get_or l.others k false)) false 32 l.p l.all

@@ -1,0 +1,25 @@
+-- What is seen at a pick.
+use Rattle.std.specs.Prelude.{◌≡◌, ℕ, ◌<◌, List, length, is_some, nat_lt, false, not, slice_index_or}
+use Rattle.aps_model.specs.declared.entry.Entry.{Entry}
+use Rattle.aps_model.specs.Scenario.{Scenario}
+use Rattle.aps_model.specs.SchedulerState.{SchedulerState, cpu_at}
+use Rattle.aps_load_laws.specs.Kinds.{is_free, kind_of}
+use Rattle.aps_load_laws.specs.Passing.{parts_now}
+use Rattle.aps_samples.specs.declared.look.Look.{Look}
+use Rattle.aps_samples.specs.Picks.{changes_by, had_candidate, is_in_budget, is_unfunded, lacks_test, out_test}
+
+-- the entry came last and left this state, so many changes stood before it
+pub record IsSeen (s : SchedulerState) (h : List Entry) (changes : ℕ) (e : Entry) (look : Look) : Type 0 where
+  pub lacking : (p : ℕ) → p < 32 → slice_index_or look.lacking p false ≡ not (had_candidate s h e.cpu p)
+  pub out : (p : ℕ) → p < 32 → slice_index_or look.out p false ≡ not (is_in_budget s h p)
+  pub starved : look.starved ≡ is_some e.starved
+  pub changed : look.changed ≡ nat_lt changes (length s.changes)
+  pub free : look.free ≡ is_unfunded (parts_now s h) e.picked (cpu_at s e.cpu).running
+
+-- the same of an entry that follows on these
+pub record IsLook (scenario : Scenario) (before : List Entry) (e : Entry) (look : Look) : Type 0 where
+  pub lacking : (p : ℕ) → p < 32 → slice_index_or look.lacking p false ≡ lacks_test scenario p before e
+  pub out : (p : ℕ) → p < 32 → slice_index_or look.out p false ≡ out_test scenario p before e
+  pub starved : look.starved ≡ is_some e.starved
+  pub changed : look.changed ≡ changes_by scenario before e
+  pub free : look.free ≡ is_free (kind_of scenario before e)
