@@ -1,0 +1,4 @@
+pub mod Line
+pub mod Hint
+pub mod Words
+pub mod Refused
