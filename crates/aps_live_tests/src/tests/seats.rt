@@ -1,6 +1,4 @@
 //! Two seats on one thread.
-ghost use Rattle.std.specs.Prelude.{◌≤◌};
-
 use crate::tests::two_processors::opened;
 use aps_live::{LiveEvent, LiveTurn};
 use aps_model::{CpuId, Done, Entry, Nanos, PartitionId, ThreadId};
