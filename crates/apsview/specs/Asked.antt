@@ -8,9 +8,9 @@ use Rattle.aps_view_words.specs.Asked as words
 -- the reports that are there
 abbrev pub is_there : Report → Bool
 is_there Cycles = true
-is_there (Csv ticks) = false
+is_there (Csv ticks) = true
 is_there Shares = false
-is_there Latency = false
+is_there Latency = true
 is_there (Explain thread moment) = false
 
 abbrev pub if_there : Asked → Option Asked

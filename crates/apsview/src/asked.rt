@@ -26,7 +26,7 @@ fn is_there(report: Report) -> bool
     ensures { result ≡ spec.is_there report }
 {
     match report {
-        Report::Cycles => true,
-        Report::Csv { .. } | Report::Shares | Report::Latency | Report::Explain { .. } => false,
+        Report::Cycles | Report::Csv { .. } | Report::Latency => true,
+        Report::Shares | Report::Explain { .. } => false,
     }
 }

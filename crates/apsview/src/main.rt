@@ -25,6 +25,8 @@ use std::process::ExitCode;
 /// A hint for whoever starts the program by hand.
 const USAGE: &str = "usage: apsview REPORT < INPUT
 INPUT is a scenario, or a scenario, the line `--- journal` and a journal of it; REPORT is one of these:
+  latency [--limit ENTRIES]
+  csv [--from TICK] [--to TICK] [--limit ENTRIES]
   cycles [--limit ENTRIES]";
 
 /// The words after the program's name, or none where one of them isn't UTF-8: no report has such a word.

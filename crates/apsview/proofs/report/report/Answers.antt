@@ -8,3 +8,17 @@ cycles_text-requires-clause-few c =
     let fit : length h.entries ≤ h.room.entries = c.entries-entries.ensures.keeps.entries_fit in
     let room : h.room.entries ≡ c.args.core.now.setup.limit = ap (λ (k : History). k.room.entries) c.history-history.ensures.same in
     omega (arith, fit, room, c.requires.few)
+
+pub csv-requires-clause-few : goal.csv-requires-clause-few
+csv-requires-clause-few c =
+    let h = c.history-history.result.now in
+    let fit : length h.entries ≤ h.room.entries = c.entries-entries.ensures.keeps.entries_fit in
+    let room : h.room.entries ≡ c.args.core.now.setup.limit = ap (λ (k : History). k.room.entries) c.history-history.ensures.same in
+    omega (arith, fit, room, c.requires.few)
+
+pub latency_text-requires-clause-few : goal.latency_text-requires-clause-few
+latency_text-requires-clause-few c =
+    let h = c.history-history.result.now in
+    let fit : length h.entries ≤ h.room.entries = c.entries-entries.ensures.keeps.entries_fit in
+    let room : h.room.entries ≡ c.args.core.now.setup.limit = ap (λ (k : History). k.room.entries) c.history-history.ensures.same in
+    omega (arith, fit, room, c.requires.few)
