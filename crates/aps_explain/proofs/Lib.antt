@@ -1,0 +1,10 @@
+pub mod Named
+pub mod Lists
+pub mod Done
+pub mod Beside
+pub mod Tied
+pub mod Leading
+pub mod Sleepers
+pub mod Finding
+pub mod Ranges
+pub mod Scenes
