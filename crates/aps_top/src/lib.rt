@@ -3,6 +3,9 @@
 #![tactic(auto)]
 
 mod answer;
+pub mod hint;
+mod journal;
+pub mod kept;
 mod outcome;
 mod printing;
 mod reading;

@@ -1,6 +1,6 @@
 use Rattle.std.proofs.Common.{refl, ◌∙◌}
-use Rattle.aps_top.proofs.Said.{said_as}
+use Rattle.aps_top.proofs.Said.{made_as}
 use Rattle.aps_top.proofs.report.print_windows.Goals as goal
 
 pub returns-in-Ok : goal.returns-in-Ok
-returns-in-Ok g c = said_as _ _ _ _ _ _ (c.as_bytes.ensures.value ∙ c.in-Ok.ensures) refl c.print.ensures.prints
+returns-in-Ok g c = made_as _ _ _ _ _ _ _ (c.as_bytes.ensures.value ∙ c.in-Ok.ensures) refl c.print.ensures.prints
