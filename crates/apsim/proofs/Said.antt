@@ -1,9 +1,32 @@
 -- How a text goes to a sink, under other names of the text and of its status.
-use Rattle.std.proofs.Common.{◌≡◌, ℕ, List, subst}
+use Rattle.std.proofs.Common.{◌≡◌, ℕ, List, Option, ◌⊎◌, inl, inr, refl, sym, subst}
+use Rattle.std.proofs.KnownBytes.{Keeps-refl}
 use Rattle.apsim.specs.declared.status.Status.{Status}
-use Rattle.apsim.specs.Printing.{Output, Prints}
+use Rattle.apsim.specs.declared.status.Status.TheVariants.{NoMemory}
+use Rattle.apsim.specs.declared.outcome.Outcome.{Outcome}
+use Rattle.apsim.specs.Printing.{MakesAndPrints, Output, Prints, Says, output_of}
 
 pub said_as : (output : Output) (said text : List ℕ) (told wanted status : Status)
     → said ≡ text → told ≡ wanted → Prints output said told status → Prints output text wanted status
 said_as output said text told wanted status p q h =
     subst (λ t. Prints output t wanted status) p (subst (λ w. Prints output said w status) q h)
+
+-- the same of a text that was made
+pub made_as : (Made : Type 0) (output : Output) (said text : List ℕ) (told wanted status : Status)
+    → said ≡ text → told ≡ wanted → Prints output said told status → MakesAndPrints Made output text wanted status
+made_as Made output said text told wanted status p q h = inl (said_as output said text told wanted status p q h)
+
+-- the same of a text that may have been made
+pub makes_as : (Made : Type 0) (output : Output) (said text : List ℕ) (told wanted status : Status)
+    → said ≡ text → told ≡ wanted → MakesAndPrints Made output said told status → MakesAndPrints Made output text wanted status
+makes_as Made output said text told wanted status p q h =
+    subst (λ t. MakesAndPrints Made output t wanted status) p (subst (λ w. MakesAndPrints Made output said w status) q h)
+
+-- a text that wasn't made, over a sink to which nothing was written
+pub unmade : (Made : Type 0) (written : Option (List ℕ)) (faults shortages : ℕ) (text : List ℕ) (wanted : Status) → Made
+    → MakesAndPrints Made (output_of written written faults faults shortages shortages) text wanted NoMemory
+unmade Made written faults shortages text wanted made = inr (made, refl, Keeps-refl written)
+
+-- an outcome under another name
+pub says_of : (output : Output) (o told : Outcome) (status : Status) → o ≡ told → Says output told status → Says output o status
+says_of output o told status same h = subst (λ o. Says output o status) (sym same) h

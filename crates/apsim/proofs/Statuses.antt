@@ -1,6 +1,6 @@
 -- The status of an answer, by the outcome of the call.
-use Rattle.std.proofs.Common.{rules, ◌≡◌, ◌≢◌, ℕ, ◌≤◌, List, length, ◌⊎◌, inl, inr, Option, Some, None, IfSome, refl, sym, ap, subst, ◌∙◌, arith, Bool, true, false, ◌==◌, ◌||◌, true≢false}
-use Rattle.std.specs.Io.KnownBytes.{IsAtEnd}
+use Rattle.std.proofs.Common.{rules, ◌≡◌, ◌≢◌, ℕ, zero, suc, ◌≤◌, List, [], length, take, append-nil, ◌⊎◌, inl, inr, Option, Some, None, IfSome, refl, sym, ap, subst, ◌∙◌, arith, Bool, true, false, ◌==◌, ◌||◌, true≢false}
+use Rattle.std.specs.Io.KnownBytes.{Appends, IsAtEnd, Keeps}
 use Rattle.aps_admit.specs.declared.admission.Admission.{Admission}
 use Rattle.aps_admit.specs.declared.admission.Admission.TheVariants.{Budgets, Needs}
 use Rattle.aps_admit.specs.Text.{admission_text}
@@ -24,26 +24,31 @@ use Rattle.apsim.specs.Outcome.{report_text, status_of, text_of, history_of}
 use Rattle.apsim.specs.Status.{code, or_write_fault, status_of_end, status_of_verdict, status_of_admission}
 use Rattle.apsim.specs.Due.{IsDueStatus}
 use Rattle.apsim.specs.Cause.{Input, input_of, HasCause, RanAsRead, CheckedAsRead, AdmittedAsRead, IsOutcome}
-use Rattle.apsim.specs.Printing.{Output, Prints, WritesWhole}
+use Rattle.apsim.specs.Printing.{LacksMemory, Output, Says, WritesNothing, WritesPrefix, WritesWhole}
 use Rattle.apsim.specs.Reading.{Intake, most_bytes, most_of, refusal_of}
 use Rattle.apsim.specs.Refusal.{refused_text, scenario_refusal}
-use Rattle.apsim.specs.Answers.{Tells, Answers, Comes, IsDue, Faulted, OrNoMemory, ReachesHorizon, ReportsWhole, WritesAsked, IsAnswer}
+use Rattle.apsim.specs.Answers.{Tells, Answers, Comes, IsDue, Faulted, OrWanting, Wanting, ReachesHorizon, ReportsWhole, WritesAsked, IsAnswer}
 use Rattle.apsim.proofs.Due as due
 
 -- ---- what was told of a status that was wanted
+
+-- want of memory was told, with its cause
+abbrev IsLackTold : Output → ℕ → Type 0
+IsLackTold output told = (told ≡ code NoMemory) × LacksMemory output
 
 -- the status was told that was wanted, with the whole text; or that of a fault of the sink; or want of memory
 abbrev IsTold : Output → List ℕ → Status → ℕ → Type 0
 IsTold output text wanted told =
     ((told ≡ code wanted) × WritesWhole output text)
-    ⊎ ((told ≡ code (or_write_fault wanted)) × Rose output.faults_before output.faults)
-    ⊎ (told ≡ code NoMemory)
+    ⊎ ((told ≡ code (or_write_fault wanted)) × Rose output.faults_before output.faults × WritesPrefix output text)
+    ⊎ IsLackTold output told
 
-told_of : (output : Output) (text : List ℕ) (wanted status : Status) (told : ℕ)
-    → told ≡ code status → Prints output text wanted status → IsTold output text wanted told
-told_of output text wanted status told is (inl p) = inl (is ∙ ap code p.0, p.1)
-told_of output text wanted status told is (inr (inl p)) = inr (inl (is ∙ ap code p.0, p.1))
-told_of output text wanted status told is (inr (inr p)) = inr (inr (is ∙ ap code p.0))
+told_of : (output : Output) (o : Outcome) (status : Status) (told : ℕ)
+    → told ≡ code status → Says output o status → IsTold output (text_of o) (status_of o) told
+told_of output o status told is (inl (inl p)) = inl (is ∙ ap code p.0, p.1)
+told_of output o status told is (inl (inr (inl p))) = inr (inl (is ∙ ap code p.0, p.1, p.2))
+told_of output o status told is (inl (inr (inr p))) = inr (inr (is ∙ ap code p.0, inr p.1))
+told_of output o status told is (inr p) = inr (inr (is ∙ ap code p.1, inl p.2))
 
 zero_is_done : (status : Status) → code status ≡ 0 → status ≡ Done
 zero_is_done Done h = refl
@@ -74,16 +79,99 @@ never_done NeedsExceed h = absurd cc
 -- under status 0 that was wanted, and the whole text was written
 whole_told : (output : Output) (text : List ℕ) (wanted : Status) (told : ℕ) → IsTold output text wanted told → told ≡ 0
     → (wanted ≡ Done) × WritesWhole output text
-whole_told output text wanted told (inl p) zero = (zero_is_done wanted (sym p.0 ∙ zero), p.1)
-whole_told output text wanted told (inr (inl p)) zero = absurd (never_done wanted (zero_is_done (or_write_fault wanted) (sym p.0 ∙ zero)))
-whole_told output text wanted told (inr (inr p)) zero = absurd (omega (arith, p, zero))
+whole_told output text wanted told (inl p) is_zero = (zero_is_done wanted (sym p.0 ∙ is_zero), p.1)
+whole_told output text wanted told (inr (inl p)) is_zero = absurd (never_done wanted (zero_is_done (or_write_fault wanted) (sym p.0 ∙ is_zero)))
+whole_told output text wanted told (inr (inr p)) is_zero = absurd (omega (arith, p.0, is_zero))
+
+seven_is_lack : (status : Status) → code status ≡ 7 → status ≡ NoMemory
+seven_is_lack Done h = absurd (omega arith)
+seven_is_lack WordsRefused h = absurd (omega arith)
+seven_is_lack InputRefused h = absurd (omega arith)
+seven_is_lack Rebooted h = absurd (omega arith)
+seven_is_lack ReadFault h = absurd (omega arith)
+seven_is_lack WriteFault h = absurd (omega arith)
+seven_is_lack Limited h = absurd (omega arith)
+seven_is_lack NoMemory h = refl
+seven_is_lack TooLong h = absurd (omega arith)
+seven_is_lack JournalBreaks h = absurd (omega arith)
+seven_is_lack NeedsExceed h = absurd (omega arith)
+
+lack_stays : (status : Status) → or_write_fault status ≡ NoMemory → status ≡ NoMemory
+lack_stays Done h = absurd cc
+lack_stays WordsRefused h = absurd cc
+lack_stays InputRefused h = absurd cc
+lack_stays Rebooted h = absurd cc
+lack_stays ReadFault h = absurd cc
+lack_stays WriteFault h = absurd cc
+lack_stays Limited h = absurd cc
+lack_stays NoMemory h = refl
+lack_stays TooLong h = absurd cc
+lack_stays JournalBreaks h = absurd cc
+lack_stays NeedsExceed h = absurd cc
 
 -- where writing didn't fail, a status 0 that was wanted came, or want of memory
 done_told : (output : Output) (text : List ℕ) (told : ℕ) → IsTold output text Done told → told ≢ code WriteFault
-    → (told ≡ code Done) ⊎ (told ≡ code NoMemory)
+    → (told ≡ code Done) ⊎ IsLackTold output told
 done_told output text told (inl p) unfailing = inl p.0
 done_told output text told (inr (inl p)) unfailing = absurd (unfailing p.0)
 done_told output text told (inr (inr p)) unfailing = inr p
+
+-- ---- want of memory
+
+kept : (before after : Option (List ℕ)) → Appends before after [] → Keeps before after
+kept None after h = tt
+kept (Some xs) None h = h
+kept (Some xs) (Some ys) h = h ∙ append-nil xs
+
+none_taken : (n : ℕ) → take {A = ℕ} n [] ≡ []
+none_taken zero = refl
+none_taken (suc n) = refl
+
+nothing_written : (output : Output) → WritesPrefix output [] → WritesNothing output
+nothing_written output p =
+    kept output.before output.after (subst (λ t. Appends output.before output.after t) (none_taken p.0) p.2)
+
+-- where no text was to be written, nothing was
+lack_of_none : (output : Output) (told : ℕ) → IsTold output [] NoMemory told → IsLackTold output told
+lack_of_none output told (inl p) = (p.0, inl (kept output.before output.after p.1))
+lack_of_none output told (inr (inl p)) = (p.0, inl (nothing_written output p.2))
+lack_of_none output told (inr (inr p)) = p
+
+end_lacks : (end : End) → status_of_end end ≢ NoMemory
+end_lacks Horizon h = absurd cc
+end_lacks Limit h = absurd cc
+end_lacks (Reboot p) h = absurd cc
+
+verdict_lacks : (verdict : Verdict) → status_of_verdict verdict ≢ NoMemory
+verdict_lacks (Legal end) h = absurd cc
+verdict_lacks (Breaks place rule expected) h = absurd cc
+
+admission_lacks : (answer : Admission) → status_of_admission answer ≢ NoMemory
+admission_lacks (Budgets grants) h = absurd cc
+admission_lacks (Needs sum) h = absurd cc
+
+-- an outcome under status 7 has no text
+lack_has_none : (o : Outcome) → status_of o ≡ NoMemory → text_of o ≡ []
+lack_has_none outcome.WordsRefused h = absurd cc
+lack_has_none outcome.ReadFault h = absurd cc
+lack_has_none outcome.TooLong h = absurd cc
+lack_has_none (outcome.InputRefused refusal) h = absurd cc
+lack_has_none (outcome.Ran report end history) h = absurd (end_lacks end h)
+lack_has_none (outcome.Generated text) h = absurd cc
+lack_has_none (outcome.Upgraded text) h = absurd cc
+lack_has_none (outcome.Checked verdict) h = absurd (verdict_lacks verdict h)
+lack_has_none (outcome.Admitted answer) h = absurd (admission_lacks answer h)
+lack_has_none outcome.NoMemory h = refl
+
+lack_told : (output : Output) (o : Outcome) (told : ℕ) → IsTold output (text_of o) (status_of o) told → told ≡ code NoMemory
+    → LacksMemory output
+lack_told output o told (inl p) seven =
+    let none = lack_has_none o (seven_is_lack (status_of o) (sym p.0 ∙ seven)) in
+    inl (kept output.before output.after (subst (λ t. WritesWhole output t) none p.1))
+lack_told output o told (inr (inl p)) seven =
+    let wanted = lack_stays (status_of o) (seven_is_lack (or_write_fault (status_of o)) (sym p.0 ∙ seven)) in
+    inl (nothing_written output (subst (λ t. WritesPrefix output t) (lack_has_none o wanted) p.2))
+lack_told output o told (inr (inr p)) seven = p.1
 
 -- ---- how the status comes about
 
@@ -92,14 +180,17 @@ module _ (input : Input) (output : Output) (ended : Ended) where
       → (other : Status) → IsDueStatus input.asked input.reading.bytes ended.history other → other ≡ status
   only status is other h = due.one_status input.asked input.reading.bytes ended.history other status h is
 
+  lacking : IsLackTold output ended.status → Wanting output ended
+  lacking p = record { told = p.0; cause = p.1 }
+
   came : (text : List ℕ) (status : Status) → IsDueStatus input.asked input.reading.bytes ended.history status
       → (IsToRead input.asked → status ≢ TooLong → IsAtEnd input.reading.left)
       → IsTold output text status ended.status → Comes input output ended
   came text status is to_end (inl p) =
       inl (record { status = status; due = is; only = only status is; to_end = to_end; told = inl p.0 })
   came text status is to_end (inr (inl p)) =
-      inl (record { status = status; due = is; only = only status is; to_end = to_end; told = inr p })
-  came text status is to_end (inr (inr p)) = inr (inr p)
+      inl (record { status = status; due = is; only = only status is; to_end = to_end; told = inr (p.0, p.1) })
+  came text status is to_end (inr (inr p)) = inr (inr (lacking p))
 
   faulted : (text : List ℕ) → HasCause input outcome.ReadFault → ended.history ≡ None
       → IsTold output text ReadFault ended.status → Comes input output ended
@@ -107,12 +198,10 @@ module _ (input : Input) (output : Output) (ended : Ended) where
       inr (inl (record { told = p.0; rose = cause.1; to_read = cause.0; short = cause.2; no_history = none }))
   faulted text cause none (inr (inl p)) =
       inr (inl (record { told = p.0; rose = cause.1; to_read = cause.0; short = cause.2; no_history = none }))
-  faulted text cause none (inr (inr p)) = inr (inr p)
+  faulted text cause none (inr (inr p)) = inr (inr (lacking p))
 
-  wanting : (text : List ℕ) → IsTold output text NoMemory ended.status → Comes input output ended
-  wanting text (inl p) = inr (inr p.0)
-  wanting text (inr (inl p)) = inr (inr p.0)
-  wanting text (inr (inr p)) = inr (inr p)
+  wanting : IsTold output [] NoMemory ended.status → Comes input output ended
+  wanting told = inr (inr (lacking (lack_of_none output ended.status told)))
 
   -- what is due, under another name of the history
   due_as : (h : Option History) (status : Status) → ended.history ≡ h → IsDueStatus input.asked input.reading.bytes h status
@@ -139,7 +228,7 @@ module _ (input : Input) (output : Output) (ended : Ended) where
       came _ (status_of_verdict verdict) (due_as None _ same (due.checked input verdict cause)) (λ _ _. cause.whole.end) told
   comes (outcome.Admitted answer) cause same told =
       came _ (status_of_admission answer) (due_as None _ same (due.admitted input answer cause)) (λ _ _. cause.whole.end) told
-  comes outcome.NoMemory cause same told = wanting _ told
+  comes outcome.NoMemory cause same told = wanting told
 
 -- ---- the text under status 0
 
@@ -236,13 +325,13 @@ refusal_is told (inr (inr (inr p))) = rw p refl
 ran_is : (output : Output) (text : List ℕ) (end : End) (told : ℕ) → IsTold output text (status_of_end end) told → is_refusal told ≡ false
 ran_is output text Horizon told (inl p) = rw p.0 refl
 ran_is output text Horizon told (inr (inl p)) = rw p.0 refl
-ran_is output text Horizon told (inr (inr p)) = rw p refl
+ran_is output text Horizon told (inr (inr p)) = rw p.0 refl
 ran_is output text Limit told (inl p) = rw p.0 refl
 ran_is output text Limit told (inr (inl p)) = rw p.0 refl
-ran_is output text Limit told (inr (inr p)) = rw p refl
+ran_is output text Limit told (inr (inr p)) = rw p.0 refl
 ran_is output text (Reboot q) told (inl p) = rw p.0 refl
 ran_is output text (Reboot q) told (inr (inl p)) = rw p.0 refl
-ran_is output text (Reboot q) told (inr (inr p)) = rw p refl
+ran_is output text (Reboot q) told (inr (inr p)) = rw p.0 refl
 
 ran_told : (output : Output) (text : List ℕ) (end : End) (told : ℕ) → IsTold output text (status_of_end end) told → IsRefusalTold told → ⊥
 ran_told output text end told is h = true≢false (sym (refusal_is told h) ∙ ran_is output text end told is)
@@ -273,15 +362,15 @@ run_takes (Some (command.Check order limit)) run bytes is = absurd cc
 run_takes (Some command.Admit) run bytes is = absurd cc
 
 unread_told : (output : Output) (text : List ℕ) (told : ℕ) → IsTold output text ReadFault told → told ≢ code ReadFault
-    → (told ≡ code Done) ⊎ (told ≡ code NoMemory)
+    → (told ≡ code Done) ⊎ IsLackTold output told
 unread_told output text told (inl p) unread = absurd (unread p.0)
 unread_told output text told (inr (inl p)) unread = absurd (unread p.0)
 unread_told output text told (inr (inr p)) unread = inr p
 
-memory_told : (output : Output) (text : List ℕ) (told : ℕ) → IsTold output text NoMemory told → (told ≡ code Done) ⊎ (told ≡ code NoMemory)
-memory_told output text told (inl p) = inr p.0
-memory_told output text told (inr (inl p)) = inr p.0
-memory_told output text told (inr (inr p)) = inr p
+-- the answer, in place of the status
+or_wanting : (output : Output) (ended : Ended) → (ended.status ≡ code Done) ⊎ IsLackTold output ended.status → OrWanting output ended Done
+or_wanting output ended (inl p) = inl p
+or_wanting output ended (inr p) = inr (record { told = p.0; cause = p.1 })
 
 -- the history of such a run reaches the horizon
 ran_to : (input : Input) (report : Report) (end : End) (h : History) → RanAsRead input report end h → ReachesHorizon input → end ≡ Horizon
@@ -289,7 +378,7 @@ ran_to input report end h cause reaches = search rules
 
 complete : (input : Input) (output : Output) (o : Outcome) (ended : Ended) → HasCause input o
     → IsTold output (text_of o) (status_of o) ended.status → ReachesHorizon input
-    → ended.status ≢ code ReadFault → ended.status ≢ code WriteFault → OrNoMemory ended Done
+    → ended.status ≢ code ReadFault → ended.status ≢ code WriteFault → (ended.status ≡ code Done) ⊎ IsLackTold output ended.status
 complete input output outcome.WordsRefused ended cause told reaches unread unwritten =
     let clash = sym reaches.asked ∙ ap run_asked cause.0 in absurd cc
 complete input output outcome.ReadFault ended cause told reaches unread unwritten = unread_told output _ ended.status told unread
@@ -309,24 +398,26 @@ complete input output (outcome.Checked verdict) ended cause told reaches unread 
     let clash = sym reaches.asked ∙ ap run_asked cause.asked in absurd cc
 complete input output (outcome.Admitted answer) ended cause told reaches unread unwritten =
     let clash = sym reaches.asked ∙ ap run_asked cause.asked in absurd cc
-complete input output outcome.NoMemory ended cause told reaches unread unwritten = memory_told output _ ended.status told
+complete input output outcome.NoMemory ended cause told reaches unread unwritten = inr (lack_of_none output ended.status told)
 
 -- ---- all of it
 
 pub answers : (input : Input) (output : Output) (o : Outcome) (ended : Ended) → HasCause input o → Tells o output ended
     → Answers input output ended
 answers input output o ended cause tells =
-    let told = told_of output (text_of o) (status_of o) tells.status ended.status tells.told tells.printed in
+    let told = told_of output o tells.status ended.status tells.told tells.printed in
     let same = tells.history in
     record {
       comes = comes input output ended o cause same told;
-      done = λ zero.
-          let p = whole_told output _ (status_of o) ended.status told zero in
+      done = λ is_zero.
+          let p = whole_told output _ (status_of o) ended.status told is_zero in
           subst (λ h. WritesAsked input.asked input.reading.bytes h output) (sym same) (done input output o cause p.0 p.1);
       history = subst (λ h. IfSome h (λ h. (report : Report) × (end : End) × RanAsRead input report end h)) (sym same) (run_told input o cause);
       no_run = λ none. same ∙ no_run input o cause none;
       no_history = λ h. same ∙ no_history output o ended.status told h;
-      complete = λ reaches unread unwritten. complete input output o ended cause told reaches unread unwritten;
+      complete = λ reaches unread unwritten.
+          or_wanting output ended (complete input output o ended cause told reaches unread unwritten);
+      wanting = λ seven. lack_told output o ended.status told seven;
     }
 
 pub answered : (asked : Option Command) (intake : Intake) (output : Output) (o : Outcome) (ended : Ended)

@@ -32,16 +32,16 @@ use Rattle.apsim.specs.Asked.{run_asked, IsToRead}
 use Rattle.apsim.specs.Status.{code, or_write_fault}
 use Rattle.apsim.specs.CheckInput.{IsCheck}
 use Rattle.apsim.specs.Due.{IsDueStatus}
-use Rattle.apsim.specs.Outcome.{status_of, text_of, history_of, report_text}
+use Rattle.apsim.specs.Outcome.{history_of, report_text}
 use Rattle.apsim.specs.Reading.{Intake, most_bytes, most_of}
 use Rattle.apsim.specs.Cause.{Input, input_of, HasCause, RanAsRead}
-use Rattle.apsim.specs.Printing.{Output, Prints, WritesWhole}
+use Rattle.apsim.specs.Printing.{LacksMemory, Output, Says, WritesWhole}
 
--- the answer of a call that had this outcome: its text was written, and its history is handed back
+-- the answer of a call that had this outcome: its text was made and written, and its history is handed back
 pub record Tells (outcome : Outcome) (output : Output) (ended : Ended) : Type 0 where
   pub status : Status
   pub told : ended.status ≡ code status
-  pub printed : Prints output (text_of outcome) (status_of outcome) status
+  pub printed : Says output outcome status
   pub history : ended.history ≡ history_of outcome
 
 -- reading failed
@@ -61,12 +61,17 @@ pub record IsDue (input : Input) (output : Output) (ended : Ended) : Type 0 wher
   pub to_end : IsToRead input.asked → status ≢ TooLong → IsAtEnd input.reading.left
   pub told : (ended.status ≡ code status) ⊎ ((ended.status ≡ code (or_write_fault status)) × Rose output.faults_before output.faults)
 
+-- memory was wanting
+pub record Wanting (output : Output) (ended : Ended) : Type 0 where
+  pub told : ended.status ≡ code NoMemory
+  pub cause : LacksMemory output
+
 -- how the status of an answer comes about
 abbrev pub Comes : Input → Output → Ended → Type 0
-Comes input output ended = IsDue input output ended ⊎ Faulted input ended ⊎ (ended.status ≡ code NoMemory)
+Comes input output ended = IsDue input output ended ⊎ Faulted input ended ⊎ Wanting output ended
 
-abbrev pub OrNoMemory : Ended → Status → Type 0
-OrNoMemory ended status = (ended.status ≡ code status) ⊎ (ended.status ≡ code NoMemory)
+abbrev pub OrWanting : Output → Ended → Status → Type 0
+OrWanting output ended status = (ended.status ≡ code status) ⊎ Wanting output ended
 
 -- a run in fixed order was asked for, and the bytes are a scenario whose run reaches the horizon
 pub record ReachesHorizon (input : Input) : Type 0 where
@@ -114,7 +119,9 @@ pub record Answers (input : Input) (output : Output) (ended : Ended) : Type 0 wh
       ⊎ (ended.status ≡ code ReadFault) ⊎ (ended.status ≡ code TooLong) → ended.history ≡ None
   -- a run in fixed order that reaches the horizon is reported whole, where nothing fails
   pub complete : ReachesHorizon input → ended.status ≢ code ReadFault → ended.status ≢ code WriteFault
-      → OrNoMemory ended Done
+      → OrWanting output ended Done
+  -- under status 7 nothing was written, unless the sink itself wanted memory in this call
+  pub wanting : ended.status ≡ code NoMemory → LacksMemory output
 
 -- the answer of a call that was asked for this command, over this source and this sink
 pub record IsAnswer (asked : Option Command) (intake : Intake) (output : Output) (ended : Ended) : Type 0 where

@@ -1,5 +1,5 @@
 -- The outcome of a call: its status, its text and its history.
-use Rattle.std.specs.Prelude.{ℕ, List, [], ◌++◌, codes, string_bytes, Option, Some, None}
+use Rattle.std.specs.Prelude.{ℕ, List, [], ◌++◌, codes, string_bytes, Option, Some, None, ⊤}
 use Rattle.aps_io.specs.declared.all.ReadRefusal.{ReadRefusal}
 use Rattle.aps_io.specs.declared.all.ReadRefusal.TheVariants as unread
 use Rattle.aps_model.specs.Audit.{audit_of}
@@ -19,7 +19,7 @@ use Rattle.apsim.specs.declared.status.Status.TheVariants as status
 use Rattle.apsim.specs.declared.outcome.Outcome.{Outcome}
 use Rattle.apsim.specs.declared.outcome.Outcome.TheVariants.{WordsRefused, ReadFault, TooLong, InputRefused, Ran, Generated, Upgraded, Checked, Admitted, NoMemory}
 use Rattle.apsim.specs.declared.refusal.InputRefusal.TheVariants.{Text, BadJournal}
-use Rattle.apsim.specs.Refusal.{refusal_text}
+use Rattle.apsim.specs.Refusal.{refusal_text, IsLineToMake}
 use Rattle.apsim.specs.Status.{status_of_end, status_of_verdict, status_of_admission}
 
 abbrev pub status_of : Outcome → Status
@@ -68,6 +68,19 @@ text_of (Upgraded text) = string_bytes text
 text_of (Checked verdict) = verdict_text verdict
 text_of (Admitted admission) = admission_text admission
 text_of NoMemory = []
+
+-- what is written takes memory to be made
+abbrev pub IsToMake : Outcome → Type 0
+IsToMake WordsRefused = ⊥
+IsToMake ReadFault = ⊥
+IsToMake TooLong = ⊥
+IsToMake (InputRefused refusal) = IsLineToMake refusal
+IsToMake (Ran report end history) = ⊤
+IsToMake (Generated text) = ⊥
+IsToMake (Upgraded text) = ⊥
+IsToMake (Checked verdict) = ⊤
+IsToMake (Admitted admission) = ⊤
+IsToMake NoMemory = ⊥
 
 -- the history that is handed back
 abbrev pub history_of : Outcome → Option History

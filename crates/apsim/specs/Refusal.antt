@@ -1,5 +1,5 @@
 -- Why an input is refused, and the line that tells it.
-use Rattle.std.specs.Prelude.{ℕ, List, ◌++◌, codes, Option, Some, None, Result, Ok, Err}
+use Rattle.std.specs.Prelude.{ℕ, List, ◌++◌, codes, Option, Some, None, Result, Ok, Err, ⊤}
 use Rattle.std.specs.Fmt.{decimal}
 use Rattle.aps_scenario.specs.Kind.{kind_word}
 use Rattle.aps_scenario.specs.Refusal.{Refusal}
@@ -17,6 +17,12 @@ refusal_words (BadJournal line column) = codes "bad-journal " ++ (decimal line +
 -- the line of a refusal
 abbrev pub refusal_text : InputRefusal → List ℕ
 refusal_text refusal = codes "aps: scenario refused: " ++ refusal_words refusal
+
+-- the line takes memory to be made
+abbrev pub IsLineToMake : InputRefusal → Type 0
+IsLineToMake (Text kind path) = ⊤
+IsLineToMake NoJournal = ⊥
+IsLineToMake (BadJournal line column) = ⊤
 
 -- why a text was refused, if it was
 abbrev pub refused_text : {A : Type 0} → Result A Refusal → Option InputRefusal

@@ -1,7 +1,8 @@
 //! The answers to a journal and to demands, written under their statuses.
+ghost use Rattle.std.specs.Prelude.{⊤};
 ghost use Rattle.aps_admit.specs.Text.{admission_text};
 ghost use Rattle.aps_check.specs.Text.{verdict_text};
-ghost use Rattle.apsim.specs.Printing.{Prints, output_of};
+ghost use Rattle.apsim.specs.Printing.{MakesAndPrints, output_of};
 ghost use Rattle.apsim.specs.Status.{status_of_verdict, status_of_admission};
 
 use crate::printing::print;
@@ -11,9 +12,11 @@ use aps_check::Verdict;
 use aps_io::Sink;
 use std::alloc::Global;
 
-/// Writes the line of a verdict, and gives its status.
+/// Writes the line of a verdict, and gives its status; or there was no memory for the line, and nothing was written.
 pub fn print_verdict<K: Sink>(alloc: Global, verdict: &Verdict, sink: &mut K) -> Status
-    ensures { Prints (output_of (K.written sink.old) (K.written sink.new) (K.faults sink.old) (K.faults sink.new))
+    ensures { MakesAndPrints ⊤
+        (output_of (K.written sink.old) (K.written sink.new) (K.faults sink.old) (K.faults sink.new)
+        (K.shortages sink.old) (K.shortages sink.new))
         (verdict_text verdict.now) (status_of_verdict verdict.now) result }
 {
     match aps_check::text::print_verdict(alloc, verdict) {
@@ -22,9 +25,12 @@ pub fn print_verdict<K: Sink>(alloc: Global, verdict: &Verdict, sink: &mut K) ->
     }
 }
 
-/// Writes the lines of an answer to demands, and gives its status.
+/// Writes the lines of an answer to demands, and gives its status; or there was no memory for the lines, and nothing was
+/// written.
 pub fn print_admission<K: Sink>(alloc: Global, admission: &Admission, sink: &mut K) -> Status
-    ensures { Prints (output_of (K.written sink.old) (K.written sink.new) (K.faults sink.old) (K.faults sink.new))
+    ensures { MakesAndPrints ⊤
+        (output_of (K.written sink.old) (K.written sink.new) (K.faults sink.old) (K.faults sink.new)
+        (K.shortages sink.old) (K.shortages sink.new))
         (admission_text admission.now) (status_of_admission admission.now) result }
 {
     match aps_admit::print(alloc, admission) {

@@ -2,6 +2,9 @@
 #![tactic(auto)]
 
 mod answer;
+mod hint;
+mod journal;
+mod kept;
 mod outcome;
 mod printing;
 mod reading;
@@ -16,6 +19,8 @@ mod top;
 
 use aps_cpu::OpenGate;
 use aps_io::{StdSink, StdSource};
+use hint::{Given, tell_person};
+use kept::KeptSource;
 use status::Status;
 use std::alloc::AllocError;
 use std::env;
@@ -36,13 +41,16 @@ fn main(rt: HostRuntime) -> ExitCode {
     let Ok(words) = words_of(&rt) else {
         return ExitCode::from(Status::NoMemory.code());
     };
-    let mut source = StdSource::new(rt.stdin());
+    // what it gives is kept for a hint on standard error, where it is refused
+    let mut source = KeptSource::new(alloc, StdSource::new(rt.stdin()));
     // standard output takes each piece at once, so that no fault comes after the last answer
     let mut sink = StdSink::new(rt.stdout());
     let ended = top::top(&rt, alloc, &words, &mut source, &mut sink, &OpenGate);
-    if ended.status == Status::WordsRefused.code() {
-        // a hint for whoever starts the program by hand; nothing depends on it
-        let _ = eprintln!(rt; "usage: apsim solo < SCENARIO.toml (README.md has all commands)");
-    }
+    let given = Given {
+        bytes: source.kept(),
+        is_whole: !source.is_full(),
+    };
+    // a hint for a person; nothing depends on it
+    let _ = tell_person(&rt, alloc, &words, ended.status, given);
     ExitCode::from(ended.status)
 }

@@ -8,7 +8,7 @@ ghost use Rattle.aps_words.specs.declared.command.Command.TheVariants as asked;
 ghost use Rattle.apsim.specs.Asked.{calm, calm_command};
 ghost use Rattle.apsim.specs.Cause.{Input, HasCause, IsOutcome};
 ghost use Rattle.apsim.specs.Outcome.{history_of, status_of, text_of};
-ghost use Rattle.apsim.specs.Printing.{Prints, output_of};
+ghost use Rattle.apsim.specs.Printing.{Says, output_of};
 ghost use Rattle.apsim.specs.Reading.{intake_of};
 
 use crate::answer::{print_admission, print_verdict};
@@ -241,8 +241,8 @@ impl Outcome {
 
     /// Writes the text of the outcome, and gives the status that comes of it.
     pub fn say<K: Sink>(&self, alloc: Global, sink: &mut K) -> Status
-        ensures { Prints (output_of (K.written sink.old) (K.written sink.new) (K.faults sink.old) (K.faults sink.new))
-            (text_of self.now) (status_of self.now) result }
+        ensures { Says (output_of (K.written sink.old) (K.written sink.new) (K.faults sink.old) (K.faults sink.new)
+            (K.shortages sink.old) (K.shortages sink.new)) self.now result }
     {
         match self {
             Outcome::WordsRefused => print(sink, b"aps: words refused\n", Status::WordsRefused),

@@ -107,7 +107,7 @@ fn recorded_in(alloc: Global, bytes: &[u8]) -> Result<Recorded, Outcome>
 }
 
 /// Where a scenario ends and its journal begins, if the line between them is there: both places lie in the bytes.
-fn parted(bytes: &[u8]) -> Option<JournalAt>
+pub fn parted(bytes: &[u8]) -> Option<JournalAt>
     ensures same { result ≡ journal_place bytes.now }
     ensures inside { IfSome result (λ at. (at.scenario_len ≤ length bytes.now) × (at.journal_from ≤ length bytes.now)) }
 {

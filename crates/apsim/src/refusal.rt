@@ -1,8 +1,8 @@
 //! Why an input is refused, and the line that tells it.
 ghost use Rattle.std.specs.Prelude.{◌≡◌, ◌++◌, codes, string_bytes, vec_items, IfOk, OnOk};
 ghost use Rattle.apsim.specs.declared.refusal.InputRefusal.TheVariants.{Text, BadJournal};
-ghost use Rattle.apsim.specs.Printing.{Prints, output_of};
-ghost use Rattle.apsim.specs.Refusal.{refusal_text, refusal_words};
+ghost use Rattle.apsim.specs.Printing.{MakesAndPrints, output_of};
+ghost use Rattle.apsim.specs.Refusal.{IsLineToMake, refusal_text, refusal_words};
 
 use crate::printing::print;
 use crate::status::Status;
@@ -24,9 +24,12 @@ pub enum InputRefusal {
     BadJournal { line: u32, column: u32 },
 }
 
-/// Writes the line that says why the input is refused, and gives the status for that.
+/// Writes the line that says why the input is refused, and gives the status for that; or there was no memory for the
+/// line, and nothing was written.
 pub fn print_refusal<K: Sink>(alloc: Global, refusal: &InputRefusal, sink: &mut K) -> Status
-    ensures { Prints (output_of (K.written sink.old) (K.written sink.new) (K.faults sink.old) (K.faults sink.new))
+    ensures { MakesAndPrints (IsLineToMake refusal.now)
+        (output_of (K.written sink.old) (K.written sink.new) (K.faults sink.old) (K.faults sink.new)
+        (K.shortages sink.old) (K.shortages sink.new))
         (refusal_text refusal.now) Status.InputRefused result }
 {
     match refusal {

@@ -1,20 +1,23 @@
 //! The report of a history, written under a status.
+ghost use Rattle.std.specs.Prelude.{⊤};
 ghost use Rattle.aps_model.specs.Audit.{audit_of};
 ghost use Rattle.aps_model.specs.Journal.{journal_text};
 ghost use Rattle.aps_model.specs.Report.{summary_text, windows_text};
 ghost use Rattle.apsim.specs.Outcome.{report_text};
-ghost use Rattle.apsim.specs.Printing.{Prints, output_of};
+ghost use Rattle.apsim.specs.Printing.{MakesAndPrints, output_of};
 
+use crate::journal::{ROOM, write_lines};
 use crate::printing::print;
 use crate::status::Status;
 use aps_bound::audit;
-use aps_io::Sink;
+use aps_io::{Sink, WriteRefusal};
 use aps_model::History;
-use aps_report::{JournalFault, journal, summary, windows};
+use aps_report::{summary, windows};
 use aps_words::Report;
 use std::alloc::Global;
 
-/// Writes this report of the history, and gives the status for which it was written, as `print` does.
+/// Writes this report of the history, and gives the status for which it was written, as `print` does; or there was no
+/// memory for the report, and nothing was written.
 pub fn print_report<K: Sink>(
     alloc: Global,
     report: Report,
@@ -22,7 +25,9 @@ pub fn print_report<K: Sink>(
     status: Status,
     sink: &mut K,
 ) -> Status
-    ensures { Prints (output_of (K.written sink.old) (K.written sink.new) (K.faults sink.old) (K.faults sink.new))
+    ensures { MakesAndPrints ⊤
+        (output_of (K.written sink.old) (K.written sink.new) (K.faults sink.old) (K.faults sink.new)
+        (K.shortages sink.old) (K.shortages sink.new))
         (report_text report history.now) status result }
 {
     match report {
@@ -33,7 +38,9 @@ pub fn print_report<K: Sink>(
 }
 
 fn print_summary<K: Sink>(alloc: Global, history: &History, status: Status, sink: &mut K) -> Status
-    ensures { Prints (output_of (K.written sink.old) (K.written sink.new) (K.faults sink.old) (K.faults sink.new))
+    ensures { MakesAndPrints ⊤
+        (output_of (K.written sink.old) (K.written sink.new) (K.faults sink.old) (K.faults sink.new)
+        (K.shortages sink.old) (K.shortages sink.new))
         (summary_text history.now (audit_of history.now)) status result }
 {
     match summary(alloc, history, &audit(history)) {
@@ -43,7 +50,9 @@ fn print_summary<K: Sink>(alloc: Global, history: &History, status: Status, sink
 }
 
 fn print_windows<K: Sink>(alloc: Global, history: &History, status: Status, sink: &mut K) -> Status
-    ensures { Prints (output_of (K.written sink.old) (K.written sink.new) (K.faults sink.old) (K.faults sink.new))
+    ensures { MakesAndPrints ⊤
+        (output_of (K.written sink.old) (K.written sink.new) (K.faults sink.old) (K.faults sink.new)
+        (K.shortages sink.old) (K.shortages sink.new))
         (windows_text history.now) status result }
 {
     match windows(alloc, history) {
@@ -53,12 +62,17 @@ fn print_windows<K: Sink>(alloc: Global, history: &History, status: Status, sink
 }
 
 fn print_journal<K: Sink>(alloc: Global, history: &History, status: Status, sink: &mut K) -> Status
-    ensures { Prints (output_of (K.written sink.old) (K.written sink.new) (K.faults sink.old) (K.faults sink.new))
+    ensures { MakesAndPrints ⊤
+        (output_of (K.written sink.old) (K.written sink.new) (K.faults sink.old) (K.faults sink.new)
+        (K.shortages sink.old) (K.shortages sink.new))
         (journal_text history.now.entries) status result }
 {
-    match journal(alloc, history, sink) {
+    let Ok(mut piece) = Vec::with_capacity(alloc, ROOM) else {
+        return Status::NoMemory;
+    };
+    match write_lines(&mut piece, history.entries(), sink) {
         Ok(()) => status,
-        Err(JournalFault::WriteFault) => status.or_write_fault(),
-        Err(JournalFault::NoMemory) => Status::NoMemory,
+        Err(WriteRefusal::WriteFault) => status.or_write_fault(),
+        Err(WriteRefusal::NoMemory) => Status::NoMemory,
     }
 }

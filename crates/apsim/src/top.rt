@@ -32,7 +32,8 @@ pub struct Ended {
 /// It waits for nobody. Commands that need other threads are refused as words.
 ///
 /// A refusal and a fault of the source are written to the sink too. Each status has its one cause: docs/FORMATS.md,
-/// "Exit status". A fault of the sink leaves a prefix of the text there, and so does want of memory.
+/// "Exit status". A fault of the sink leaves a prefix of the text there, and so does the sink's own want of memory; where
+/// memory is wanting for anything else nothing is written.
 pub fn calm_top<S: Source, K: Sink>(
     alloc: Global,
     words: &[String],
@@ -42,7 +43,8 @@ pub fn calm_top<S: Source, K: Sink>(
     // One outcome that its words and its input are the cause of, told; so that each status comes in its case.
     ensures answer { IsAnswer (calm_command (map string_bytes words.now))
         (intake_of (S.left source.old) (S.left source.new) (S.faults source.old) (S.faults source.new))
-        (output_of (K.written sink.old) (K.written sink.new) (K.faults sink.old) (K.faults sink.new)) result }
+        (output_of (K.written sink.old) (K.written sink.new) (K.faults sink.old) (K.faults sink.new)
+        (K.shortages sink.old) (K.shortages sink.new)) result }
 {
     let outcome = Outcome::of_calm_words(alloc, words, source);
     tell(alloc, outcome, sink)
@@ -65,7 +67,8 @@ pub fn top<R: Threads + Wait + Sync, S: Source, K: Sink, G: Gate + Sync>(
     // One outcome that its words and its input are the cause of, told; so that each status comes in its case.
     ensures answer { IsAnswer (command (map string_bytes words.now))
         (intake_of (S.left source.old) (S.left source.new) (S.faults source.old) (S.faults source.new))
-        (output_of (K.written sink.old) (K.written sink.new) (K.faults sink.old) (K.faults sink.new)) result }
+        (output_of (K.written sink.old) (K.written sink.new) (K.faults sink.old) (K.faults sink.new)
+        (K.shortages sink.old) (K.shortages sink.new)) result }
 {
     let outcome = Outcome::of(rt, alloc, words, source, gate);
     tell(alloc, outcome, sink)
@@ -73,7 +76,8 @@ pub fn top<R: Threads + Wait + Sync, S: Source, K: Sink, G: Gate + Sync>(
 
 /// Writes the text of the outcome to the sink, and hands back the status and the history.
 fn tell<K: Sink>(alloc: Global, outcome: Outcome, sink: &mut K) -> Ended
-    ensures { Tells outcome (output_of (K.written sink.old) (K.written sink.new) (K.faults sink.old) (K.faults sink.new)) result }
+    ensures { Tells outcome (output_of (K.written sink.old) (K.written sink.new) (K.faults sink.old) (K.faults sink.new)
+        (K.shortages sink.old) (K.shortages sink.new)) result }
 {
     let status = outcome.say(alloc, sink);
     Ended {

@@ -1,17 +1,17 @@
 use Rattle.std.proofs.Common.{refl, sym, ap, ◌∙◌}
 use Rattle.apsim.specs.Refusal.{refusal_text}
-use Rattle.apsim.proofs.Said.{said_as}
+use Rattle.apsim.proofs.Said.{made_as}
 use Rattle.apsim.proofs.refusal.print_refusal.Goals as goal
 
 pub returns-in-Ok : goal.returns-in-Ok
 returns-in-Ok g c =
-    said_as _ _ _ _ _ _ (c.deref.ensures.value ∙ c.in-Ok.ensures ∙ sym (ap refusal_text c.in-Text.is)) refl c.print.ensures.prints
+    made_as _ _ _ _ _ _ _ (c.deref.ensures.value ∙ c.in-Ok.ensures ∙ sym (ap refusal_text c.in-Text.is)) refl c.print.ensures.prints
 
 pub returns-in-NoJournal : goal.returns-in-NoJournal
 returns-in-NoJournal g c =
-    said_as _ _ _ _ _ _ (sym (ap refusal_text c.in-NoJournal.is)) refl c.print-in-NoJournal.ensures.prints
+    made_as _ _ _ _ _ _ _ (sym (ap refusal_text c.in-NoJournal.is)) refl c.print-in-NoJournal.ensures.prints
 
 pub returns-in-Ok-journal_line : goal.returns-in-Ok-journal_line
 returns-in-Ok-journal_line g c =
-    said_as _ _ _ _ _ _ (c.as_bytes.ensures.value ∙ c.in-Ok-journal_line.ensures ∙ sym (ap refusal_text c.in-BadJournal.is)) refl
+    made_as _ _ _ _ _ _ _ (c.as_bytes.ensures.value ∙ c.in-Ok-journal_line.ensures ∙ sym (ap refusal_text c.in-BadJournal.is)) refl
     c.print-in-Ok-journal_line.ensures.prints
