@@ -66,8 +66,8 @@ pub record UpgradedAsRead (input : Input) (text : List ℕ) : Type 0 where
   pub asked : input.asked ≡ Some Upgrade
   pub whole : IsReadWhole most_bytes input.reading
   pub read : reads input.reading.bytes ≡ Ok scenario
-  pub upgraded : reads text ≡ Ok (upgraded scenario)
   pub written : text ≡ scenario_text (upgraded scenario)
+  pub upgraded : reads text ≡ Ok (upgraded scenario)
 
 -- the verdict is that on the scenario and the journal that the bytes are, in the order and with the limit of the command
 pub record CheckedAsRead (input : Input) (verdict : Verdict) : Type 0 where
