@@ -8,3 +8,5 @@ pub mod Sleepers
 pub mod Finding
 pub mod Ranges
 pub mod Scenes
+pub mod Wording
+pub mod Telling

@@ -6,3 +6,4 @@ pub mod Parts
 pub mod Because
 pub mod Chain
 pub mod Again
+pub mod Text

@@ -7,9 +7,12 @@ mod because;
 mod chain;
 mod deciding;
 pub mod laws;
+mod lines;
 mod retracing;
 mod scene;
+mod text;
 mod ties;
+mod words;
 
 pub use above::Above;
 pub use because::Because;
@@ -17,3 +20,4 @@ pub use chain::explained;
 pub use deciding::{Test, ahead};
 pub use retracing::scene_at;
 pub use scene::Scene;
+pub use text::explain_text;
