@@ -1,0 +1,4 @@
+pub mod Share
+pub mod Shares
+pub mod Spent
+pub mod Text

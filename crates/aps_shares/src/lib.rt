@@ -1,0 +1,14 @@
+//! What each partition gets of the time that its budget allows, over all windows of a recorded history, and by how much it
+//! overspends its critical budget.
+#![tactic(auto)]
+
+mod lines;
+mod share;
+mod shares;
+mod spent;
+mod text;
+
+pub use share::{Amount, Counts, Share, Shortfall, Used};
+pub use shares::Shares;
+pub use spent::Spent;
+pub use text::shares_text_with;

@@ -1,0 +1,96 @@
+//! What is told of all partitions over the windows of a recorded history: one pass over its samples.
+ghost use Rattle.std.specs.Prelude.{◌≡◌, ℕ, ◌<◌, ◌≤◌, length, slice_index_or, IfOk};
+ghost use Rattle.aps_model.specs.Legal.{IsLegal};
+ghost use Rattle.aps_model.specs.Loaded.{finished_ticks};
+ghost use Rattle.aps_model.specs.Shape.{IsShape};
+ghost use Rattle.aps_samples.specs.Pass.{IsAt, scenario_of};
+ghost use Rattle.aps_shares.specs.Share.{counts_with, no_counts, no_share, share_with};
+ghost use Rattle.aps_shares.specs.Shares.{AreFew, AreUpTo, IsFew, tick_of_all};
+
+use crate::share::{Counts, Share};
+use aps_model::{History, Nanos, NoMemory, Order, Shape, finished_ticks};
+use aps_samples::{Sample, Samples};
+use std::alloc::Global;
+
+const PARTITIONS: usize = 32;
+
+/// How many windows there are, and what is told of each of 32 partitions.
+#[derive(Clone, Copy)]
+pub struct Shares {
+    pub counts: Counts,
+    pub each: [Share; PARTITIONS],
+}
+
+/// The shares of all partitions over the finished ticks of a history that is legal in this order of turns. `NoMemory` comes
+/// where memory runs out.
+pub fn all_shares(alloc: Global, history: &History, order: Order) -> Result<Shares, NoMemory>
+    requires legal { IsLegal history.now.scenario order history.now.entries }
+    requires few { length history.now.entries ≤ 4000000 }
+    ensures { IfOk result (AreUpTo history.now.scenario history.now.entries (finished_ticks history.now.scenario.shape history.now.entries)) }
+{
+    let mut samples = Samples::begin(alloc, history, order)?;
+    Ok(shares_of(history, &mut samples))
+}
+
+/// The same, by a pass that begins.
+fn shares_of(history: &History, samples: &mut Samples) -> Shares
+    requires at { IsAt history.now.entries samples.old }
+    requires of { scenario_of samples.old.cursor ≡ history.now.scenario }
+    requires first { samples.old.tick ≡ 0 }
+    ensures { AreUpTo history.now.scenario history.now.entries (finished_ticks history.now.scenario.shape history.now.entries) result }
+{
+    let shape = history.scenario().shape();
+    let finished = finished_ticks(shape, history.entries());
+    let turn = tick_of_all(shape);
+    let mut shares = Shares::none();
+    for _ in 0..finished {
+        let sample = samples.next(history);
+        shares.add(&sample, turn);
+    }
+    shares
+}
+
+/// The time of all processors in a tick, in ns.
+pub fn tick_of_all(shape: &Shape) -> Nanos
+    requires { IsShape shape.now }
+    ensures { result ≡ tick_of_all shape.now }
+{
+    u64::from(shape.cpus) * shape.tick
+}
+
+impl Shares {
+    /// Before the first window.
+    fn none() -> Shares
+        ensures counts { result.counts ≡ no_counts }
+        ensures each { (p : ℕ) → p < 32 → slice_index_or result.each p no_share ≡ no_share }
+    {
+        Shares {
+            counts: Counts::none(),
+            each: [Share::none(); PARTITIONS],
+        }
+    }
+
+    /// Adds the window of one sample more, where all processors have so much time in a tick (ns).
+    fn add(&mut self, sample: &Sample, turn: Nanos)
+        requires few { AreFew self.old }
+        requires tick { sample.now.tick ≤ 100000000 }
+        ensures counts { self.new.counts ≡ counts_with self.old.counts sample.now }
+        ensures each { (p : ℕ) → p < 32 → slice_index_or self.new.each p no_share ≡ share_with turn p (slice_index_or self.old.each p no_share) sample.now }
+    {
+        self.counts = self.counts.with(sample);
+        self.each = each_with(&self.each, sample, turn);
+    }
+}
+
+/// The share of each partition with one window more.
+fn each_with(shares: &[Share; 32], sample: &Sample, turn: Nanos) -> [Share; 32]
+    requires few { (p : ℕ) → p < 32 → IsFew (slice_index_or shares.now p no_share) }
+    requires tick { sample.now.tick ≤ 100000000 }
+    ensures { (p : ℕ) → p < 32 → slice_index_or result p no_share ≡ share_with turn p (slice_index_or shares.now p no_share) sample.now }
+{
+    let mut all = [Share::none(); PARTITIONS];
+    for p in 0..PARTITIONS {
+        all[p] = shares[p].with(sample, p, turn);
+    }
+    all
+}
