@@ -277,9 +277,9 @@ done input output outcome.TooLong cause is whole = absurd cc
 done input output (outcome.InputRefused refusal) cause is whole = absurd cc
 done input output (outcome.Ran report end h) cause is whole = ran_done input output report end h cause is whole
 done input output (outcome.Generated text) cause is whole =
-    subst (λ asked. WritesAsked asked input.reading.bytes None output) (sym cause.asked) (_, cause.scenario, cause.written, whole)
+    subst (λ asked. WritesAsked asked input.reading.bytes None output) (sym cause.asked) (_, cause.scenario, whole)
 done input output (outcome.Upgraded text) cause is whole =
-    subst (λ asked. WritesAsked asked input.reading.bytes None output) (sym cause.asked) (cause.scenario, _, cause.read, cause.upgraded, cause.written, whole)
+    subst (λ asked. WritesAsked asked input.reading.bytes None output) (sym cause.asked) (cause.scenario, _, cause.read, cause.upgraded, whole)
 done input output (outcome.Checked verdict) cause is whole = checked_done input output verdict cause is whole
 done input output (outcome.Admitted answer) cause is whole = admitted_done input output answer cause is whole
 done input output outcome.NoMemory cause is whole = absurd cc

@@ -20,7 +20,6 @@ use Rattle.aps_model.specs.Scenario.{Scenario}
 use Rattle.aps_model.specs.Upgrade.{upgraded}
 use Rattle.aps_scenario.specs.Demands.{Demands, reads_demands}
 use Rattle.aps_scenario.specs.Reading.{reads}
-use Rattle.aps_scenario.specs.ScenarioText.{scenario_text}
 use Rattle.aps_gen.specs.Generated.{generated}
 use Rattle.aps_words.specs.declared.command.Command.{Command}
 use Rattle.aps_words.specs.declared.command.Command.TheVariants.{Solo, Run, Gen, Upgrade, Check, Admit}
@@ -95,11 +94,10 @@ WritesAsked None bytes h output = ⊥
 WritesAsked (Some (Solo report limit)) bytes h output = ReportsWhole report h output
 WritesAsked (Some (Run order report limit)) bytes h output = ReportsWhole report h output
 WritesAsked (Some (Gen seed cpus partitions ticks)) bytes h output =
-    (text : List ℕ) × (reads text ≡ Ok (generated seed cpus partitions ticks))
-    × (text ≡ scenario_text (generated seed cpus partitions ticks)) × WritesWhole output text
+    (text : List ℕ) × (reads text ≡ Ok (generated seed cpus partitions ticks)) × WritesWhole output text
 WritesAsked (Some Upgrade) bytes h output =
     (scenario : Scenario) × (text : List ℕ) × (reads bytes ≡ Ok scenario) × (reads text ≡ Ok (upgraded scenario))
-    × (text ≡ scenario_text (upgraded scenario)) × WritesWhole output text
+    × WritesWhole output text
 WritesAsked (Some (Check order limit)) bytes h output =
     (scenario : Scenario) × (entries : List Entry) × (end : Option End) × IsCheck bytes scenario entries
     × IsVerdict (record { scenario = scenario; order = order; limit = limit }) entries (Legal end)

@@ -14,7 +14,6 @@ use Rattle.aps_model.specs.Scenario.{Scenario}
 use Rattle.aps_model.specs.Upgrade.{upgraded}
 use Rattle.aps_scenario.specs.Demands.{Demands, reads_demands}
 use Rattle.aps_scenario.specs.Reading.{reads}
-use Rattle.aps_scenario.specs.ScenarioText.{scenario_text}
 use Rattle.aps_gen.specs.Generated.{generated}
 use Rattle.aps_words.specs.declared.command.Command.{Command}
 use Rattle.aps_words.specs.declared.command.Command.TheVariants.{Gen, Upgrade, Check, Admit}
@@ -48,8 +47,7 @@ pub record RanAsRead (input : Input) (report : Report) (end : End) (h : History)
   pub scenario : reads input.reading.bytes ≡ Ok h.scenario
   pub run : IsRun order limit end h
 
--- the text is that of the scenario that is generated from the numbers that were asked for, which it reads as, and nothing
--- was read
+-- the text reads as the scenario that is generated from the numbers that were asked for, and nothing was read
 pub record GeneratedAsAsked (input : Input) (text : List ℕ) : Type 0 where
   pub seed : ℕ
   pub cpus : ℕ
@@ -58,15 +56,13 @@ pub record GeneratedAsAsked (input : Input) (text : List ℕ) : Type 0 where
   pub asked : input.asked ≡ Some (Gen seed cpus partitions ticks)
   pub unread : input.reading.bytes ≡ []
   pub scenario : reads text ≡ Ok (generated seed cpus partitions ticks)
-  pub written : text ≡ scenario_text (generated seed cpus partitions ticks)
 
--- the text is that of the scenario that the bytes are, with its budgets in parts per thousand, which it reads as
+-- the text reads as the scenario that the bytes are, with its budgets in parts per thousand
 pub record UpgradedAsRead (input : Input) (text : List ℕ) : Type 0 where
   pub scenario : Scenario
   pub asked : input.asked ≡ Some Upgrade
   pub whole : IsReadWhole most_bytes input.reading
   pub read : reads input.reading.bytes ≡ Ok scenario
-  pub written : text ≡ scenario_text (upgraded scenario)
   pub upgraded : reads text ≡ Ok (upgraded scenario)
 
 -- the verdict is that on the scenario and the journal that the bytes are, in the order and with the limit of the command

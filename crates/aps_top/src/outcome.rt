@@ -2,7 +2,6 @@
 ghost use Rattle.std.specs.Prelude.{◌≡◌, ◌≤◌, [], Some, map, string_bytes, IfOk, Ok};
 ghost use Rattle.aps_gen.specs.Generated.{generated};
 ghost use Rattle.aps_scenario.specs.Reading.{reads};
-ghost use Rattle.aps_scenario.specs.ScenarioText.{scenario_text};
 ghost use Rattle.aps_model.specs.Upgrade.{upgraded};
 ghost use Rattle.aps_words.specs.Command.{HasRanges, command};
 ghost use Rattle.aps_words.specs.declared.command.Command.TheVariants as asked;
@@ -291,17 +290,15 @@ fn generated_text(
     requires few_partitions { partitions ≤ 32 }
     requires some_tick { 1 ≤ ticks }
     requires few_ticks { ticks ≤ 1000000 }
-    ensures reads_back { IfOk result (λ text. reads (string_bytes text) ≡ Ok (generated seed cpus partitions ticks)) }
-    ensures text { IfOk result (λ text. string_bytes text ≡ scenario_text (generated seed cpus partitions ticks)) }
+    ensures { IfOk result (λ text. reads (string_bytes text) ≡ Ok (generated seed cpus partitions ticks)) }
 {
     let scenario = generate(alloc, seed, cpus, partitions, ticks)?;
     aps_scenario::print(alloc, &scenario)
 }
 
-/// The text of the scenario with its budgets in parts per thousand.
+/// A text of the scenario with its budgets in parts per thousand.
 fn upgraded_text(alloc: Global, scenario: Scenario) -> Result<String, NoMemory>
-    ensures reads_back { IfOk result (λ text. reads (string_bytes text) ≡ Ok (upgraded scenario)) }
-    ensures text { IfOk result (λ text. string_bytes text ≡ scenario_text (upgraded scenario)) }
+    ensures { IfOk result (λ text. reads (string_bytes text) ≡ Ok (upgraded scenario)) }
 {
     let upgraded = upgrade(scenario);
     aps_scenario::print(alloc, &upgraded)
