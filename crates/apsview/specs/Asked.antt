@@ -11,7 +11,7 @@ is_there Cycles = true
 is_there (Csv ticks) = true
 is_there Shares = false
 is_there Latency = true
-is_there (Explain thread moment) = false
+is_there (Explain thread moment) = true
 
 abbrev pub if_there : Asked → Option Asked
 if_there asked = if is_there asked.report then Some asked else None

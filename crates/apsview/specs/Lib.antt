@@ -1,3 +1,4 @@
+pub mod Naming
 pub mod Asked
 pub mod Status
 pub mod Printing

@@ -26,7 +26,7 @@ fn is_there(report: Report) -> bool
     ensures { result ≡ spec.is_there report }
 {
     match report {
-        Report::Cycles | Report::Csv { .. } | Report::Latency => true,
-        Report::Shares | Report::Explain { .. } => false,
+        Report::Cycles | Report::Csv { .. } | Report::Latency | Report::Explain { .. } => true,
+        Report::Shares => false,
     }
 }

@@ -4,6 +4,7 @@
 
 mod asked;
 mod calm;
+mod naming;
 mod outcome;
 mod printing;
 mod reading;
@@ -26,6 +27,7 @@ use std::process::ExitCode;
 const USAGE: &str = "usage: apsview REPORT < INPUT
 INPUT is a scenario, or a scenario, the line `--- journal` and a journal of it; REPORT is one of these:
   latency [--limit ENTRIES]
+  explain --thread NAME --at NS [--limit ENTRIES]
   csv [--from TICK] [--to TICK] [--limit ENTRIES]
   cycles [--limit ENTRIES]";
 

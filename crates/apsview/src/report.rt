@@ -1,12 +1,15 @@
 //! The report of a history.
-ghost use Rattle.std.specs.Prelude.{◌≡◌, ◌≤◌, option_map, string_bytes, IfOk};
+ghost use Rattle.std.specs.Prelude.{◌≡◌, ◌≤◌, length, option_map, string_bytes, IfOk};
+ghost use Rattle.aps_model.specs.Legal.{IsLegal};
 ghost use Rattle.apsview.specs.Report as spec;
 ghost use Rattle.apsview.specs.Report.{report_text};
 
+use crate::naming::thread_named;
 use aps_core::Core;
+use aps_explain::explain_text;
 use aps_latency::latency_text;
 use aps_lives::text::cycles_text;
-use aps_model::NoMemory;
+use aps_model::{History, Name, Nanos, NoMemory, Order};
 use aps_samples::table;
 use aps_samples::table::csv;
 use aps_view_words::{Report, Ticks};
@@ -24,8 +27,9 @@ pub fn report(alloc: Global, report: Report, core: &Core) -> Result<Option<Strin
     match report {
         Report::Cycles => Ok(Some(cycles_text(alloc, history, order)?)),
         Report::Csv { ticks } => Ok(Some(csv(alloc, history, order, told(ticks))?)),
+        Report::Shares => Ok(None),
         Report::Latency => Ok(Some(latency_text(alloc, history, order)?)),
-        Report::Shares | Report::Explain { .. } => Ok(None),
+        Report::Explain { thread, at } => explained(alloc, history, order, thread, at),
     }
 }
 
@@ -36,5 +40,23 @@ fn told(ticks: Ticks) -> table::Ticks
     table::Ticks {
         from: ticks.from,
         to: ticks.to,
+    }
+}
+
+/// Why the thread of this name runs at a moment (ns), or doesn't; none where the scenario has no thread of that name.
+fn explained(
+    alloc: Global,
+    history: &History,
+    order: Order,
+    thread: Option<Name>,
+    at: Nanos,
+) -> Result<Option<String>, NoMemory>
+    requires legal { IsLegal history.now.scenario order history.now.entries }
+    requires few { length history.now.entries ≤ 4000000 }
+    ensures { IfOk result (λ text. option_map string_bytes text ≡ spec.explained history.now.scenario history.now.entries thread at) }
+{
+    match thread_named(history.scenario().threads(), thread) {
+        Some(x) => Ok(Some(explain_text(alloc, history, order, x, at)?)),
+        None => Ok(None),
     }
 }

@@ -117,3 +117,15 @@ fn what_cannot_be_viewed_is_told(rt: HostRuntime) -> Result<(), Fail> {
     }
     Ok(())
 }
+
+#[test]
+fn a_thread_that_is_not_there_is_refused(rt: HostRuntime) -> Result<(), Fail> {
+    let words = ["explain", "--thread=zed", "--at=0"];
+    let (status, sink) = called(rt.alloc(), &words, &[SLEEPER])?;
+    assert_eq!(rt; status, 2);
+    assert_eq!(rt;
+        sink.written(),
+        b"aps: scenario refused: unknown-name --thread\n".as_slice()
+    );
+    Ok(())
+}

@@ -22,3 +22,10 @@ latency_text-requires-clause-few c =
     let fit : length h.entries ≤ h.room.entries = c.entries-entries.ensures.keeps.entries_fit in
     let room : h.room.entries ≡ c.args.core.now.setup.limit = ap (λ (k : History). k.room.entries) c.history-history.ensures.same in
     omega (arith, fit, room, c.requires.few)
+
+pub explained-requires-clause-few : goal.explained-requires-clause-few
+explained-requires-clause-few c =
+    let h = c.history-history.result.now in
+    let fit : length h.entries ≤ h.room.entries = c.entries-entries.ensures.keeps.entries_fit in
+    let room : h.room.entries ≡ c.args.core.now.setup.limit = ap (λ (k : History). k.room.entries) c.history-history.ensures.same in
+    omega (arith, fit, room, c.requires.few)
