@@ -5,6 +5,7 @@ ghost use Rattle.aps_words.specs.Command.{Says};
 ghost use Rattle.aps_words.specs.Plain.{is_plain};
 ghost use Rattle.aps_words.specs.Unhyphened.{with_unhyphened};
 ghost use Rattle.aps_view_words.specs.Asked as spec;
+ghost use Rattle.aps_view_words.specs.Values.{AreTicks};
 
 use crate::options::{limit_options, thread_options, ticks_options};
 use crate::values::{thread_of, ticks_of};
@@ -24,6 +25,28 @@ pub struct Ticks {
     pub to: Option<u32>,
 }
 
+/// A picture in SVG.
+#[derive(Clone, Copy, Debug, PartialEq, Eq)]
+pub enum Picture {
+    /// A lane for each processor.
+    Timeline,
+    /// A lane for each thread.
+    Threads,
+    /// What each partition used of its budget.
+    Usage,
+}
+
+/// A file for a viewer of traces.
+#[derive(Clone, Copy, Debug, PartialEq, Eq)]
+pub enum Trace {
+    /// Signals as a value change dump.
+    Vcd,
+    /// Which of these signals GTKWave shows, and in which order.
+    Gtkw,
+    /// Trace events in JSON.
+    Events,
+}
+
 /// What is written of a history.
 #[derive(Clone, Copy, Debug, PartialEq, Eq)]
 pub enum Report {
@@ -38,6 +61,10 @@ pub enum Report {
     /// Why the thread of this name does or doesn't run at this moment, up to 10,000,000,000,000 ns. There is no name where
     /// the given text is none: no thread has it.
     Explain { thread: Option<Name>, at: Nanos },
+    /// A picture of these ticks.
+    Picture { picture: Picture, ticks: Ticks },
+    /// A file for a viewer of traces.
+    Trace { trace: Trace },
 }
 
 /// What the program is asked for: a report of a history of up to `limit` entries, 1 to 4,000,000.
@@ -68,6 +95,12 @@ pub fn asked_of(alloc: Global, words: &[String]) -> Result<Asked, WordsRefusal>
     match word.as_str() {
         "cycles" => limited(alloc, words, Report::Cycles),
         "csv" => csv_of(alloc, words),
+        "timeline" => picture_of(alloc, words, Picture::Timeline),
+        "threads" => picture_of(alloc, words, Picture::Threads),
+        "usage" => picture_of(alloc, words, Picture::Usage),
+        "vcd" => limited(alloc, words, traced(Trace::Vcd)),
+        "gtkw" => limited(alloc, words, traced(Trace::Gtkw)),
+        "trace" => limited(alloc, words, traced(Trace::Events)),
         "shares" => limited(alloc, words, Report::Shares),
         "latency" => limited(alloc, words, Report::Latency),
         "explain" => explain_of(alloc, words),
@@ -102,6 +135,26 @@ fn csv_of(alloc: Global, words: &[String]) -> Result<Asked, WordsRefusal>
     }
 }
 
+/// A picture, by the words behind the first.
+fn picture_of(alloc: Global, words: &[String], picture: Picture) -> Result<Asked, WordsRefusal>
+    requires plain { is_plain [] (drop 1 (map string_bytes words.now)) ≡ true }
+    ensures same { Says result (with_unhyphened spec.ticks_options (spec.picture picture) (drop 1 (map string_bytes words.now))) }
+    ensures ranges { IfOk result spec.HasRanges }
+{
+    let matches = matches_in(ticks_options(alloc)?, words)?;
+    match picture_from(&matches, picture) {
+        Some(asked) => Ok(asked),
+        None => Err(WordsRefusal::Words),
+    }
+}
+
+/// The report that is this trace.
+fn traced(trace: Trace) -> Report
+    ensures { result ≡ spec.traced trace }
+{
+    Report::Trace { trace }
+}
+
 /// `explain`, by the words behind the first.
 fn explain_of(alloc: Global, words: &[String]) -> Result<Asked, WordsRefusal>
     requires plain { is_plain [] (drop 1 (map string_bytes words.now)) ≡ true }
@@ -124,12 +177,28 @@ fn limited_from(matches: &ArgMatches<'_>, report: Report) -> Option<Asked>
     Some(Asked { report, limit })
 }
 
+/// The ticks that the options name.
+fn ticks_from(matches: &ArgMatches<'_>) -> Option<Ticks>
+    ensures same { result ≡ spec.ticks_by (first_value (found_of matches.now)) }
+    ensures ranges { IfSome result AreTicks }
+{
+    ticks_of(matches.get_str("from"), matches.get_str("to"))
+}
+
 fn csv_from(matches: &ArgMatches<'_>) -> Option<Asked>
     ensures same { result ≡ spec.csv (first_value (found_of matches.now)) }
     ensures ranges { IfSome result spec.HasRanges }
 {
-    let ticks = ticks_of(matches.get_str("from"), matches.get_str("to"))?;
+    let ticks = ticks_from(matches)?;
     limited_from(matches, Report::Csv { ticks })
+}
+
+fn picture_from(matches: &ArgMatches<'_>, picture: Picture) -> Option<Asked>
+    ensures same { result ≡ spec.picture picture (first_value (found_of matches.now)) }
+    ensures ranges { IfSome result spec.HasRanges }
+{
+    let ticks = ticks_from(matches)?;
+    limited_from(matches, Report::Picture { picture, ticks })
 }
 
 fn explain_from(matches: &ArgMatches<'_>) -> Option<Asked>

@@ -7,4 +7,4 @@ mod options;
 mod tests;
 mod values;
 
-pub use asked::{Asked, Report, Ticks, asked_of};
+pub use asked::{Asked, Picture, Report, Ticks, Trace, asked_of};

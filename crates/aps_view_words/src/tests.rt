@@ -1,5 +1,5 @@
 //! Lists of words that ask for a report.
-use crate::asked::{Asked, Report, Ticks, asked_of};
+use crate::asked::{Asked, Picture, Report, Ticks, Trace, asked_of};
 use aps_model::Name;
 use aps_words::WordsRefusal;
 use std::alloc::{AllocError, Global};
@@ -26,6 +26,8 @@ fn these_words_ask_for_a_report(rt: HostRuntime) -> Result<(), Fail> {
     let alloc = rt.alloc();
     assert_eq!(rt; read(alloc, &["cycles"])?, usual(Report::Cycles));
     assert_eq!(rt; read(alloc, &["shares"])?, usual(Report::Shares));
+    let trace = Trace::Gtkw;
+    assert_eq!(rt; read(alloc, &["gtkw"])?, usual(Report::Trace { trace }));
     let few = Asked {
         report: Report::Latency,
         limit: 7,
@@ -40,6 +42,14 @@ fn these_words_ask_for_a_report(rt: HostRuntime) -> Result<(), Fail> {
     assert_eq!(rt;
         read(alloc, &["csv", "--to", "1000000", "--from=999999"])?,
         usual(Report::Csv { ticks: last })
+    );
+    let threads = Report::Picture {
+        picture: Picture::Threads,
+        ticks: last,
+    };
+    assert_eq!(rt;
+        read(alloc, &["threads", "--to", "1000000", "--from=999999"])?,
+        usual(threads)
     );
     Ok(())
 }

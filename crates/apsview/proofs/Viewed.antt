@@ -1,5 +1,5 @@
--- What a run that has ended makes due.
-use Rattle.std.proofs.Common.{◌≡◌, ◌∙◌, [], List, Some, Option, ℕ, ap, sym}
+-- What a run that has ended, and a journal that was retraced, make due.
+use Rattle.std.proofs.Common.{◌≡◌, ◌∙◌, [], List, Some, Option, ℕ, ap, subst, sym}
 use Rattle.aps_model.specs.declared.entry.End.{End}
 use Rattle.aps_model.specs.declared.entry.Order.TheVariants.{Fixed}
 use Rattle.aps_model.specs.After.{end_of}
@@ -7,8 +7,8 @@ use Rattle.aps_model.specs.Legal.{fixed_run}
 use Rattle.aps_model.specs.Scenario.{Scenario}
 use Rattle.aps_core.specs.Run.{Run, end_of_run, finished_run}
 use Rattle.aps_view_words.specs.declared.asked.Asked.{Asked}
-use Rattle.apsview.specs.Due.{Due, due_run, reported, status_by}
-use Rattle.apsview.specs.Report.{report_text}
+use Rattle.apsview.specs.Due.{Due, IsDueOfRun, reported, status_by}
+use Rattle.apsview.specs.Report.{IsReport}
 use Rattle.apsview.specs.Status.{status_of_end}
 
 -- the core that begins the run of the scenario
@@ -18,8 +18,8 @@ booted asked scenario = record { setup = record { scenario = scenario; order = F
 pub run_due : (asked : Asked) (scenario : Scenario) (core after : Run) (end : End) (text : Option (List ℕ)) (due : Due)
     → core ≡ booted asked scenario → after ≡ finished_run core
     → (core.entries ≡ [] → after.entries ≡ fixed_run core.setup.scenario core.setup.limit)
-    → end_of_run after ≡ Some end → text ≡ report_text asked.report after.setup.scenario after.entries
-    → due ≡ reported (status_of_end end) text → due ≡ due_run asked scenario
+    → end_of_run after ≡ Some end → IsReport asked.report after.setup.scenario after.entries text
+    → due ≡ reported (status_of_end end) text → IsDueOfRun asked scenario due
 run_due asked scenario core after end text due begun finished fixed ended told is =
     let ran : Run = record { setup = record { scenario = scenario; order = Fixed; limit = asked.limit }; entries = fixed_run scenario asked.limit } in
     let entries : after.entries ≡ fixed_run scenario asked.limit =
@@ -28,6 +28,4 @@ run_due asked scenario core after end text due begun finished fixed ended told i
     let whole : after ≡ ran = ap (λ s. record { setup = s; entries = after.entries }) setup ∙ ap (λ h. record { setup = ran.setup; entries = h }) entries in
     let status : status_of_end end ≡ status_by (end_of scenario asked.limit (fixed_run scenario asked.limit)) =
     sym (ap status_by (sym (ap end_of_run whole) ∙ ended)) in
-    is ∙ ap (λ s. reported s text) status
-    ∙ ap (λ t. reported (status_by (end_of scenario asked.limit (fixed_run scenario asked.limit))) t)
-    (told ∙ ap (λ (r : Run). report_text asked.report r.setup.scenario r.entries) whole)
+    (text, subst (λ (r : Run). IsReport asked.report r.setup.scenario r.entries text) whole told, is ∙ ap (λ s. reported s text) status)

@@ -2,7 +2,7 @@
 use Rattle.std.specs.Prelude.{ℕ, List, Bool, true, false, Option, Some, None, if◌then◌else◌, option_and_then}
 use Rattle.aps_view_words.specs.declared.asked.Asked.{Asked}
 use Rattle.aps_view_words.specs.declared.asked.Report.{Report}
-use Rattle.aps_view_words.specs.declared.asked.Report.TheVariants.{Cycles, Csv, Shares, Latency, Explain}
+use Rattle.aps_view_words.specs.declared.asked.Report.TheVariants.{Cycles, Csv, Shares, Latency, Explain, Picture, Trace}
 use Rattle.aps_view_words.specs.Asked as words
 
 -- the reports that are there
@@ -12,6 +12,8 @@ is_there (Csv ticks) = true
 is_there Shares = false
 is_there Latency = true
 is_there (Explain thread moment) = true
+is_there (Picture picture ticks) = false
+is_there (Trace trace) = false
 
 abbrev pub if_there : Asked → Option Asked
 if_there asked = if is_there asked.report then Some asked else None

@@ -1,5 +1,5 @@
 -- The status and the text that are due, where neither reading nor writing fails and memory doesn't run out.
-use Rattle.std.specs.Prelude.{◌≡◌, ℕ, ◌<◌, ◌≤◌, ◌⊎◌, ◌++◌, List, codes, drop, length, nat_lt, take, if◌then◌else◌, Option, Some, None, Result, Ok, Err}
+use Rattle.std.specs.Prelude.{◌≡◌, ℕ, ◌<◌, ◌≤◌, ◌⊎◌, ◌++◌, List, codes, drop, length, take, Option, Some, None, Result, Ok, Err}
 use Rattle.aps_model.specs.declared.entry.End.{End}
 use Rattle.aps_model.specs.declared.entry.Entry.{Entry}
 use Rattle.aps_model.specs.declared.entry.Order.TheVariants.{Free}
@@ -25,7 +25,7 @@ use Rattle.apsview.specs.declared.status.Status.{Status}
 use Rattle.apsview.specs.declared.status.Status.TheVariants.{Done, WordsRefused, InputRefused, NoMemory, TooLong, JournalBreaks}
 use Rattle.apsview.specs.Intake.{most_bytes, most_scenario_bytes}
 use Rattle.apsview.specs.Refusal.{refusal_text}
-use Rattle.apsview.specs.Report.{report_text}
+use Rattle.apsview.specs.Report.{IsReport}
 use Rattle.apsview.specs.Status.{code, status_of_end}
 
 pub record Due : Type 0 where
@@ -46,6 +46,11 @@ abbrev pub reported : Status → Option (List ℕ) → Due
 reported status (Some text) = record { status = status; text = text }
 reported status None = refused UnknownThread
 
+-- what is due where a report of a history was asked for, under this status
+abbrev pub IsReported : Asked → Scenario → List Entry → Status → Due → Type 0
+IsReported asked scenario h status due =
+    (text : Option (List ℕ)) × IsReport asked.report scenario h text × (due ≡ reported status text)
+
 -- ---- a scenario alone
 
 -- the status of a run with this end; each run has one
@@ -54,17 +59,19 @@ status_by (Some end) = status_of_end end
 status_by None = Done
 
 -- the report of the scenario's run in fixed order
-abbrev pub due_run : Asked → Scenario → Due
-due_run asked scenario =
+abbrev pub IsDueOfRun : Asked → Scenario → Due → Type 0
+IsDueOfRun asked scenario due =
     let h = fixed_run scenario asked.limit in
-    reported (status_by (end_of scenario asked.limit h)) (report_text asked.report scenario h)
+    IsReported asked scenario h (status_by (end_of scenario asked.limit h)) due
 
-abbrev pub due_read : Asked → Result Scenario Refusal → Due
-due_read asked (Ok scenario) = due_run asked scenario
-due_read asked (Err refusal) = refused (Text refusal.kind refusal.path)
+abbrev pub IsDueOfScenario : Asked → Result Scenario Refusal → Due → Type 0
+IsDueOfScenario asked (Ok scenario) due = IsDueOfRun asked scenario due
+IsDueOfScenario asked (Err refusal) due = due ≡ refused (Text refusal.kind refusal.path)
 
-abbrev pub due_alone : Asked → List ℕ → Due
-due_alone asked text = if nat_lt most_scenario_bytes (length text) then too_long else due_read asked (reads text)
+abbrev pub IsDueAlone : Asked → List ℕ → Due → Type 0
+IsDueAlone asked text due =
+    ((most_scenario_bytes < length text) × (due ≡ too_long))
+    ⊎ ((length text ≤ most_scenario_bytes) × IsDueOfScenario asked (reads text) due)
 
 -- ---- a scenario with a journal
 
@@ -73,13 +80,14 @@ abbrev pub judging : Asked → Scenario → Setup
 judging asked scenario = record { scenario = scenario; order = Free; limit = asked.limit }
 
 -- the report of the journal's entries where these are legal, whether their run has ended or not; else the verdict
-abbrev pub due_judged : Asked → Scenario → List Entry → Verdict → Due
-due_judged asked scenario h (Legal end) = reported Done (report_text asked.report scenario h)
-due_judged asked scenario h (Breaks place rule expected) = record { status = JournalBreaks; text = verdict_text (Breaks place rule expected) }
+abbrev pub IsDueOfVerdict : Asked → Scenario → List Entry → Verdict → Due → Type 0
+IsDueOfVerdict asked scenario h (Legal end) due = IsReported asked scenario h Done due
+IsDueOfVerdict asked scenario h (Breaks place rule expected) due =
+    due ≡ record { status = JournalBreaks; text = verdict_text (Breaks place rule expected) }
 
 abbrev pub IsDueOfEntries : Asked → Scenario → List Entry → Due → Type 0
 IsDueOfEntries asked scenario h due =
-    (verdict : Verdict) × IsVerdict (judging asked scenario) h verdict × (due ≡ due_judged asked scenario h verdict)
+    (verdict : Verdict) × IsVerdict (judging asked scenario) h verdict × IsDueOfVerdict asked scenario h verdict due
 
 -- the text is the journal of some entries, or bad first at some place
 abbrev pub IsDueOfJournal : Asked → Scenario → List ℕ → Due → Type 0
@@ -95,7 +103,7 @@ IsDueOfRead asked (Err refusal) journal due = due ≡ refused (Text refusal.kind
 -- ---- the input
 
 abbrev pub IsDueOfParts : Asked → List ℕ → Option JournalAt → Due → Type 0
-IsDueOfParts asked bytes None due = due ≡ due_alone asked bytes
+IsDueOfParts asked bytes None due = IsDueAlone asked bytes due
 IsDueOfParts asked bytes (Some at) due = IsDueOfRead asked (reads (take at.scenario_len bytes)) (drop at.journal_from bytes) due
 
 -- what the whole input makes due: with a line `--- journal` it is a scenario with a journal, without one a scenario

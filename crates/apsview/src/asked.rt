@@ -27,6 +27,6 @@ fn is_there(report: Report) -> bool
 {
     match report {
         Report::Cycles | Report::Csv { .. } | Report::Latency | Report::Explain { .. } => true,
-        Report::Shares => false,
+        Report::Shares | Report::Picture { .. } | Report::Trace { .. } => false,
     }
 }

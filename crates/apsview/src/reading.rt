@@ -3,7 +3,7 @@ ghost use Rattle.std.specs.Prelude.{◌≡◌, ◌≤◌, length, Some, IfSome};
 ghost use Rattle.aps_scenario.specs.Reading.{reads};
 ghost use Rattle.aps_text.specs.Separator.{journal_place};
 ghost use Rattle.apsview.specs.Cause.{IsOutcome, TellsDue, not_read, of_journal_refusal, of_refusal};
-ghost use Rattle.apsview.specs.Due.{IsDueOfInput, IsDueOfJournal, IsDueOfRead, due_alone};
+ghost use Rattle.apsview.specs.Due.{IsDueAlone, IsDueOfInput, IsDueOfJournal, IsDueOfRead, IsDueOfScenario};
 ghost use Rattle.apsview.specs.Intake.{intake_of};
 
 use crate::outcome::Outcome;
@@ -74,11 +74,21 @@ fn parted(bytes: &[u8]) -> Option<JournalAt>
 fn of_scenario(alloc: Global, asked: Asked, text: &[u8]) -> Outcome
     requires some { 1 ≤ asked.limit }
     requires few { asked.limit ≤ 4000000 }
-    ensures { TellsDue (λ due. due ≡ due_alone asked text.now) result }
+    ensures { TellsDue (IsDueAlone asked text.now) result }
 {
     if text.len() > MOST_SCENARIO_BYTES {
-        return Outcome::TooLong;
+        Outcome::TooLong
+    } else {
+        of_short(alloc, asked, text)
     }
+}
+
+/// What comes of a scenario alone that isn't too long.
+fn of_short(alloc: Global, asked: Asked, text: &[u8]) -> Outcome
+    requires some { 1 ≤ asked.limit }
+    requires few { asked.limit ≤ 4000000 }
+    ensures { TellsDue (IsDueOfScenario asked (reads text.now)) result }
+{
     match scenario_of(alloc, text) {
         Ok(scenario) => match ran(alloc, asked, scenario) {
             Ok(outcome) => outcome,

@@ -2,7 +2,7 @@
 ghost use Rattle.std.specs.Prelude.{◌≡◌, ◌≤◌, length, option_map, string_bytes, IfOk};
 ghost use Rattle.aps_model.specs.Legal.{IsLegal};
 ghost use Rattle.apsview.specs.Report as spec;
-ghost use Rattle.apsview.specs.Report.{report_text};
+ghost use Rattle.apsview.specs.Report.{IsReport};
 
 use crate::naming::thread_named;
 use aps_core::Core;
@@ -18,7 +18,7 @@ use std::alloc::Global;
 /// This report of what the core has recorded, or none where it is asked for a thread that the scenario hasn't.
 pub fn report(alloc: Global, report: Report, core: &Core) -> Result<Option<String>, NoMemory>
     requires few { core.now.setup.limit ≤ 4000000 }
-    ensures { IfOk result (λ text. option_map string_bytes text ≡ report_text report core.now.setup.scenario core.now.entries) }
+    ensures { IfOk result (λ text. IsReport report core.now.setup.scenario core.now.entries (option_map string_bytes text)) }
 {
     let history = core.history();
     let order = core.order();
@@ -27,7 +27,7 @@ pub fn report(alloc: Global, report: Report, core: &Core) -> Result<Option<Strin
     match report {
         Report::Cycles => Ok(Some(cycles_text(alloc, history, order)?)),
         Report::Csv { ticks } => Ok(Some(csv(alloc, history, order, told(ticks))?)),
-        Report::Shares => Ok(None),
+        Report::Shares | Report::Picture { .. } | Report::Trace { .. } => Ok(None),
         Report::Latency => Ok(Some(latency_text(alloc, history, order)?)),
         Report::Explain { thread, at } => explained(alloc, history, order, thread, at),
     }

@@ -4,8 +4,7 @@ ghost use Rattle.aps_check.specs.Verdict.{IsRunSoFar};
 ghost use Rattle.aps_core.specs.Turn.{IsTaken, with_entry};
 ghost use Rattle.apsview.specs.declared.status.Status.TheVariants.{Done};
 ghost use Rattle.apsview.specs.Cause.{told_by};
-ghost use Rattle.apsview.specs.Due.{IsDueOfEntries, due_run, judging, reported};
-ghost use Rattle.apsview.specs.Report.{report_text};
+ghost use Rattle.apsview.specs.Due.{IsDueOfEntries, IsDueOfRun, IsReported, judging, reported};
 ghost use Rattle.apsview.specs.Status.{status_of_end};
 
 use crate::outcome::Outcome;
@@ -21,7 +20,7 @@ use std::alloc::Global;
 pub fn ran(alloc: Global, asked: Asked, scenario: Scenario) -> Result<Outcome, NoMemory>
     requires some { 1 ≤ asked.limit }
     requires few { asked.limit ≤ 4000000 }
-    ensures { IfOk result (λ outcome. told_by outcome ≡ due_run asked scenario) }
+    ensures { IfOk result (λ outcome. IsDueOfRun asked scenario (told_by outcome)) }
 {
     let mut core = Core::boot(alloc, scenario, Order::Fixed, asked.limit)?;
     let end = core.finish();
@@ -67,7 +66,7 @@ fn viewed(
     requires some { 1 ≤ asked.limit }
     requires few { asked.limit ≤ 4000000 }
     requires sound { IsRunSoFar (judging asked scenario) entries.now }
-    ensures { IfOk result (λ outcome. told_by outcome ≡ reported Done (report_text asked.report scenario entries.now)) }
+    ensures { IfOk result (λ outcome. IsReported asked scenario entries.now Done (told_by outcome)) }
 {
     let mut core = Core::boot(alloc, scenario, Order::Free, asked.limit)?;
     retrace(&mut core, entries);
