@@ -2,4 +2,7 @@
 //! Each law is the contract of a function with an empty body.
 #![tactic(auto)]
 
+mod reply;
 pub mod upgrade;
+
+pub use reply::upgraded_reply;

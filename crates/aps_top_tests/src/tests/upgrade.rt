@@ -1,5 +1,7 @@
 //! Scenarios that are written anew with their budgets in parts per thousand.
 use super::{TWO_EQUAL, bytes_of, calm};
+use aps_model::{Answer, CtlRefusal, PartitionId, Reply};
+use aps_upgrade_laws::upgraded_reply;
 use std::alloc::{AllocError, Global};
 use std::test::Fail;
 
@@ -57,6 +59,18 @@ reply 3 over-budget 250
 reply 4 found 2
 ";
 
+const MAXIMUM_BELOW_THE_BUDGET: &str = r#"version = 1
+cpus = 1
+window = 10
+ticks = 3
+partition = [{name = "A", budget = 40}]
+thread = [{name = "s", program = ["run forever"]}]
+command = [
+  {tick = 1, do = "modify", partition = "A", max = 30},
+  {tick = 2, do = "query_parameters"},
+]
+"#;
+
 const THIRD_VERSION: &str = "version = 3\ncpus = 1\nticks = 1\n";
 
 /// The text of the upgraded scenario, and the status.
@@ -93,6 +107,56 @@ fn an_upgraded_scenario_has_its_replies_in_thousandths(rt: HostRuntime) -> Resul
         summary.as_slice(),
         TREE_COMMANDS_UPGRADED_SUMMARY.as_bytes()
     );
+    Ok(())
+}
+
+/// The replies of the run of a text.
+fn replies_of(alloc: Global, text: &[u8]) -> Result<Vec<Reply>, AllocError> {
+    let (ended, _) = calm(alloc, &["solo"], text.to_vec(alloc)?)?;
+    match &ended.history {
+        Some(history) => history.replies().to_vec(alloc),
+        None => Ok(Vec::new(alloc)),
+    }
+}
+
+/// The replies that those of the upgraded run have to be.
+fn upgraded_replies(alloc: Global, replies: &[Reply]) -> Result<Vec<Reply>, AllocError> {
+    let mut upgraded = Vec::new(alloc);
+    for reply in replies {
+        if let Some(reply) = upgraded_reply(reply) {
+            upgraded.push(reply)?;
+        }
+    }
+    Ok(upgraded)
+}
+
+#[test]
+fn an_upgraded_run_gives_the_upgraded_replies(rt: HostRuntime) -> Result<(), Fail> {
+    let alloc = rt.alloc();
+    for (scenario, count) in [(TREE_COMMANDS, 5), (MAXIMUM_BELOW_THE_BUDGET, 2)] {
+        let (_, text) = upgraded(alloc, scenario.as_bytes())?;
+        let replies = replies_of(alloc, &text)?;
+        assert_eq!(rt; replies.len(), count);
+        let before = replies_of(alloc, scenario.as_bytes())?;
+        assert_eq!(rt; replies, upgraded_replies(alloc, &before)?);
+    }
+    Ok(())
+}
+
+#[test]
+fn the_least_maximum_is_told_in_thousandths(rt: HostRuntime) -> Result<(), Fail> {
+    let alloc = rt.alloc();
+    let (_, text) = upgraded(alloc, MAXIMUM_BELOW_THE_BUDGET.as_bytes())?;
+    let replies = replies_of(alloc, &text)?;
+    let why = CtlRefusal::BadMax {
+        partition: PartitionId::at(1),
+        least: 400,
+    };
+    let refused = Reply {
+        command: 0,
+        answer: Answer::Refused(why),
+    };
+    assert_eq!(rt; replies.first().copied(), Some(refused));
     Ok(())
 }
 
