@@ -1,6 +1,6 @@
 //! The journal of a history, written to a sink.
-ghost use Rattle.std.specs.Prelude.{◌≡◌, ◌≤◌, [], OnOk, OnErr, IsErrOf};
-ghost use Rattle.std.specs.Io.KnownBytes.{Appends};
+ghost use Rattle.std.specs.Prelude.{◌≡◌, ◌+◌, ◌<◌, ◌≤◌, ◌⊎◌, ◌++◌, [], length, vec_len, vec_capacity, OnOk, OnErr, IsErrOf};
+ghost use Rattle.std.specs.Io.KnownBytes.{Appends, Keeps};
 ghost use Rattle.aps_io.specs.Causes.{Rose};
 ghost use Rattle.aps_model.specs.Journal.{entry_line, journal_text};
 ghost use Rattle.aps_report.specs.Pieces.{IsMoved, IsPrefixWritten};
@@ -47,47 +47,65 @@ impl From<WriteRefusal> for JournalFault {
 }
 
 /// Writes the line of each entry, in their order and in pieces of some 65,536 bytes (docs/FORMATS.md,
-/// "Journal"). `WriteFault` comes only where the sink's count of faults rose in this call; `NoMemory`
-/// is want of memory, be it for a piece or the sink's own. After either a prefix of the journal was
-/// written.
+/// "Journal"). All memory that it takes is that of one piece, at the start. `WriteFault` comes only where the sink's
+/// count of faults rose in this call; `NoMemory` only where nothing was written yet, or where the sink itself wanted
+/// memory in this call. After either a prefix of the journal was written.
 pub fn journal<K: Sink>(alloc: Global, history: &History, sink: &mut K) -> Result<(), JournalFault>
     ensures whole { OnOk result (Appends (K.written sink.old) (K.written sink.new) (journal_text history.now.entries)) }
     ensures prefix { OnErr result (IsPrefixWritten (K.written sink.old) (K.written sink.new) (journal_text history.now.entries)) }
     ensures fault { IsErrOf result JournalFault.WriteFault → Rose (K.faults sink.old) (K.faults sink.new) }
+    ensures shortage { IsErrOf result JournalFault.NoMemory
+        → Keeps (K.written sink.old) (K.written sink.new) ⊎ Rose (K.shortages sink.old) (K.shortages sink.new) }
     ensures later { K.faults sink.old ≤ K.faults sink.new }
     ensures more_shortages { K.shortages sink.old ≤ K.shortages sink.new }
 {
     let mut piece = Vec::with_capacity(alloc, PIECE + MAX_LINE)?;
-    write_lines(&mut piece, history.entries(), sink)
+    write_lines(&mut piece, history.entries(), sink)?;
+    Ok(())
 }
 
-/// Writes the line of each entry by way of `piece`, which is empty at first.
+/// Writes the line of each entry by way of `piece`, which is empty at first and has room for all that is put into it.
 fn write_lines<K: Sink>(
     piece: &mut Vec<u8>,
     entries: &[Entry],
     sink: &mut K,
-) -> Result<(), JournalFault>
-    requires { piece.old.items ≡ [] }
+) -> Result<(), WriteRefusal>
+    requires empty { piece.old.items ≡ [] }
+    requires room { 65623 ≤ vec_capacity piece.old }
     ensures whole { OnOk result (Appends (K.written sink.old) (K.written sink.new) (journal_text entries.now)) }
     ensures prefix { OnErr result (IsPrefixWritten (K.written sink.old) (K.written sink.new) (journal_text entries.now)) }
-    ensures fault { IsErrOf result JournalFault.WriteFault → Rose (K.faults sink.old) (K.faults sink.new) }
+    ensures fault { IsErrOf result WriteRefusal.WriteFault → Rose (K.faults sink.old) (K.faults sink.new) }
+    ensures shortage { IsErrOf result WriteRefusal.NoMemory → Rose (K.shortages sink.old) (K.shortages sink.new) }
     ensures later { K.faults sink.old ≤ K.faults sink.new }
     ensures more_shortages { K.shortages sink.old ≤ K.shortages sink.new }
 {
     let mut line = LineBuffer::new();
     for e in entries {
         make_room(sink, piece)?;
-        piece.extend_from_slice(line.line(e))?;
+        add_line(piece, line.line(e));
     }
     write_all(sink, piece)?;
     Ok(())
 }
 
+/// Puts a line behind the piece, which has room for it.
+fn add_line(piece: &mut Vec<u8>, line: &[u8])
+    requires { vec_len piece.old + length line.now ≤ vec_capacity piece.old }
+    ensures items { piece.new.items ≡ piece.old.items ++ line.now }
+    ensures capacity { vec_capacity piece.old ≤ vec_capacity piece.new }
+{
+    // no memory is taken where there is room
+    let _ = piece.extend_from_slice(line);
+}
+
 /// Writes the piece and empties it, where it is full.
-fn make_room<K: Sink>(sink: &mut K, piece: &mut Vec<u8>) -> Result<(), JournalFault>
+fn make_room<K: Sink>(sink: &mut K, piece: &mut Vec<u8>) -> Result<(), WriteRefusal>
     ensures moved { OnOk result (IsMoved (K.written sink.old) (K.written sink.new) piece.old.items piece.new.items) }
+    ensures room { OnOk result (vec_len piece.new < 65536) }
+    ensures capacity { vec_capacity piece.new ≡ vec_capacity piece.old }
     ensures prefix { OnErr result (IsPrefixWritten (K.written sink.old) (K.written sink.new) piece.old.items) }
-    ensures fault { IsErrOf result JournalFault.WriteFault → Rose (K.faults sink.old) (K.faults sink.new) }
+    ensures fault { IsErrOf result WriteRefusal.WriteFault → Rose (K.faults sink.old) (K.faults sink.new) }
+    ensures shortage { IsErrOf result WriteRefusal.NoMemory → Rose (K.shortages sink.old) (K.shortages sink.new) }
     ensures later { K.faults sink.old ≤ K.faults sink.new }
     ensures more_shortages { K.shortages sink.old ≤ K.shortages sink.new }
 {

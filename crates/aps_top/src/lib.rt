@@ -4,7 +4,6 @@
 
 mod answer;
 pub mod hint;
-mod journal;
 pub mod kept;
 mod outcome;
 mod printing;

@@ -6,13 +6,12 @@ ghost use Rattle.aps_model.specs.Report.{summary_text, windows_text};
 ghost use Rattle.aps_top.specs.Outcome.{report_text};
 ghost use Rattle.aps_top.specs.Printing.{MakesAndPrints, output_of};
 
-use crate::journal::{ROOM, write_lines};
 use crate::printing::print;
 use crate::status::Status;
 use aps_bound::audit;
-use aps_io::{Sink, WriteRefusal};
+use aps_io::Sink;
 use aps_model::History;
-use aps_report::{summary, windows};
+use aps_report::{JournalFault, journal, summary, windows};
 use aps_words::Report;
 use std::alloc::Global;
 
@@ -67,12 +66,9 @@ fn print_journal<K: Sink>(alloc: Global, history: &History, status: Status, sink
         (K.shortages sink.old) (K.shortages sink.new))
         (journal_text history.now.entries) status result }
 {
-    let Ok(mut piece) = Vec::with_capacity(alloc, ROOM) else {
-        return Status::NoMemory;
-    };
-    match write_lines(&mut piece, history.entries(), sink) {
+    match journal(alloc, history, sink) {
         Ok(()) => status,
-        Err(WriteRefusal::WriteFault) => status.or_write_fault(),
-        Err(WriteRefusal::NoMemory) => Status::NoMemory,
+        Err(JournalFault::WriteFault) => status.or_write_fault(),
+        Err(JournalFault::NoMemory) => Status::NoMemory,
     }
 }
