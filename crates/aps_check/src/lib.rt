@@ -10,6 +10,3 @@ mod verdict;
 
 pub use judging::check;
 pub use verdict::{Rule, Verdict};
-
-#[cfg(test)]
-mod tests;

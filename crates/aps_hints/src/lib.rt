@@ -19,6 +19,3 @@ pub use refused::refusal_hint;
 pub use scenario::scenario_hint;
 pub use spot::Document;
 pub use words::{Usage, usage_meant, words_hint};
-
-#[cfg(test)]
-mod tests;

@@ -1,6 +1,7 @@
 //! Words, bytes and texts, with values from outside.
 mod admit;
 mod bound;
+mod hints;
 mod report;
 mod streams;
 mod text;

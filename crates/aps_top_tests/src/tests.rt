@@ -4,6 +4,7 @@ mod check;
 mod hostile;
 mod threads;
 mod upgrade;
+mod verdict;
 
 use aps_io::{CalmSink, CalmSource, MemSink, MemSource, Sink, Source};
 use aps_model::History;

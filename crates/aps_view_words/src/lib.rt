@@ -3,8 +3,6 @@
 
 mod asked;
 mod options;
-#[cfg(test)]
-mod tests;
 mod values;
 
 pub use asked::{Asked, Picture, Report, Ticks, Trace, asked_of};

@@ -1,23 +1,10 @@
-//! Reports of a history for who looks at it: the program reads a scenario from standard input and runs it in fixed order, or
-//! reads a scenario with a journal and judges that, and writes a report of the history to standard output.
+//! The program: reports of a history for who looks at it. It reads a scenario from standard input and runs it in fixed order,
+//! or reads a scenario with a journal and judges that, and writes a report of the history to standard output.
 #![tactic(auto)]
 
-mod asked;
-mod calm;
-mod naming;
-mod outcome;
-mod printing;
-mod reading;
-mod refusal;
-mod report;
-mod status;
-#[cfg(test)]
-mod tests;
-mod top;
-mod viewing;
-
 use aps_io::{StdSink, StdSource};
-use status::Status;
+use aps_view::status::Status;
+use aps_view::top::top;
 use std::alloc::AllocError;
 use std::env;
 use std::io::ErrorKind;
@@ -48,7 +35,7 @@ fn main(rt: HostRuntime) -> ExitCode {
     let mut source = StdSource::new(rt.stdin());
     // standard output takes each piece at once, so that no fault comes after the last answer
     let mut sink = StdSink::new(rt.stdout());
-    let code = top::top(alloc, &words, &mut source, &mut sink);
+    let code = top(alloc, &words, &mut source, &mut sink);
     if code == Status::WordsRefused.code() {
         // nothing depends on it
         let _ = eprintln!(rt; "{USAGE}");

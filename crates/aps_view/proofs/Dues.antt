@@ -1,0 +1,69 @@
+-- Where neither reading nor writing fails, what is due is told.
+use Rattle.std.proofs.Common.{◌≡◌, ℕ, ◌<◌, ◌≤◌, ◌⊎◌, List, ◌++◌, length, Option, Some, None, inl, inr, refl, sym, ap, subst, ◌∙◌, arith}
+use Rattle.std.proofs.lemmas.List.{append-nil, length-append}
+use Rattle.aps_view_words.specs.declared.asked.Asked.{Asked}
+use Rattle.aps_view.specs.declared.outcome.Outcome.{Outcome}
+use Rattle.aps_view.specs.declared.outcome.Outcome.TheVariants.{WordsRefused, ReadFault, TooLong, InputRefused, Ran, Viewed, Broken, NoMemory}
+use Rattle.aps_view.specs.declared.status.Status.{Status}
+use Rattle.aps_view.specs.declared.status.Status.TheVariants as status
+use Rattle.aps_view.specs.Answer.{IsAnswer}
+use Rattle.aps_view.specs.Cause.{HasCause, HasCauseIn, IsOfWhole, told_by}
+use Rattle.aps_view.specs.Due.{Due, IsDue, IsDueOfInput, IsDueTold}
+use Rattle.aps_view.specs.Intake.{Intake, intake_of, most_bytes}
+use Rattle.aps_view.specs.Outcome.{status_of, text_of}
+use Rattle.aps_view.specs.Printing.{Prints, output_of}
+use Rattle.aps_view.specs.Status.{code}
+
+module _ (asked : Asked) (input bytes rest : List ℕ) (taken : input ≡ bytes ++ rest) where
+  of_whole : (outcome : Outcome) → IsOfWhole asked (intake_of (Some input) (Some rest) 0 0) bytes outcome → IsDue (Some asked) input (told_by outcome)
+  of_whole outcome h =
+      let same : input ≡ bytes = taken ∙ ap (λ l. bytes ++ l) h.end ∙ append-nil bytes in
+      let fits : length input ≤ most_bytes = omega (arith, ap (λ (l : List ℕ). length l) same, h.short) in
+      inr (fits, subst (λ l. IsDueOfInput asked l (told_by outcome)) (sym same) h.due)
+
+  is_due : (outcome : Outcome) → HasCauseIn asked (intake_of (Some input) (Some rest) 0 0) bytes outcome → (outcome ≡ NoMemory) ⊎ IsDue (Some asked) input (told_by outcome)
+  is_due outcome (inl none) = inl none
+  is_due outcome (inr (inl h)) = absurd (omega (arith, h.rose))
+  is_due outcome (inr (inr (inl h))) =
+      let long : most_bytes < length input = omega (arith, h.long, ap (λ (l : List ℕ). length l) taken, length-append bytes rest) in
+      inr (inl (long, ap told_by h.is))
+  is_due outcome (inr (inr (inr h))) = inr (of_whole outcome h)
+
+unasked : (intake : Intake) (bytes input : List ℕ) (outcome : Outcome) → HasCause None intake bytes outcome → (outcome ≡ NoMemory) ⊎ IsDue None input (told_by outcome)
+unasked intake bytes input WordsRefused h = inr refl
+unasked intake bytes input ReadFault h = absurd h
+unasked intake bytes input TooLong h = absurd h
+unasked intake bytes input (InputRefused refusal) h = absurd h
+unasked intake bytes input (Ran end text) h = absurd h
+unasked intake bytes input (Viewed text) h = absurd h
+unasked intake bytes input (Broken verdict) h = absurd h
+unasked intake bytes input NoMemory h = inl refl
+
+outcome_due : (asked : Option Asked) (input bytes rest : List ℕ) (outcome : Outcome) → input ≡ bytes ++ rest → HasCause asked (intake_of (Some input) (Some rest) 0 0) bytes outcome
+    → (outcome ≡ NoMemory) ⊎ IsDue asked input (told_by outcome)
+outcome_due None input bytes rest outcome taken h = unasked (intake_of (Some input) (Some rest) 0 0) bytes input outcome h
+outcome_due (Some asked) input bytes rest outcome taken h = is_due asked input bytes rest taken outcome h
+
+-- ---- what was told
+
+module _ (before after : List ℕ) (told : ℕ) (came : Status) (is : told ≡ code came) where
+  printed_due : (asked : Option Asked) (input : List ℕ) (due : Due) → IsDue asked input due → Prints (output_of (Some before) (Some after) 0 0) due.text due.status came
+      → IsDueTold asked input before after told
+  printed_due asked input due h (inl whole) = inl (due, h, is ∙ ap code whole.0, whole.1)
+  printed_due asked input due h (inr (inl fault)) = absurd (omega (arith, fault.1))
+  printed_due asked input due h (inr (inr lack)) = inr (is ∙ ap code lack.0)
+
+  nothing_due : (text : List ℕ) → Prints (output_of (Some before) (Some after) 0 0) text status.NoMemory came → told ≡ code status.NoMemory
+  nothing_due text (inl whole) = is ∙ ap code whole.0
+  nothing_due text (inr (inl fault)) = absurd (omega (arith, fault.1))
+  nothing_due text (inr (inr lack)) = is ∙ ap code lack.0
+
+pub calm_answer : (asked : Option Asked) (input rest before after : List ℕ) (told : ℕ)
+    → IsAnswer asked (intake_of (Some input) (Some rest) 0 0) (output_of (Some before) (Some after) 0 0) told → IsDueTold asked input before after told
+calm_answer asked input rest before after told a =
+    elim (outcome_due asked input a.bytes rest a.outcome a.read a.cause) [
+      | inl none ↦
+          let P : Status → Type 0 = λ wanted. Prints (output_of (Some before) (Some after) 0 0) (text_of a.outcome) wanted a.status in
+          inr (nothing_due before after told a.status a.told_is (text_of a.outcome) (subst P (ap status_of none) a.printed))
+      | inr due ↦ printed_due before after told a.status a.told_is asked input (told_by a.outcome) due a.printed
+    ]

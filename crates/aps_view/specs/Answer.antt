@@ -1,0 +1,24 @@
+-- What the answer of a call tells.
+use Rattle.std.specs.Prelude.{◌≡◌, ℕ, List, Option}
+use Rattle.std.specs.Io.KnownBytes.{Consumes}
+use Rattle.aps_view_words.specs.declared.asked.Asked.{Asked}
+use Rattle.aps_view.specs.declared.outcome.Outcome.{Outcome}
+use Rattle.aps_view.specs.declared.status.Status.{Status}
+use Rattle.aps_view.specs.Cause.{HasCause}
+use Rattle.aps_view.specs.Intake.{Intake}
+use Rattle.aps_view.specs.Outcome.{status_of, text_of}
+use Rattle.aps_view.specs.Printing.{Output, Prints}
+use Rattle.aps_view.specs.Status.{code}
+
+-- the answer of a call that was asked for this, over this source and this sink
+pub record IsAnswer (asked : Option Asked) (intake : Intake) (output : Output) (told : ℕ) : Type 0 where
+  -- the bytes that it read
+  pub bytes : List ℕ
+  pub read : Consumes intake.before intake.after bytes
+  -- it had an outcome that its words and these bytes are the cause of
+  pub outcome : Outcome
+  pub cause : HasCause asked intake bytes outcome
+  -- it wrote the text of that, and told its status
+  pub status : Status
+  pub told_is : told ≡ code status
+  pub printed : Prints output (text_of outcome) (status_of outcome) status

@@ -1,0 +1,11 @@
+pub mod Naming
+pub mod Asked
+pub mod Status
+pub mod Printing
+pub mod Intake
+pub mod Report
+pub mod Refusal
+pub mod Outcome
+pub mod Due
+pub mod Cause
+pub mod Answer

@@ -1,0 +1,16 @@
+-- Why an input is refused, and the line that tells it.
+use Rattle.std.specs.Prelude.{ℕ, List, ◌++◌, codes}
+use Rattle.std.specs.Fmt.{decimal}
+use Rattle.aps_scenario.specs.Kind.{kind_word}
+use Rattle.aps_view.specs.declared.refusal.InputRefusal.{InputRefusal}
+use Rattle.aps_view.specs.declared.refusal.InputRefusal.TheVariants.{Text, BadJournal, UnknownThread}
+
+-- what a refusal is called, with its newline
+abbrev pub refusal_words : InputRefusal → List ℕ
+refusal_words (Text kind path) = kind_word kind ++ codes " " ++ path ++ codes "\n"
+refusal_words (BadJournal line column) = codes "bad-journal " ++ (decimal line ++ (codes ":" ++ (decimal column ++ codes "\n")))
+refusal_words UnknownThread = codes "unknown-name --thread\n"
+
+-- the line of a refusal
+abbrev pub refusal_text : InputRefusal → List ℕ
+refusal_text refusal = codes "aps: scenario refused: " ++ refusal_words refusal

@@ -1,0 +1,15 @@
+//! The whole program `apsview` as calls: what the words ask for is read, done and told, and the answers are those of the
+//! definitions.
+#![tactic(auto)]
+
+mod asked;
+pub mod calm;
+mod naming;
+mod outcome;
+mod printing;
+mod reading;
+mod refusal;
+mod report;
+pub mod status;
+pub mod top;
+mod viewing;

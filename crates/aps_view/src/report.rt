@@ -1,0 +1,62 @@
+//! The report of a history.
+ghost use Rattle.std.specs.Prelude.{◌≡◌, ◌≤◌, length, option_map, string_bytes, IfOk};
+ghost use Rattle.aps_model.specs.Legal.{IsLegal};
+ghost use Rattle.aps_view.specs.Report as spec;
+ghost use Rattle.aps_view.specs.Report.{IsReport};
+
+use crate::naming::thread_named;
+use aps_core::Core;
+use aps_explain::explain_text;
+use aps_latency::latency_text;
+use aps_lives::text::cycles_text;
+use aps_model::{History, Name, Nanos, NoMemory, Order};
+use aps_samples::table;
+use aps_samples::table::csv;
+use aps_view_words::{Report, Ticks};
+use std::alloc::Global;
+
+/// This report of what the core has recorded, or none where it is asked for a thread that the scenario hasn't.
+pub fn report(alloc: Global, report: Report, core: &Core) -> Result<Option<String>, NoMemory>
+    requires few { core.now.setup.limit ≤ 4000000 }
+    ensures { IfOk result (λ text. IsReport report core.now.setup.scenario core.now.entries (option_map string_bytes text)) }
+{
+    let history = core.history();
+    let order = core.order();
+    // the check wants to see here that the entries are no more than there is room for
+    let _entries = history.entries();
+    match report {
+        Report::Cycles => Ok(Some(cycles_text(alloc, history, order)?)),
+        Report::Csv { ticks } => Ok(Some(csv(alloc, history, order, told(ticks))?)),
+        Report::Shares | Report::Picture { .. } | Report::Trace { .. } => Ok(None),
+        Report::Latency => Ok(Some(latency_text(alloc, history, order)?)),
+        Report::Explain { thread, at } => explained(alloc, history, order, thread, at),
+    }
+}
+
+/// These ticks, for the table of samples.
+fn told(ticks: Ticks) -> table::Ticks
+    ensures { result ≡ spec.told ticks }
+{
+    table::Ticks {
+        from: ticks.from,
+        to: ticks.to,
+    }
+}
+
+/// Why the thread of this name runs at a moment (ns), or doesn't; none where the scenario has no thread of that name.
+fn explained(
+    alloc: Global,
+    history: &History,
+    order: Order,
+    thread: Option<Name>,
+    at: Nanos,
+) -> Result<Option<String>, NoMemory>
+    requires legal { IsLegal history.now.scenario order history.now.entries }
+    requires few { length history.now.entries ≤ 4000000 }
+    ensures { IfOk result (λ text. option_map string_bytes text ≡ spec.explained history.now.scenario history.now.entries thread at) }
+{
+    match thread_named(history.scenario().threads(), thread) {
+        Some(x) => Ok(Some(explain_text(alloc, history, order, x, at)?)),
+        None => Ok(None),
+    }
+}

@@ -1,0 +1,107 @@
+//! What comes of a scenario that is run, and of one with the entries of a journal.
+ghost use Rattle.std.specs.Prelude.{◌≡◌, ◌<◌, ◌≤◌, [], option_map, string_bytes, IfOk};
+ghost use Rattle.aps_check.specs.Verdict.{IsRunSoFar};
+ghost use Rattle.aps_core.specs.Turn.{IsTaken, with_entry};
+ghost use Rattle.aps_view.specs.declared.status.Status.TheVariants.{Done};
+ghost use Rattle.aps_view.specs.Cause.{told_by};
+ghost use Rattle.aps_view.specs.Due.{IsDueOfEntries, IsDueOfRun, IsReported, judging, reported};
+ghost use Rattle.aps_view.specs.Status.{status_of_end};
+
+use crate::outcome::Outcome;
+use crate::refusal::InputRefusal;
+use crate::report::report;
+use aps_check::{Verdict, check};
+use aps_core::Core;
+use aps_model::{End, Entry, NoMemory, Order, Scenario};
+use aps_view_words::Asked;
+use std::alloc::Global;
+
+/// Runs the scenario in fixed order, and makes the report that was asked for.
+pub fn ran(alloc: Global, asked: Asked, scenario: Scenario) -> Result<Outcome, NoMemory>
+    requires some { 1 ≤ asked.limit }
+    requires few { asked.limit ≤ 4000000 }
+    ensures { IfOk result (λ outcome. IsDueOfRun asked scenario (told_by outcome)) }
+{
+    let mut core = Core::boot(alloc, scenario, Order::Fixed, asked.limit)?;
+    let end = core.finish();
+    let text = report(alloc, asked.report, &core)?;
+    Ok(of_run(end, text))
+}
+
+/// What comes of a run with this end and this report.
+fn of_run(end: End, text: Option<String>) -> Outcome
+    ensures { told_by result ≡ reported (status_of_end end) (option_map string_bytes text) }
+{
+    match text {
+        Some(text) => Outcome::Ran { end, text },
+        None => Outcome::InputRefused(InputRefusal::UnknownThread),
+    }
+}
+
+/// Judges the entries of a journal in free order, and makes the report that was asked for where they are legal.
+pub fn judged(
+    alloc: Global,
+    asked: Asked,
+    scenario: Scenario,
+    entries: &[Entry],
+) -> Result<Outcome, NoMemory>
+    requires some { 1 ≤ asked.limit }
+    requires few { asked.limit ≤ 4000000 }
+    ensures { IfOk result (λ outcome. IsDueOfEntries asked scenario entries.now (told_by outcome)) }
+{
+    let verdict = check(alloc, &scenario, Order::Free, asked.limit, entries)?;
+    match verdict {
+        Verdict::Legal { .. } => viewed(alloc, asked, scenario, entries),
+        Verdict::Breaks { .. } => Ok(Outcome::Broken { verdict }),
+    }
+}
+
+/// Makes the report that was asked for, of entries that are legal in free order.
+fn viewed(
+    alloc: Global,
+    asked: Asked,
+    scenario: Scenario,
+    entries: &[Entry],
+) -> Result<Outcome, NoMemory>
+    requires some { 1 ≤ asked.limit }
+    requires few { asked.limit ≤ 4000000 }
+    requires sound { IsRunSoFar (judging asked scenario) entries.now }
+    ensures { IfOk result (λ outcome. IsReported asked scenario entries.now Done (told_by outcome)) }
+{
+    let mut core = Core::boot(alloc, scenario, Order::Free, asked.limit)?;
+    retrace(&mut core, entries);
+    let text = report(alloc, asked.report, &core)?;
+    Ok(of_view(text))
+}
+
+/// What comes of a legal journal with this report.
+fn of_view(text: Option<String>) -> Outcome
+    ensures { told_by result ≡ reported Done (option_map string_bytes text) }
+{
+    match text {
+        Some(text) => Outcome::Viewed { text },
+        None => Outcome::InputRefused(InputRefusal::UnknownThread),
+    }
+}
+
+/// The core, which has no entries yet, makes the steps of which these are the entries.
+fn retrace(core: &mut Core, entries: &[Entry])
+    requires begun { core.old.entries ≡ [] }
+    requires sound { IsRunSoFar core.old.setup entries.now }
+    ensures { core.new ≡ record core.old { entries = entries.now } }
+{
+    // the check wants to see here that the scenario is a valid one
+    let _history = core.history();
+    for entry in entries {
+        step(core, entry);
+    }
+}
+
+/// The core makes the step of which this is the entry.
+fn step(core: &mut Core, entry: &Entry)
+    requires exists { entry.now.cpu < core.old.setup.scenario.shape.cpus }
+    requires taken { IsTaken core.old entry.now.cpu entry.now }
+    ensures { core.new ≡ with_entry core.old entry.now }
+{
+    let _turn = core.step(entry.cpu);
+}

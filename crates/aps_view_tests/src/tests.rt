@@ -1,0 +1,133 @@
+//! Whole calls of the program in memory: what they write, and the statuses.
+mod words;
+
+use aps_io::{CalmSink, CalmSource};
+use aps_view::calm::calm_top;
+use std::alloc::{AllocError, Global};
+use std::test::Fail;
+
+const SLEEPER: &str = r#"version = 1
+cpus = 1
+window = 8
+ticks = 3
+thread = [{name = "a", program = ["run 400000", "sleep 1000000", "repeat"]}]
+"#;
+
+const SEPARATOR: &str = "--- journal\n";
+
+const SLEEPER_JOURNAL: &str = "0 0 0 - - - - 0 - -
+0 0 400000 0 0 - run - 0 -
+0 400000 1000000 - - - - - 0 -
+0 1000000 2000000 - - - - 0 - -
+0 2000000 2001000 0 0 - repeat 0 - -
+0 2001000 2401000 0 0 - run - 0 -
+0 2401000 3000000 - - - - - - -
+";
+
+const TITLES: &str = "thread,begin_ns,end_ns,running_ns,ready_ns,calling_ns,receiving_ns\n";
+
+const SLEEPER_CYCLES: &str = "thread,begin_ns,end_ns,running_ns,ready_ns,calling_ns,receiving_ns
+a,0,400000,400000,0,0,0
+a,2000000,2401000,401000,0,0,0
+";
+
+const TWO_PROCESSORS: &str = r#"version = 1
+cpus = 2
+window = 8
+ticks = 3
+thread = [{name = "a", program = ["run forever"]}]
+"#;
+
+/// The status of a call with these words over these texts, one after the other, and the sink with what it writes.
+fn called(alloc: Global, words: &[&str], texts: &[&str]) -> Result<(u8, CalmSink), AllocError> {
+    let mut owned = Vec::new(alloc);
+    for word in words {
+        owned.push(word.to_string(alloc)?)?;
+    }
+    let mut input = Vec::new(alloc);
+    for text in texts {
+        input.extend_from_slice(text.as_bytes())?;
+    }
+    let mut source = CalmSource::new(input);
+    let mut sink = CalmSink::new(Vec::new(alloc));
+    let status = calm_top(alloc, &owned, &mut source, &mut sink);
+    Ok((status, sink))
+}
+
+#[test]
+fn a_journal_is_viewed_as_the_run_is(rt: HostRuntime) -> Result<(), Fail> {
+    let (status, sink) = called(rt.alloc(), &["cycles"], &[SLEEPER])?;
+    assert_eq!(rt; status, 0);
+    assert_eq!(rt; sink.written(), SLEEPER_CYCLES.as_bytes());
+    let (status, sink) = called(
+        rt.alloc(),
+        &["cycles"],
+        &[SLEEPER, SEPARATOR, SLEEPER_JOURNAL],
+    )?;
+    assert_eq!(rt; status, 0);
+    assert_eq!(rt; sink.written(), SLEEPER_CYCLES.as_bytes());
+    Ok(())
+}
+
+#[test]
+fn a_journal_is_judged_in_free_order(rt: HostRuntime) -> Result<(), Fail> {
+    let second_first = "1 0 0 - - - - 0 - -\n";
+    let (status, sink) = called(
+        rt.alloc(),
+        &["cycles"],
+        &[TWO_PROCESSORS, SEPARATOR, second_first],
+    )?;
+    assert_eq!(rt; status, 0);
+    assert_eq!(rt; sink.written(), TITLES.as_bytes());
+    Ok(())
+}
+
+#[test]
+fn what_cannot_be_viewed_is_told(rt: HostRuntime) -> Result<(), Fail> {
+    let other_pick = "0 0 0 - - - - - - -\n";
+    let cases: [(&[&str], &[&str], u8, &str); 5] = [
+        (&["cycles", "all"], &[SLEEPER], 1, "aps: words refused\n"),
+        (
+            &["cycles"],
+            &[SLEEPER, SEPARATOR, other_pick],
+            9,
+            "check breaks 0 picked\n",
+        ),
+        (
+            &["cycles", "--limit=3"],
+            &[SLEEPER, SEPARATOR, SLEEPER_JOURNAL],
+            9,
+            "check breaks 3 after\n",
+        ),
+        (
+            &["cycles"],
+            &[SLEEPER, SEPARATOR, "0 0 zero\n"],
+            2,
+            "aps: scenario refused: bad-journal 1:5\n",
+        ),
+        (
+            &["cycles"],
+            &[SEPARATOR],
+            2,
+            "aps: scenario refused: missing version\n",
+        ),
+    ];
+    for (words, texts, wanted, line) in cases {
+        let (status, sink) = called(rt.alloc(), words, texts)?;
+        assert_eq!(rt; status, wanted);
+        assert_eq!(rt; sink.written(), line.as_bytes());
+    }
+    Ok(())
+}
+
+#[test]
+fn a_thread_that_is_not_there_is_refused(rt: HostRuntime) -> Result<(), Fail> {
+    let words = ["explain", "--thread=zed", "--at=0"];
+    let (status, sink) = called(rt.alloc(), &words, &[SLEEPER])?;
+    assert_eq!(rt; status, 2);
+    assert_eq!(rt;
+        sink.written(),
+        b"aps: scenario refused: unknown-name --thread\n".as_slice()
+    );
+    Ok(())
+}
