@@ -3,7 +3,7 @@ use Rattle.std.proofs.Common.{◌≡◌, ℕ, ◌<◌, ◌≤◌, ◌⊎◌, Lis
 use Rattle.std.proofs.lemmas.List.{append-nil, length-append}
 use Rattle.aps_view_words.specs.declared.asked.Asked.{Asked}
 use Rattle.aps_view.specs.declared.outcome.Outcome.{Outcome}
-use Rattle.aps_view.specs.declared.outcome.Outcome.TheVariants.{WordsRefused, ReadFault, TooLong, InputRefused, Ran, Viewed, Broken, NoMemory}
+use Rattle.aps_view.specs.declared.outcome.Outcome.TheVariants.{WordsRefused, ReadFault, TooLong, InputRefused, Reported, Broken, NoMemory}
 use Rattle.aps_view.specs.declared.status.Status.{Status}
 use Rattle.aps_view.specs.declared.status.Status.TheVariants as status
 use Rattle.aps_view.specs.Answer.{IsAnswer}
@@ -34,8 +34,7 @@ unasked intake bytes input WordsRefused h = inr refl
 unasked intake bytes input ReadFault h = absurd h
 unasked intake bytes input TooLong h = absurd h
 unasked intake bytes input (InputRefused refusal) h = absurd h
-unasked intake bytes input (Ran end text) h = absurd h
-unasked intake bytes input (Viewed text) h = absurd h
+unasked intake bytes input (Reported status text) h = absurd h
 unasked intake bytes input (Broken verdict) h = absurd h
 unasked intake bytes input NoMemory h = inl refl
 

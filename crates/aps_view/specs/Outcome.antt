@@ -2,19 +2,17 @@
 use Rattle.std.specs.Prelude.{ℕ, List, [], codes, string_bytes}
 use Rattle.aps_check.specs.Text.{verdict_text}
 use Rattle.aps_view.specs.declared.outcome.Outcome.{Outcome}
-use Rattle.aps_view.specs.declared.outcome.Outcome.TheVariants.{WordsRefused, ReadFault, TooLong, InputRefused, Ran, Viewed, Broken, NoMemory}
+use Rattle.aps_view.specs.declared.outcome.Outcome.TheVariants.{WordsRefused, ReadFault, TooLong, InputRefused, Reported, Broken, NoMemory}
 use Rattle.aps_view.specs.declared.status.Status.{Status}
 use Rattle.aps_view.specs.declared.status.Status.TheVariants as status
 use Rattle.aps_view.specs.Refusal.{refusal_text}
-use Rattle.aps_view.specs.Status.{status_of_end}
 
 abbrev pub status_of : Outcome → Status
 status_of WordsRefused = status.WordsRefused
 status_of ReadFault = status.ReadFault
 status_of TooLong = status.TooLong
 status_of (InputRefused refusal) = status.InputRefused
-status_of (Ran end text) = status_of_end end
-status_of (Viewed text) = status.Done
+status_of (Reported status text) = status
 status_of (Broken verdict) = status.JournalBreaks
 status_of NoMemory = status.NoMemory
 
@@ -24,7 +22,6 @@ text_of WordsRefused = codes "aps: words refused\n"
 text_of ReadFault = codes "aps: read fault\n"
 text_of TooLong = codes "aps: input too long\n"
 text_of (InputRefused refusal) = refusal_text refusal
-text_of (Ran end text) = string_bytes text
-text_of (Viewed text) = string_bytes text
+text_of (Reported status text) = string_bytes text
 text_of (Broken verdict) = verdict_text verdict
 text_of NoMemory = []

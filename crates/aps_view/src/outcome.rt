@@ -14,7 +14,6 @@ use crate::refusal::{InputRefusal, print_refusal};
 use crate::status::Status;
 use aps_check::Verdict;
 use aps_io::{Sink, Source};
-use aps_model::End;
 use aps_words::WordsRefusal;
 use std::alloc::Global;
 
@@ -29,10 +28,8 @@ pub enum Outcome {
     TooLong,
     /// The input is none that the report takes.
     InputRefused(InputRefusal),
-    /// The scenario was run to this end, and this is the report of it.
-    Ran { end: End, text: String },
-    /// The journal is legal, and this is the report of it.
-    Viewed { text: String },
+    /// This is the report of a run, or of a legal journal, under this status.
+    Reported { status: Status, text: String },
     /// The journal breaks a rule, as this verdict says.
     Broken { verdict: Verdict },
     /// There was no memory.
@@ -62,8 +59,7 @@ impl Outcome {
             Outcome::ReadFault => print(sink, b"aps: read fault\n", Status::ReadFault),
             Outcome::TooLong => print(sink, b"aps: input too long\n", Status::TooLong),
             Outcome::InputRefused(refusal) => print_refusal(alloc, refusal, sink),
-            Outcome::Ran { end, text } => print(sink, text.as_bytes(), Status::of_end(end)),
-            Outcome::Viewed { text } => print(sink, text.as_bytes(), Status::Done),
+            Outcome::Reported { status, text } => print(sink, text.as_bytes(), *status),
             Outcome::Broken { verdict } => print_verdict(alloc, verdict, sink),
             Outcome::NoMemory => Status::NoMemory,
         }

@@ -5,14 +5,14 @@ ghost use Rattle.aps_core.specs.Turn.{IsTaken, with_entry};
 ghost use Rattle.aps_view.specs.declared.status.Status.TheVariants.{Done};
 ghost use Rattle.aps_view.specs.Cause.{told_by};
 ghost use Rattle.aps_view.specs.Due.{IsDueOfEntries, IsDueOfRun, IsReported, judging, reported};
-ghost use Rattle.aps_view.specs.Status.{status_of_end};
 
 use crate::outcome::Outcome;
 use crate::refusal::InputRefusal;
 use crate::report::report;
+use crate::status::Status;
 use aps_check::{Verdict, check};
 use aps_core::Core;
-use aps_model::{End, Entry, NoMemory, Order, Scenario};
+use aps_model::{Entry, NoMemory, Order, Scenario};
 use aps_view_words::Asked;
 use std::alloc::Global;
 
@@ -25,15 +25,15 @@ pub fn ran(alloc: Global, asked: Asked, scenario: Scenario) -> Result<Outcome, N
     let mut core = Core::boot(alloc, scenario, Order::Fixed, asked.limit)?;
     let end = core.finish();
     let text = report(alloc, asked.report, &core)?;
-    Ok(of_run(end, text))
+    Ok(of_text(Status::of_end(&end), text))
 }
 
-/// What comes of a run with this end and this report.
-fn of_run(end: End, text: Option<String>) -> Outcome
-    ensures { told_by result ≡ reported (status_of_end end) (option_map string_bytes text) }
+/// What comes of a history with this report, under this status.
+fn of_text(status: Status, text: Option<String>) -> Outcome
+    ensures { told_by result ≡ reported status (option_map string_bytes text) }
 {
     match text {
-        Some(text) => Outcome::Ran { end, text },
+        Some(text) => Outcome::Reported { status, text },
         None => Outcome::InputRefused(InputRefusal::UnknownThread),
     }
 }
@@ -71,17 +71,7 @@ fn viewed(
     let mut core = Core::boot(alloc, scenario, Order::Free, asked.limit)?;
     retrace(&mut core, entries);
     let text = report(alloc, asked.report, &core)?;
-    Ok(of_view(text))
-}
-
-/// What comes of a legal journal with this report.
-fn of_view(text: Option<String>) -> Outcome
-    ensures { told_by result ≡ reported Done (option_map string_bytes text) }
-{
-    match text {
-        Some(text) => Outcome::Viewed { text },
-        None => Outcome::InputRefused(InputRefusal::UnknownThread),
-    }
+    Ok(of_text(Status::Done, text))
 }
 
 /// The core, which has no entries yet, makes the steps of which these are the entries.

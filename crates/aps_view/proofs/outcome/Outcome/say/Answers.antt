@@ -23,15 +23,10 @@ returns-in-InputRefused g c =
     let is = c.in-InputRefused.is in
     said_as _ _ _ _ _ _ (sym (ap text_of is)) (sym (ap status_of is)) c.print_refusal.ensures
 
-pub returns-in-Ran : goal.returns-in-Ran
-returns-in-Ran g c =
-    let is = c.in-Ran.is in
-    said_as _ _ _ _ _ _ (c.as_bytes.ensures.value ∙ sym (ap text_of is)) (c.of_end.ensures ∙ sym (ap status_of is)) c.print-in-Ran.ensures.prints
-
-pub returns-in-Viewed : goal.returns-in-Viewed
-returns-in-Viewed g c =
-    let is = c.in-Viewed.is in
-    said_as _ _ _ _ _ _ (c.as_bytes-in-Viewed.ensures.value ∙ sym (ap text_of is)) (sym (ap status_of is)) c.print-in-Viewed.ensures.prints
+pub returns-in-Reported : goal.returns-in-Reported
+returns-in-Reported g c =
+    let is = c.in-Reported.is in
+    said_as _ _ _ _ _ _ (c.as_bytes.ensures.value ∙ sym (ap text_of is)) (sym (ap status_of is)) c.print-in-Reported.ensures.prints
 
 pub returns-in-Broken : goal.returns-in-Broken
 returns-in-Broken g c =
