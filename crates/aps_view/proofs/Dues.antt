@@ -14,6 +14,11 @@ use Rattle.aps_view.specs.Outcome.{status_of, text_of}
 use Rattle.aps_view.specs.Printing.{Prints, output_of}
 use Rattle.aps_view.specs.Status.{code}
 
+-- want of memory is a cause of its own, whatever was asked for
+pub lacks_memory : (asked : Option Asked) (intake : Intake) (bytes : List ℕ) → HasCause asked intake bytes NoMemory
+lacks_memory None intake bytes = tt
+lacks_memory (Some asked) intake bytes = inl refl
+
 module _ (asked : Asked) (input bytes rest : List ℕ) (taken : input ≡ bytes ++ rest) where
   of_whole : (outcome : Outcome) → IsOfWhole asked (intake_of (Some input) (Some rest) 0 0) bytes outcome → IsDue (Some asked) input (told_by outcome)
   of_whole outcome h =
