@@ -6,7 +6,6 @@ use Rattle.std.proofs.lemmas.List.{append-nil, get_or-replicate}
 use Rattle.aps_model.specs.declared.entry.Entry.{Entry}
 use Rattle.aps_model.specs.declared.entry.End.TheVariants.{Limit}
 use Rattle.aps_model.specs.declared.entry.Order.{Order}
-use Rattle.aps_model.specs.declared.shape.Shape.{Shape}
 use Rattle.aps_model.specs.After.{or_limit}
 use Rattle.aps_model.specs.Bill.{exceeding}
 use Rattle.aps_model.specs.Legal.{IsLegal}
@@ -19,8 +18,8 @@ use Rattle.aps_laws.specs.Runs.{GoesOn}
 use Rattle.aps_laws.proofs.MomentLaws.{moment-append}
 use Rattle.aps_laws.proofs.Prefixes.{goes_on}
 use Rattle.aps_laws.proofs.WaitFacts.{test_ne}
-use Rattle.aps_window.specs.Window.{opened, resized, total_of}
-use Rattle.aps_core.specs.Run.{Run, Setup}
+use Rattle.aps_window.specs.Window.{opened, resized}
+use Rattle.aps_core.specs.Run.{Run}
 use Rattle.aps_core.specs.Turn.{IsTaken, with_entry}
 use Rattle.aps_core.specs.Counts.{Counts}
 use Rattle.aps_core.proofs.Counting.{counts_none, counts_resized, total_critical}
@@ -28,7 +27,7 @@ use Rattle.aps_shares.specs.declared.critical_budget.CriticalBudget.{CriticalBud
 use Rattle.aps_shares.specs.declared.critical_time.CriticalTime.{CriticalTime}
 use Rattle.aps_shares.specs.declared.overspending.Pass.{Pass}
 use Rattle.aps_shares.specs.declared.spent.Spent.{Spent}
-use Rattle.aps_shares.specs.CriticalBudget.{budget_at, budget_by, tested_by}
+use Rattle.aps_shares.specs.CriticalBudget.{budget_at, budget_by}
 use Rattle.aps_shares.specs.CriticalTime.{IsCounted, for_span, shape_with}
 use Rattle.aps_shares.specs.Overspending.{AreFew, IsAt, excess_by, order_of, scenario_of, used_by}
 use Rattle.aps_shares.specs.Spent.{AreSpent, excess_at, excess_of, spent_from, spent_of, spent_with, state_tested}

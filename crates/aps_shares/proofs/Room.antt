@@ -1,5 +1,5 @@
 -- The window has room for the next entry.
-use Rattle.std.proofs.Common.{◌≡◌, ℕ, ◌+◌, ◌-◌, ◌*◌, ◌/◌, ◌<◌, ◌≤◌, List, [], ◌∷◌, ◌++◌, length, refl, sym, ap, subst, ◌∙◌, arith}
+use Rattle.std.proofs.Common.{◌≡◌, ℕ, ◌+◌, ◌-◌, ◌*◌, ◌/◌, ◌<◌, ◌≤◌, List, [], ◌∷◌, ◌++◌, length, refl, sym, subst, arith}
 use Rattle.std.proofs.Math.Nat.{div-le_of_le-mul}
 use Rattle.std.proofs.Math.Seq.{get_or-append_seam}
 use Rattle.std.proofs.lemmas.List.{length-append}
@@ -18,7 +18,7 @@ use Rattle.aps_laws.proofs.Sound.{legal_last, next_law, sound}
 use Rattle.aps_laws.proofs.Words.{tiled}
 use Rattle.aps_window.specs.Entries.{IsInOneTick}
 use Rattle.aps_window.specs.Window.{Window, advanced, resized}
-use Rattle.aps_core.specs.Counts.{CanBill, Counts}
+use Rattle.aps_core.specs.Counts.{Counts}
 use Rattle.aps_core.proofs.Counting.{can_bill, counts_later, counts_resized}
 use Rattle.aps_shares.specs.declared.critical_time.CriticalTime.{CriticalTime}
 use Rattle.aps_shares.specs.CriticalTime.{HasRoom, IsCounted, shape_with}

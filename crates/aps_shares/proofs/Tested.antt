@@ -1,11 +1,10 @@
 -- What stands at the test of bankruptcy.
-use Rattle.std.proofs.Common.{◌≡◌, ℕ, ◌+◌, ◌/◌, ◌%◌, ◌<◌, ◌≤◌, List, [], ◌∷◌, ◌++◌, refl, sym, ◌∙◌, ap, subst, Bool, true, false, not, ◌&&◌, cond, nat_eq, nat_lt, Option, Some, None, inl, inr, ◌⊎◌, arith}
+use Rattle.std.proofs.Common.{◌≡◌, ℕ, ◌/◌, ◌%◌, ◌<◌, ◌≤◌, List, [], ◌∷◌, ◌++◌, refl, sym, ◌∙◌, ap, subst, Bool, true, false, not, ◌&&◌, cond, nat_eq, nat_lt, Option, Some, None, inl, inr, arith}
 use Rattle.std.specs.Option.{option_map}
 use Rattle.std.proofs.lemmas.Bool.{lt-ltb, ltb-true}
 use Rattle.std.proofs.lemmas.Bool.Decides.{nat_tests}
 use Rattle.aps_model.specs.declared.entry.Entry.{Entry}
 use Rattle.aps_model.specs.declared.entry.Order.{Order}
-use Rattle.aps_model.specs.declared.partition.PartitionRow.{PartitionRow}
 use Rattle.aps_model.specs.declared.shape.Shape.{Shape}
 use Rattle.aps_model.specs.After.{After, state_after}
 use Rattle.aps_model.specs.Due.{due}
@@ -20,7 +19,7 @@ use Rattle.aps_model.proofs.AfterLaws.{after-append}
 use Rattle.aps_laws.specs.Boundaries.{is_met}
 use Rattle.aps_laws.specs.Moments.{moment}
 use Rattle.aps_laws.specs.Sizes.{IsSameSizes}
-use Rattle.aps_laws.proofs.Books.{OfBooks, step_books}
+use Rattle.aps_laws.proofs.Books.{step_books}
 use Rattle.aps_laws.proofs.BoundaryLaws.{in_tick}
 use Rattle.aps_laws.proofs.Channels.{names_channels}
 use Rattle.aps_laws.proofs.Mid.{unflagged}

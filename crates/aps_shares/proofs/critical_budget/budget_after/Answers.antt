@@ -1,6 +1,4 @@
-use Rattle.std.proofs.Common.{◌≡◌, List, false, ◌∙◌, ap, sym, subst}
-use Rattle.aps_model.specs.declared.command.CommandRow.{CommandRow}
-use Rattle.aps_model.specs.declared.partition.PartitionRow.{PartitionRow}
+use Rattle.std.proofs.Common.{◌≡◌, false, ◌∙◌, ap, sym, subst}
 use Rattle.aps_model.specs.declared.shape.Shape.{Shape}
 use Rattle.aps_model.specs.History.{History}
 use Rattle.aps_model.specs.Partition.{AreRows}

@@ -1,11 +1,11 @@
-use Rattle.std.proofs.Common.{◌≡◌, ◌≤◌, ◌<◌, ◌/◌, Bool, true, false, Some, cond, ◌∙◌, ap, sym, subst}
+use Rattle.std.proofs.Common.{◌≡◌, ◌≤◌, ◌<◌, ◌/◌, true, false, Some, cond, ◌∙◌, ap, sym, subst}
 use Rattle.aps_model.specs.declared.shape.Shape.{Shape}
 use Rattle.aps_model.specs.History.{History}
 use Rattle.aps_model.specs.SchedulerState.{SchedulerState}
 use Rattle.aps_laws.specs.Moments.{moment}
 use Rattle.aps_core.specs.Run.{history_of, state_of}
 use Rattle.aps_shares.specs.CriticalBudget.{begins_tick, tested_by}
-use Rattle.aps_shares.specs.Standing.{Standing, all_commanded, stand, standing_of}
+use Rattle.aps_shares.specs.Standing.{all_commanded, stand, standing_of}
 use Rattle.aps_shares.proofs.Tested.{begins, budget_told, first_begins, late_begins, other_begins}
 use Rattle.aps_shares.proofs.critical_budget.budget_at.Goals.{else-last-e-via-then-last-e+else-begins_tick, else-last-e-via-else-last-e}
 use Rattle.aps_shares.proofs.critical_budget.budget_at.Goals as goal

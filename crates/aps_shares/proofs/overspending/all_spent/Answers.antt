@@ -1,4 +1,4 @@
-use Rattle.std.proofs.Common.{◌≡◌, List, Option, subst}
+use Rattle.std.proofs.Common.{List, subst}
 use Rattle.aps_core.specs.Run.{Run}
 use Rattle.aps_model.specs.declared.entry.Entry.{Entry}
 use Rattle.aps_shares.specs.Spent.{AreSpent}

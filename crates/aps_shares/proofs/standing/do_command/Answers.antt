@@ -1,4 +1,4 @@
-use Rattle.std.proofs.Common.{◌≡◌, ◌∙◌, ap, sym}
+use Rattle.std.proofs.Common.{◌∙◌, ap, sym}
 use Rattle.aps_model.specs.declared.shape.Shape.{Shape}
 use Rattle.aps_shares.proofs.Commands.{commanded_parts}
 use Rattle.aps_shares.proofs.standing.do_command.Goals as goal

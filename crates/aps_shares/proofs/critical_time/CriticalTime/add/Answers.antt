@@ -1,4 +1,4 @@
-use Rattle.std.proofs.Common.{◌≡◌, ◌≤◌, ◌<◌, ◌/◌, ◌-◌, ◌++◌, [], ◌∷◌, ◌∙◌, ap, sym, subst, arith, Fits, w32}
+use Rattle.std.proofs.Common.{◌≤◌, ◌/◌, ◌-◌, ◌++◌, [], ◌∷◌, ◌∙◌, ap, sym, subst, arith, Fits, w32}
 use Rattle.aps_model.specs.declared.shape.Shape.{Shape}
 use Rattle.aps_model.specs.History.{History}
 use Rattle.aps_model.specs.Scenario.{Scenario}
@@ -6,7 +6,6 @@ use Rattle.aps_laws.proofs.MomentLaws.{moment-append}
 use Rattle.aps_window.specs.Entries.{IsInOneTick}
 use Rattle.aps_window.specs.Window.{advanced}
 use Rattle.aps_core.specs.Counts.{Counts}
-use Rattle.aps_core.specs.Run.{history_of}
 use Rattle.aps_shares.specs.CriticalTime.{HasRoom, shape_with}
 use Rattle.aps_shares.proofs.Room.{gone_on, has_room, is_later}
 use Rattle.aps_shares.proofs.critical_time.CriticalTime.add.Goals as goal

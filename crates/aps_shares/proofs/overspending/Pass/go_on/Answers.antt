@@ -1,4 +1,4 @@
-use Rattle.std.proofs.Common.{◌≡◌, ◌+◌, ◌<◌, ◌++◌, [], ◌∷◌, None, Option, length, ◌∙◌, ap, refl, sym, subst, arith}
+use Rattle.std.proofs.Common.{◌<◌, ◌++◌, [], ◌∷◌, length, ◌∙◌, ap, refl, sym, subst, arith}
 use Rattle.std.proofs.Math.Seq.{get_or-append_seam}
 use Rattle.std.proofs.lemmas.List.{length-append}
 use Rattle.aps_model.specs.declared.entry.Entry.{Entry}
