@@ -1,2 +1,6 @@
+pub mod Commands
 pub mod Folded
+pub mod Overspent
+pub mod Room
 pub mod Rows
+pub mod Tested

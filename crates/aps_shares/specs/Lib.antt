@@ -1,4 +1,8 @@
+pub mod CriticalBudget
+pub mod CriticalTime
+pub mod Overspending
 pub mod Share
 pub mod Shares
 pub mod Spent
+pub mod Standing
 pub mod Text

@@ -2,13 +2,19 @@
 //! overspends its critical budget.
 #![tactic(auto)]
 
+mod critical_budget;
+mod critical_time;
 mod lines;
+mod overspending;
+mod retracing;
 mod share;
 mod shares;
 mod spent;
+mod standing;
 mod text;
 
+pub use overspending::all_spent;
 pub use share::{Amount, Counts, Share, Shortfall, Used};
 pub use shares::Shares;
 pub use spent::Spent;
-pub use text::shares_text_with;
+pub use text::{shares_text, shares_text_with};

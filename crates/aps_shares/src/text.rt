@@ -8,6 +8,7 @@ ghost use Rattle.aps_shares.specs.Spent.{AreSpent};
 ghost use Rattle.aps_shares.specs.Text as spec;
 
 use crate::lines::{add_head, add_partition};
+use crate::overspending::all_spent;
 use crate::share::Share;
 use crate::shares::{all_shares, tick_of_all};
 use crate::spent::Spent;
@@ -16,7 +17,18 @@ use aps_samples::rows_after;
 use std::alloc::Global;
 
 /// What each partition gets of the time that its budget allows, over all windows that are full, and how often it overspent
-/// its critical budget, which is given; all in ns. Partitions come by their numbers. The history is legal in this order of
+/// its critical budget; all in ns. Partitions come by their numbers. The history is legal in this order of turns. `NoMemory`
+/// comes where memory runs out.
+pub fn shares_text(alloc: Global, history: &History, order: Order) -> Result<String, NoMemory>
+    requires legal { IsLegal history.now.scenario order history.now.entries }
+    requires few { length history.now.entries ≤ 4000000 }
+    ensures { IfOk result (λ text. string_bytes text ≡ spec.shares_text history.now.scenario history.now.entries) }
+{
+    let spent = all_spent(alloc, history, order)?;
+    shares_text_with(alloc, history, order, &spent)
+}
+
+/// The same, where it is given how often each partition overspent its critical budget; all in ns. Partitions come by their numbers. The history is legal in this order of
 /// turns. `NoMemory` comes where memory runs out.
 pub fn shares_text_with(
     alloc: Global,

@@ -1,4 +1,4 @@
-use Rattle.std.proofs.Common.{◌≡◌, ◌+◌, ◌∙◌, ap, sym, refl, arith}
+use Rattle.std.proofs.Common.{◌≡◌, ◌∙◌, ap, refl, arith}
 use Rattle.std.specs.List.{sum_by, range_with_len}
 use Rattle.aps_shares.specs.Share.{taken_by}
 use Rattle.aps_shares.proofs.Folded.{sum_more}

@@ -1,4 +1,4 @@
-use Rattle.std.proofs.Common.{◌≡◌, ◌++◌, ◌∙◌, List, ℕ, string_bytes, get_or, None, arith, ap, sym}
+use Rattle.std.proofs.Common.{get_or, None, arith}
 use Rattle.aps_shares.specs.Share.{no_share}
 use Rattle.aps_shares.specs.Text.{partition_text}
 use Rattle.aps_shares.proofs.Rows.{row_more, rows_all}

@@ -6,7 +6,7 @@ use Rattle.aps_model.specs.Scenario.{Scenario}
 use Rattle.aps_shares.specs.declared.share.Share.{Share}
 use Rattle.aps_shares.specs.declared.spent.Spent.{Spent}
 use Rattle.aps_shares.specs.Share.{no_share}
-use Rattle.aps_shares.specs.Shares.{AreUpTo, counts_of, share_of, tick_of_all}
+use Rattle.aps_shares.specs.Shares.{counts_of, share_of, tick_of_all}
 use Rattle.aps_shares.specs.Spent.{spent_of}
 use Rattle.aps_shares.specs.Text.{head_lines, partition_text}
 use Rattle.aps_shares.proofs.Rows.{same_texts}

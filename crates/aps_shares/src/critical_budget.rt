@@ -1,0 +1,101 @@
+//! The critical budget by which a partition is tested for bankruptcy.
+ghost use Rattle.std.specs.Prelude.{◌≡◌, ◌++◌, [], ◌∷◌, IfOk};
+ghost use Rattle.aps_model.specs.Legal.{IsLegal};
+ghost use Rattle.aps_model.specs.Shape.{IsShape};
+ghost use Rattle.aps_laws.specs.Moments.{moment};
+ghost use Rattle.aps_core.specs.Run.{state_of};
+ghost use Rattle.aps_shares.specs.CriticalBudget as spec;
+ghost use Rattle.aps_shares.specs.Standing.{all_commanded, stand, standing_of};
+
+use crate::standing::{do_commands, has_command};
+use aps_core::Core;
+use aps_model::{Entry, Nanos, NoMemory, PartitionId, PartitionRow, Shape};
+use aps_tree::Tree;
+use std::alloc::Global;
+
+/// What a partition may use as critical time in a window: its critical budget (ns), and the length of the window (ticks).
+#[derive(Clone, Copy)]
+pub struct CriticalBudget {
+    pub partition: PartitionId,
+    pub ns: Nanos,
+    pub window: u16,
+}
+
+/// The critical budget by which the test of bankruptcy goes in the step of an entry, which comes next after those of the
+/// core, the last of which ended at `last`: that of the partition which the entry bills, after the commands of the tick
+/// that the step begins, if it begins one. There is none where the entry bills no critical time. `NoMemory` comes where memory
+/// runs out.
+pub fn budget_at(
+    alloc: Global,
+    core: &Core,
+    last: Nanos,
+    e: &Entry,
+) -> Result<Option<CriticalBudget>, NoMemory>
+    requires last { last ≡ moment core.now.entries }
+    requires legal { IsLegal core.now.setup.scenario core.now.setup.order (core.now.entries ++ e.now ∷ []) }
+    ensures { IfOk result (λ budget. budget ≡ spec.budget_at core.now.setup.scenario core.now.entries e.now) }
+{
+    let Some(p) = tested(e) else {
+        return Ok(None);
+    };
+    let history = core.history();
+    if last < e.to && begins_tick(history.shape(), e.to) {
+        let tick = (e.to / history.shape().tick) as u32;
+        return Ok(Some(budget_after(alloc, core, tick, p)?));
+    }
+    Ok(Some(budget_by(history.rows(), history.shape(), p)))
+}
+
+/// The partition that is tested after the entry: the one that it bills, where it bills critical time.
+fn tested(e: &Entry) -> Option<PartitionId>
+    ensures { result ≡ spec.tested_by e.now }
+{
+    if e.critical && e.from < e.to {
+        e.billed
+    } else {
+        None
+    }
+}
+
+/// Whether a tick below the horizon begins at this moment.
+fn begins_tick(shape: &Shape, moment: Nanos) -> bool
+    requires { IsShape shape.now }
+    ensures { result ≡ spec.begins_tick shape.now moment }
+{
+    moment % shape.tick == 0 && moment < shape.horizon()
+}
+
+/// The critical budget of the partition after the commands of this tick. `NoMemory` comes where memory runs out.
+fn budget_after(
+    alloc: Global,
+    core: &Core,
+    tick: u32,
+    p: PartitionId,
+) -> Result<CriticalBudget, NoMemory>
+    ensures { IfOk result (λ budget. budget ≡ spec.budget_by (all_commanded tick core.now.setup.scenario.commands (standing_of (state_of core.now))) p) }
+{
+    let history = core.history();
+    let commands = history.scenario().commands();
+    if !has_command(commands, tick) {
+        return Ok(budget_by(history.rows(), history.shape(), p));
+    }
+    let mut shape = *history.shape();
+    let mut tree = Tree::of_rows(alloc, shape.parts, history.rows())?;
+    do_commands(commands, tick, &mut tree, &mut shape);
+    Ok(budget_by(tree.rows(), &shape, p))
+}
+
+/// The critical budget of the partition by these rows, in the window of this shape; 0 where there is no such row.
+fn budget_by(rows: &[PartitionRow], shape: &Shape, p: PartitionId) -> CriticalBudget
+    ensures { result ≡ spec.budget_by (stand rows.now shape.now) p }
+{
+    let ns = match rows.get(p.index()) {
+        Some(row) => row.critical,
+        None => 0,
+    };
+    CriticalBudget {
+        partition: p,
+        ns,
+        window: shape.window,
+    }
+}

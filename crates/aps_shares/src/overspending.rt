@@ -1,0 +1,115 @@
+//! By how much each partition overspends its critical budget: one pass over the entries of a recorded history.
+ghost use Rattle.std.specs.Prelude.{◌≡◌, ℕ, ◌<◌, ◌≤◌, ◌++◌, [], ◌∷◌, length, slice_index_or, None, IfOk, OnOk};
+ghost use Rattle.aps_model.specs.Legal.{IsLegal};
+ghost use Rattle.aps_core.specs.Turn.{with_entry};
+ghost use Rattle.aps_shares.specs.Overspending.{AreFew, IsAt, excess_by, order_of, scenario_of, used_by};
+ghost use Rattle.aps_samples.specs.Retraced.{start_of};
+ghost use Rattle.aps_shares.specs.CriticalTime.{for_span};
+ghost use Rattle.aps_shares.specs.Spent.{AreSpent, spent_with};
+
+use crate::critical_budget::{CriticalBudget, budget_at};
+use crate::critical_time::CriticalTime;
+use crate::retracing::{boot, retrace};
+use crate::spent::Spent;
+use aps_core::Core;
+use aps_model::{Entry, History, Nanos, NoMemory, Order};
+use std::alloc::Global;
+
+const PARTITIONS: usize = 32;
+
+/// How far a pass has come: a core that has made the steps of so many entries again, when the last of them ended, the time
+/// that they bill, and by how much each partition has overspent.
+#[derive(Drop)]
+pub struct Pass {
+    pub core: Core,
+    pub moment: Nanos,
+    pub time: CriticalTime,
+    pub spent: [Option<Spent>; PARTITIONS],
+}
+
+/// How often each partition overspent its critical budget in a history that is legal in this order of turns, when first, and
+/// by how much at worst. `NoMemory` comes where memory runs out.
+pub fn all_spent(
+    alloc: Global,
+    history: &History,
+    order: Order,
+) -> Result<[Option<Spent>; 32], NoMemory>
+    requires legal { IsLegal history.now.scenario order history.now.entries }
+    requires few { length history.now.entries ≤ 4000000 }
+    ensures { IfOk result (λ spent. AreSpent history.now.scenario history.now.entries spent) }
+{
+    let mut pass = Pass::begin(alloc, history, order)?;
+    pass.go_through(alloc, history.entries())?;
+    Ok(pass.spent)
+}
+
+impl Pass {
+    /// A pass that has made no step.
+    fn begin(alloc: Global, history: &History, order: Order) -> Result<Pass, NoMemory>
+        requires { length history.now.entries ≤ 4000000 }
+        ensures at { IfOk result IsAt }
+        ensures core { IfOk result (λ pass. pass.core ≡ start_of history.now order) }
+    {
+        let window = history.scenario().shape().window;
+        let core = boot(alloc, history, order)?;
+        let time = CriticalTime::new(alloc, window)?;
+        Ok(Pass {
+            core,
+            moment: 0,
+            time,
+            spent: [None; PARTITIONS],
+        })
+    }
+
+    /// Makes the steps of these entries, from the first one on.
+    fn go_through(&mut self, alloc: Global, entries: &[Entry]) -> Result<(), NoMemory>
+        requires at { IsAt self.old }
+        requires begins { self.old.core.entries ≡ [] }
+        requires legal { IsLegal (scenario_of self.old) (order_of self.old) entries.now }
+        requires few { length entries.now ≤ self.old.core.setup.limit }
+        requires most { length entries.now ≤ 4000000 }
+        ensures { OnOk result (AreSpent (scenario_of self.old) entries.now self.new.spent) }
+    {
+        for e in entries {
+            self.go_on(alloc, e)?;
+        }
+        Ok(())
+    }
+
+    /// Makes the step of the next entry.
+    fn go_on(&mut self, alloc: Global, e: &Entry) -> Result<(), NoMemory>
+        requires at { IsAt self.old }
+        requires legal { IsLegal (scenario_of self.old) (order_of self.old) (self.old.core.entries ++ e.now ∷ []) }
+        requires room { length self.old.core.entries < self.old.core.setup.limit }
+        requires few { length self.old.core.entries < 4000000 }
+        ensures at { OnOk result (IsAt self.new) }
+        ensures core { OnOk result (self.new.core ≡ with_entry self.old.core e.now) }
+    {
+        let budget = budget_at(alloc, &self.core, self.moment, e)?;
+        self.time.add(&self.core, e);
+        retrace(&mut self.core, e);
+        self.moment = e.to;
+        if let Some(budget) = budget {
+            self.compare(&budget);
+        }
+        Ok(())
+    }
+
+    /// Notes by how much the partition has overspent this budget at the last moment, if it has.
+    fn compare(&mut self, budget: &CriticalBudget)
+        requires least { 8 ≤ budget.now.window }
+        requires most { budget.now.window ≤ 400 }
+        requires span { self.old.time.window.span ≡ self.old.time.span }
+        requires few { AreFew self.old.spent }
+        ensures same { self.new ≡ record self.old { time = self.new.time; spent = self.new.spent } }
+        ensures time { self.new.time ≡ for_span budget.now.window self.old.time }
+        ensures within { budget.now.partition < 32 }
+        ensures spent { (p : ℕ) → p < 32 → slice_index_or self.new.spent p None ≡ spent_with (slice_index_or self.old.spent p None) self.old.moment (excess_by budget.now (used_by budget.now self.old.time) p) }
+    {
+        let p = budget.partition.index();
+        let used = self.time.used_in(budget.partition, budget.window);
+        if budget.ns < used {
+            self.spent[p] = Some(Spent::once(&self.spent[p], self.moment, used - budget.ns));
+        }
+    }
+}
