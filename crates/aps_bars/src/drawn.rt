@@ -55,6 +55,14 @@ impl Drawn {
     {
         self.rows.as_slice()
     }
+
+    /// What was altered, and the partition rows that stand last, taken out. The lanes are dropped.
+    pub fn without_lanes(self) -> (Vec<Alteration>, Vec<PartitionRow>)
+        ensures alterations { result.0.items ≡ self.alterations }
+        ensures rows { result.1.items ≡ self.rows }
+    {
+        (self.alterations, self.rows)
+    }
 }
 
 /// What is drawn of a history, in one pass over its entries, which are legal in this order of turns. `NoMemory` comes where memory
