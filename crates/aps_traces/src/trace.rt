@@ -10,7 +10,7 @@ use crate::instants::{write_alterations, write_overspent};
 use crate::names::{add_partitions, add_processors, add_threads};
 use crate::piece::write_out;
 use crate::slices::{write_lanes, write_lives};
-use aps_bars::{Alteration, Overspent, drawn};
+use aps_bars::{Alteration, Overspent, drawn_of};
 use aps_io::Sink;
 use aps_lives::lives;
 use aps_model::{History, NoMemory, Order, PartitionRow, Scenario};
@@ -58,7 +58,7 @@ fn write_processors<K: Sink>(
     ensures later { K.faults sink.old ≤ K.faults sink.new }
 {
     let scenario = history.scenario();
-    let drawn = drawn(alloc, history, order)?;
+    let drawn = drawn_of(alloc, history, order)?;
     add_names(out, scenario, drawn.rows())?;
     write_lanes(sink, out, scenario.threads(), drawn.rows(), drawn.lanes())?;
     Ok(drawn.without_lanes())
