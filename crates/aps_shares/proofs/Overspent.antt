@@ -1,5 +1,5 @@
 -- What a pass notes of overspending, entry by entry.
-use Rattle.std.proofs.Common.{◌≡◌, ℕ, ◌+◌, ◌-◌, ◌/◌, ◌<◌, ◌≤◌, List, [], ◌∷◌, ◌++◌, length, get_or, replicate, refl, sym, ap, subst, ◌∙◌, Bool, true, false, ◌&&◌, cond, nat_eq, nat_lt, Option, Some, None, IfSome, arith, append_assoc}
+use Rattle.std.proofs.Common.{◌≡◌, ℕ, ◌+◌, ◌-◌, ◌/◌, ◌<◌, ◌≤◌, List, [], ◌∷◌, ◌++◌, length, get_or, replicate, refl, sym, ap, subst, ◌∙◌, Bool, true, false, ◌&&◌, cond, nat_eq, nat_lt, Option, Some, None, option_and_then, IfSome, arith, append_assoc}
 use Rattle.std.specs.Option.{option_map}
 use Rattle.std.proofs.lemmas.Bool.{eqb-true}
 use Rattle.std.proofs.lemmas.List.{append-nil, get_or-replicate}
@@ -30,7 +30,8 @@ use Rattle.aps_shares.specs.declared.spent.Spent.{Spent}
 use Rattle.aps_shares.specs.CriticalBudget.{budget_at, budget_by}
 use Rattle.aps_shares.specs.CriticalTime.{IsCounted, for_span, shape_with}
 use Rattle.aps_shares.specs.Overspending.{AreFew, IsAt, excess_by, order_of, scenario_of, used_by}
-use Rattle.aps_shares.specs.Spent.{AreSpent, excess_at, excess_of, spent_from, spent_of, spent_with, state_tested}
+use Rattle.aps_bars.specs.declared.overspent.Overspent.{Overspent}
+use Rattle.aps_shares.specs.Spent.{AreSpent, excess_at, excess_of, listed, overspent_as, overspent_by, overspent_from, overspent_of, spent_from, spent_of, spent_with, state_tested}
 use Rattle.aps_shares.specs.Standing.{standing_of}
 use Rattle.aps_shares.proofs.Tested.{tested_shape}
 
@@ -118,6 +119,45 @@ budget_window scenario order h e b valid legal is =
     let long = sized.window_long in
     let short = sized.window_short in
     (omega (arith, window, long), omega (arith, window, short))
+
+-- what it overspends
+pub overspent_found : (scenario : Scenario) (order : Order) (h : List Entry) (e : Entry) (b : CriticalBudget) (time : CriticalTime) → IsScenario scenario → IsLegal scenario order (h ++ e ∷ []) → budget_at scenario h e ≡ Some b
+    → b.partition < 32 → IsCounted scenario (h ++ e ∷ []) time → overspent_as e.to b.partition (excess_by b (used_by b time) b.partition) ≡ overspent_by scenario h e
+overspent_found scenario order h e b time valid legal is small counted =
+    let g = h ++ e ∷ [] in
+    let short = (budget_window scenario order h e b valid legal is).1 in
+    let there : IsCounted scenario g (for_span b.window time) = counts_resized (shape_with scenario time.span) (shape_with scenario b.window) g (moment g / scenario.shape.tick) time.window counted refl short in
+    ap (overspent_as e.to b.partition) (excess_some scenario order h e b time b.partition valid legal is small there)
+    ∙ sym (ap (λ o. option_and_then (λ p. overspent_as e.to p (excess_of scenario p h e)) o) (found scenario h e b is).billed)
+
+-- nothing, where no critical budget was found
+pub overspent_none : (scenario : Scenario) (h : List Entry) (e : Entry) → budget_at scenario h e ≡ None → ◌≡◌ {A = Option Overspent} None (overspent_by scenario h e)
+overspent_none scenario h e is = by_billed e.billed
+  where
+    by_billed : (o : Option ℕ) → ◌≡◌ {A = Option Overspent} None (option_and_then (λ p. overspent_as e.to p (excess_of scenario p h e)) o)
+    by_billed None = refl
+    by_billed (Some p) = sym (ap (overspent_as e.to p) (excess_none scenario h e p is))
+
+-- ---- all of them
+
+overspent_more_from : (scenario : Scenario) (before es : List Entry) (e : Entry)
+    → overspent_from scenario before (es ++ e ∷ []) ≡ overspent_from scenario before es ++ listed (overspent_by scenario (before ++ es) e)
+overspent_more_from scenario before [] e =
+    append-nil (listed (overspent_by scenario before e)) ∙ ap (λ g. listed (overspent_by scenario g e)) (sym (append-nil before))
+overspent_more_from scenario before (x ∷ es) e =
+    let first = listed (overspent_by scenario before x) in
+    let others = overspent_from scenario (before ++ x ∷ []) es in
+    ap (λ l. first ++ l) (overspent_more_from scenario (before ++ x ∷ []) es e
+    ∙ ap (λ g. others ++ listed (overspent_by scenario g e)) (append_assoc before (x ∷ []) es))
+    ∙ sym (append_assoc first others (listed (overspent_by scenario (before ++ x ∷ es) e)))
+
+pub overspent_more : (scenario : Scenario) (h : List Entry) (e : Entry) → overspent_of scenario (h ++ e ∷ []) ≡ overspent_of scenario h ++ listed (overspent_by scenario h e)
+unfolding overspent_of
+overspent_more scenario h e = overspent_more_from scenario [] h e
+
+pub overspent_begins : (scenario : Scenario) → overspent_of scenario [] ≡ []
+unfolding overspent_of
+overspent_begins scenario = refl
 
 -- ---- how often
 

@@ -1,5 +1,5 @@
 -- By how much partitions overspend their critical budgets. Times are ns.
-use Rattle.std.specs.Prelude.{◌≡◌, ◌<◌, slice_index_or, ℕ, ◌+◌, ◌-◌, ◌/◌, ◌++◌, List, [], ◌∷◌, nat_lt, if◌then◌else◌, Option, Some, None}
+use Rattle.std.specs.Prelude.{◌≡◌, ◌<◌, slice_index_or, ℕ, ◌+◌, ◌-◌, ◌/◌, ◌++◌, List, [], ◌∷◌, nat_lt, if◌then◌else◌, Option, Some, None, option_and_then}
 use Rattle.aps_model.specs.declared.entry.Entry.{Entry}
 use Rattle.aps_model.specs.After.{state_after}
 use Rattle.aps_model.specs.Bill.{bankrupt}
@@ -7,6 +7,7 @@ use Rattle.aps_model.specs.Scenario.{Scenario}
 use Rattle.aps_model.specs.SchedulerState.{SchedulerState, row_at}
 use Rattle.aps_model.specs.Usage.{names, window_critical}
 use Rattle.aps_laws.specs.Between.{after_tick}
+use Rattle.aps_bars.specs.declared.overspent.Overspent.{Overspent}
 use Rattle.aps_shares.specs.declared.spent.Spent.{Spent}
 
 -- the rows and the shape at the test of bankruptcy in the step of the entry, which follows on these: those after the work of the
@@ -22,8 +23,31 @@ excess_in s h j p = window_critical s.shape h j p - (row_at s p).critical
 abbrev pub excess_at : SchedulerState → List Entry → Entry → ℕ → Option ℕ
 excess_at s h e p = if names (bankrupt s h e) p then Some (excess_in s h (e.to / s.shape.tick) p) else None
 
+-- the partition overspends so much at this moment, if it does
+abbrev pub overspent_as : ℕ → ℕ → Option ℕ → Option Overspent
+overspent_as moment p None = None
+overspent_as moment p (Some excess) = Some (record { moment = moment; partition = p; excess = excess })
+
+-- what there is, as a list
+abbrev pub listed : Option Overspent → List Overspent
+listed None = []
+listed (Some overspent) = overspent ∷ []
+
 abbrev pub excess_of : Scenario → ℕ → List Entry → Entry → Option ℕ
 excess_of scenario p before e = excess_at (state_tested scenario before e) (before ++ e ∷ []) e p
+
+-- what the entry, which follows on these, overspends: the partition that it bills, at its end
+abbrev pub overspent_by : Scenario → List Entry → Entry → Option Overspent
+overspent_by scenario before e = option_and_then (λ p. overspent_as e.to p (excess_of scenario p before e)) e.billed
+
+-- what the entries overspend, which follow on these
+abbrev pub overspent_from : Scenario → List Entry → List Entry → List Overspent
+overspent_from scenario before [] = []
+overspent_from scenario before (e ∷ es) = listed (overspent_by scenario before e) ++ overspent_from scenario (before ++ e ∷ []) es
+
+-- each entry of a history that makes its partition bankrupt, in order
+unfoldable pub overspent_of : Scenario → List Entry → List Overspent
+overspent_of scenario h = overspent_from scenario [] h
 
 -- overspent once more, at this moment, by so much
 abbrev pub spent_once : Option Spent → ℕ → ℕ → Spent

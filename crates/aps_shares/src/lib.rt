@@ -13,7 +13,7 @@ mod spent;
 mod standing;
 mod text;
 
-pub use overspending::all_spent;
+pub use overspending::{all_overspent, all_spent};
 pub use share::{Amount, Counts, Share, Shortfall, Used};
 pub use shares::Shares;
 pub use spent::Spent;

@@ -5,12 +5,13 @@ ghost use Rattle.aps_core.specs.Turn.{with_entry};
 ghost use Rattle.aps_shares.specs.Overspending.{AreFew, IsAt, excess_by, order_of, scenario_of, used_by};
 ghost use Rattle.aps_samples.specs.Retraced.{start_of};
 ghost use Rattle.aps_shares.specs.CriticalTime.{for_span};
-ghost use Rattle.aps_shares.specs.Spent.{AreSpent, spent_with};
+ghost use Rattle.aps_shares.specs.Spent.{AreSpent, listed, overspent_as, overspent_by, overspent_of, spent_with};
 
 use crate::critical_budget::{CriticalBudget, budget_at};
 use crate::critical_time::CriticalTime;
 use crate::retracing::{boot, retrace};
 use crate::spent::Spent;
+use aps_bars::Overspent;
 use aps_core::Core;
 use aps_model::{Entry, History, Nanos, NoMemory, Order};
 use std::alloc::Global;
@@ -43,6 +44,23 @@ pub fn all_spent(
     Ok(pass.spent)
 }
 
+/// Each entry of a history that made its partition bankrupt, whatever the policy: its end, its partition, and the excess of
+/// critical usage over the critical budget at its test. The history is legal in this order of turns. `NoMemory` comes where memory
+/// runs out.
+pub fn all_overspent(
+    alloc: Global,
+    history: &History,
+    order: Order,
+) -> Result<Vec<Overspent>, NoMemory>
+    requires legal { IsLegal history.now.scenario order history.now.entries }
+    requires few { length history.now.entries ≤ 4000000 }
+    ensures { IfOk result (λ all. all.items ≡ overspent_of history.now.scenario history.now.entries) }
+{
+    let mut pass = Pass::begin(alloc, history, order)?;
+    let all = pass.collect(alloc, history.entries())?;
+    Ok(all)
+}
+
 impl Pass {
     /// A pass that has made no step.
     fn begin(alloc: Global, history: &History, order: Order) -> Result<Pass, NoMemory>
@@ -61,6 +79,23 @@ impl Pass {
         })
     }
 
+    /// Makes the steps of these entries, from the first one on, and gives what they overspend.
+    fn collect(&mut self, alloc: Global, entries: &[Entry]) -> Result<Vec<Overspent>, NoMemory>
+        requires at { IsAt self.old }
+        requires begins { self.old.core.entries ≡ [] }
+        requires legal { IsLegal (scenario_of self.old) (order_of self.old) entries.now }
+        requires few { length entries.now ≤ self.old.core.setup.limit }
+        requires most { length entries.now ≤ 4000000 }
+        ensures { IfOk result (λ all. all.items ≡ overspent_of (scenario_of self.old) entries.now) }
+    {
+        let mut all = Vec::new(alloc);
+        for e in entries {
+            let overspent = self.go_on(alloc, e)?;
+            add(&mut all, overspent)?;
+        }
+        Ok(all)
+    }
+
     /// Makes the steps of these entries, from the first one on.
     fn go_through(&mut self, alloc: Global, entries: &[Entry]) -> Result<(), NoMemory>
         requires at { IsAt self.old }
@@ -71,32 +106,33 @@ impl Pass {
         ensures { OnOk result (AreSpent (scenario_of self.old) entries.now self.new.spent) }
     {
         for e in entries {
-            self.go_on(alloc, e)?;
+            let _overspent = self.go_on(alloc, e)?;
         }
         Ok(())
     }
 
-    /// Makes the step of the next entry.
-    fn go_on(&mut self, alloc: Global, e: &Entry) -> Result<(), NoMemory>
+    /// Makes the step of the next entry, and gives what that overspends.
+    fn go_on(&mut self, alloc: Global, e: &Entry) -> Result<Option<Overspent>, NoMemory>
         requires at { IsAt self.old }
         requires legal { IsLegal (scenario_of self.old) (order_of self.old) (self.old.core.entries ++ e.now ∷ []) }
         requires room { length self.old.core.entries < self.old.core.setup.limit }
         requires few { length self.old.core.entries < 4000000 }
         ensures at { OnOk result (IsAt self.new) }
         ensures core { OnOk result (self.new.core ≡ with_entry self.old.core e.now) }
+        ensures overspent { IfOk result (λ overspent. overspent ≡ overspent_by (scenario_of self.old) self.old.core.entries e.now) }
     {
         let budget = budget_at(alloc, &self.core, self.moment, e)?;
         self.time.add(&self.core, e);
         retrace(&mut self.core, e);
         self.moment = e.to;
-        if let Some(budget) = budget {
-            self.compare(&budget);
+        match budget {
+            Some(budget) => Ok(self.compare(&budget)),
+            None => Ok(None),
         }
-        Ok(())
     }
 
-    /// Notes by how much the partition has overspent this budget at the last moment, if it has.
-    fn compare(&mut self, budget: &CriticalBudget)
+    /// Notes by how much the partition has overspent this budget at the last moment, if it has, and gives it.
+    fn compare(&mut self, budget: &CriticalBudget) -> Option<Overspent>
         requires least { 8 ≤ budget.now.window }
         requires most { budget.now.window ≤ 400 }
         requires span { self.old.time.window.span ≡ self.old.time.span }
@@ -104,12 +140,30 @@ impl Pass {
         ensures same { self.new ≡ record self.old { time = self.new.time; spent = self.new.spent } }
         ensures time { self.new.time ≡ for_span budget.now.window self.old.time }
         ensures within { budget.now.partition < 32 }
+        ensures overspent { result ≡ overspent_as self.old.moment budget.now.partition (excess_by budget.now (used_by budget.now self.old.time) budget.now.partition) }
         ensures spent { (p : ℕ) → p < 32 → slice_index_or self.new.spent p None ≡ spent_with (slice_index_or self.old.spent p None) self.old.moment (excess_by budget.now (used_by budget.now self.old.time) p) }
     {
         let p = budget.partition.index();
         let used = self.time.used_in(budget.partition, budget.window);
-        if budget.ns < used {
-            self.spent[p] = Some(Spent::once(&self.spent[p], self.moment, used - budget.ns));
+        if budget.ns >= used {
+            return None;
         }
+        let excess = used - budget.ns;
+        self.spent[p] = Some(Spent::once(&self.spent[p], self.moment, excess));
+        Some(Overspent {
+            moment: self.moment,
+            partition: budget.partition,
+            excess,
+        })
     }
+}
+
+/// Puts what there is behind the others.
+fn add(all: &mut Vec<Overspent>, overspent: Option<Overspent>) -> Result<(), NoMemory>
+    ensures { OnOk result (all.new.items ≡ all.old.items ++ listed overspent) }
+{
+    if let Some(overspent) = overspent {
+        all.push(overspent)?;
+    }
+    Ok(())
 }

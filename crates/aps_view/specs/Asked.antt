@@ -9,11 +9,11 @@ use Rattle.aps_view_words.specs.Asked as words
 abbrev pub is_there : Report → Bool
 is_there Cycles = true
 is_there (Csv ticks) = true
-is_there Shares = false
+is_there Shares = true
 is_there Latency = true
 is_there (Explain thread moment) = true
 is_there (Picture picture ticks) = false
-is_there (Trace trace) = false
+is_there (Trace trace) = true
 
 abbrev pub if_there : Asked → Option Asked
 if_there asked = if is_there asked.report then Some asked else None

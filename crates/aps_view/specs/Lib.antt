@@ -4,6 +4,7 @@ pub mod Status
 pub mod Printing
 pub mod Intake
 pub mod Report
+pub mod Traced
 pub mod Refusal
 pub mod Outcome
 pub mod Due

@@ -26,7 +26,12 @@ fn is_there(report: Report) -> bool
     ensures { result ≡ spec.is_there report }
 {
     match report {
-        Report::Cycles | Report::Csv { .. } | Report::Latency | Report::Explain { .. } => true,
-        Report::Shares | Report::Picture { .. } | Report::Trace { .. } => false,
+        Report::Cycles
+        | Report::Csv { .. }
+        | Report::Shares
+        | Report::Latency
+        | Report::Explain { .. }
+        | Report::Trace { .. } => true,
+        Report::Picture { .. } => false,
     }
 }

@@ -12,4 +12,5 @@ mod refusal;
 mod report;
 pub mod status;
 pub mod top;
+mod traced;
 mod viewing;

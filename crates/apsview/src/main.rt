@@ -13,6 +13,7 @@ use std::process::ExitCode;
 /// A hint for whoever starts the program by hand.
 const USAGE: &str = "usage: apsview REPORT < INPUT
 INPUT is a scenario, or a scenario, the line `--- journal` and a journal of it; REPORT is one of these:
+  shares [--limit ENTRIES]
   latency [--limit ENTRIES]
   explain --thread NAME --at NS [--limit ENTRIES]
   csv [--from TICK] [--to TICK] [--limit ENTRIES]

@@ -5,7 +5,7 @@ use Rattle.aps_model.specs.declared.entry.Entry.{Entry}
 use Rattle.aps_core.proofs.Turns.{cpus_exist}
 use Rattle.aps_shares.specs.declared.overspending.Pass.{Pass}
 use Rattle.aps_shares.specs.Overspending.{order_of, scenario_of}
-use Rattle.aps_shares.proofs.Overspent.{at_compared, at_quiet, budget_window, spent_few, taken}
+use Rattle.aps_shares.proofs.Overspent.{at_compared, at_quiet, budget_window, overspent_found, overspent_none, spent_few, taken}
 use Rattle.aps_shares.proofs.overspending.Pass.go_on.Goals as goal
 
 pub retrace-requires-clause-exists : goal.retrace-requires-clause-exists
@@ -42,8 +42,20 @@ returns-in-Some-clause-at c =
     (ap (λ (p : Pass). p.core) c.compare.ensures.same ∙ c.retrace.ensures) (ap (λ (p : Pass). p.moment) c.compare.ensures.same)
     c.add.ensures c.compare.ensures.time (sym c.in_ok-budget.ensures ∙ c.in-Some.is) c.compare.ensures.within c.compare.ensures.spent
 
-pub returns-in_default-clause-at : goal.returns-in_default-clause-at
-returns-in_default-clause-at c =
+pub returns-in-None-clause-at : goal.returns-in-None-clause-at
+returns-in-None-clause-at c =
     let self = c.args.self.now in
     at_quiet self (record { core = c.retrace.new.core; moment = c.args.e.now.to; time = c.add.new.self; spent = self.spent }) c.args.e.now c.requires.at
-    c.retrace.ensures refl c.add.ensures (sym c.in_ok-budget.ensures ∙ c.in_default.is) refl
+    c.retrace.ensures refl c.add.ensures (sym c.in_ok-budget.ensures ∙ c.in-None.is) refl
+
+pub returns-in-Some-clause-overspent : goal.returns-in-Some-clause-overspent
+returns-in-Some-clause-overspent c =
+    let self = c.args.self.now in
+    c.compare.ensures.overspent
+    ∙ overspent_found (scenario_of self) (order_of self) self.core.entries c.args.e.now c.in-Some.budget c.add.new.self c.requires.at.valid c.requires.legal
+    (sym c.in_ok-budget.ensures ∙ c.in-Some.is) c.compare.ensures.within c.add.ensures
+
+pub returns-in-None-clause-overspent : goal.returns-in-None-clause-overspent
+returns-in-None-clause-overspent c =
+    let self = c.args.self.now in
+    overspent_none (scenario_of self) self.core.entries c.args.e.now (sym c.in_ok-budget.ensures ∙ c.in-None.is)

@@ -42,8 +42,8 @@ pub loop-e-preserved : goal.loop-e-preserved
 loop-e-preserved c =
     let whole : List Entry → Run = λ es. record { setup = c.args.self.now.core.setup; entries = es } in
     record {
-      at = c.in_ok-go_on.ensures.at;
-      core = c.in_ok-go_on.ensures.core ∙ ap (λ (r : Run). with_entry r c.e-item.result) c.loop-e.invariant.core
+      at = c.in_ok-_overspent.ensures.at;
+      core = c.in_ok-_overspent.ensures.core ∙ ap (λ (r : Run). with_entry r c.e-item.result) c.loop-e.invariant.core
           ∙ ap whole (sym (one_more c.args.entries.now c.loop-e.e-index c.e-item.result c.loop-e-test.true (sym c.e-item.is)));
     }
 

@@ -1,6 +1,6 @@
 use Rattle.std.proofs.Common.{◌≡◌, ◌≤◌, length, ap, arith}
 use Rattle.aps_model.specs.History.{History}
-use Rattle.aps_view.proofs.report.report.Goals as goal
+use Rattle.aps_view.proofs.report.report_of.Goals as goal
 
 pub cycles_text-requires-clause-few : goal.cycles_text-requires-clause-few
 cycles_text-requires-clause-few c =
@@ -25,6 +25,13 @@ latency_text-requires-clause-few c =
 
 pub explained-requires-clause-few : goal.explained-requires-clause-few
 explained-requires-clause-few c =
+    let h = c.history-history.result.now in
+    let fit : length h.entries ≤ h.room.entries = c.entries-entries.ensures.keeps.entries_fit in
+    let room : h.room.entries ≡ c.args.core.now.setup.limit = ap (λ (k : History). k.room.entries) c.history-history.ensures.same in
+    omega (arith, fit, room, c.requires.few)
+
+pub shares_text-requires-clause-few : goal.shares_text-requires-clause-few
+shares_text-requires-clause-few c =
     let h = c.history-history.result.now in
     let fit : length h.entries ≤ h.room.entries = c.entries-entries.ensures.keeps.entries_fit in
     let room : h.room.entries ≡ c.args.core.now.setup.limit = ap (λ (k : History). k.room.entries) c.history-history.ensures.same in
