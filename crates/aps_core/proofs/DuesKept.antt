@@ -1,7 +1,6 @@
 -- The dues that a core keeps, after one entry more.
 use Rattle.std.proofs.Common.{◌≡◌, ℕ, ◌<◌, List, [], ◌∷◌, ◌++◌, length, refl, sym, ◌∙◌, ap, subst, None, slice_index, arith}
 use Rattle.aps_model.specs.declared.entry.Entry.{Entry}
-use Rattle.aps_model.specs.declared.merit.PartFacts.{PartFacts}
 use Rattle.aps_model.specs.After.{After}
 use Rattle.aps_model.specs.Due.{due}
 use Rattle.aps_model.specs.History.{History}

@@ -8,7 +8,6 @@ use Rattle.aps_model.specs.declared.entry.End.{End}
 use Rattle.aps_model.specs.declared.entry.End.TheVariants.{Limit}
 use Rattle.aps_model.specs.declared.entry.Entry.{Entry}
 use Rattle.aps_model.specs.declared.entry.Order.{Order}
-use Rattle.aps_model.specs.declared.merit.PartFacts.{PartFacts}
 use Rattle.aps_model.specs.After.{After, after, at_start, end_of, left_by, or_limit, over, over_by, stands_at, state_after}
 use Rattle.aps_model.specs.declared.entry.Order.TheVariants.{Fixed, Free}
 use Rattle.aps_model.specs.Due.{HasTurn, due, first_due, last_to}

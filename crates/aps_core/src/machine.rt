@@ -43,8 +43,8 @@ use crate::standing::Standing;
 use crate::{carried, due, usage};
 use aps_ctl::Ctl;
 use aps_model::{
-    Change, Contender, CpuId, CpuNow, Entry, Nanos, PartitionId, PartitionRow, Reply,
-    Scenario, Shape, ThreadId, ThreadNow,
+    Change, Contender, CpuId, CpuNow, Entry, Nanos, PartitionId, PartitionRow, Reply, Scenario,
+    Shape, ThreadId, ThreadNow,
 };
 use aps_ready::Ready;
 use aps_tree::Tree;

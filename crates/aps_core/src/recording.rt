@@ -15,13 +15,7 @@ use aps_model::{Change, End, Entry, History, PartitionId, PartitionRow, Reply};
 
 /// The history has the entry of a step that left this machine, all that the machine has recorded, and the end of the
 /// run if that has come: by a reboot for the partition, at the horizon, or by the limit.
-pub fn record(
-    history: &mut History,
-    made: Stepped,
-    machine: &Machine,
-    ends: &Ends,
-    limit: u32,
-)
+pub fn record(history: &mut History, made: Stepped, machine: &Machine, ends: &Ends, limit: u32)
     requires room { length history.old.entries < history.old.room.entries }
     requires entry { IsEntry made.entry }
     requires goes_on { history.old.end ≡ None }

@@ -1,4 +1,4 @@
-use Rattle.std.proofs.Common.{◌≡◌, sym}
+use Rattle.std.proofs.Common.{sym}
 use Rattle.aps_core.proofs.recording.tell.Goals as goal
 
 pub returns-else-is_changed : goal.returns-else-is_changed

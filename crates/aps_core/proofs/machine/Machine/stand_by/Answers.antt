@@ -1,6 +1,5 @@
-use Rattle.std.proofs.Common.{◌∙◌, ap, length, subst, sym, arith}
+use Rattle.std.proofs.Common.{ap, length, arith}
 use Rattle.aps_model.specs.SchedulerState.{SchedulerState}
-use Rattle.aps_core.specs.Standing.{DoOthersStand}
 use Rattle.aps_core.proofs.StandsStay.{none_anew}
 use Rattle.aps_core.proofs.machine.Machine.stand_by.Goals as goal
 

@@ -1,4 +1,4 @@
-use Rattle.std.proofs.Common.{◌≡◌, ℕ, ◌/◌, false, ◌||◌, List, Option, Some, None, ◌≤◌, [], ◌∷◌, ◌++◌, sym, ◌∙◌, refl, subst, length, ap, arith}
+use Rattle.std.proofs.Common.{◌≡◌, ℕ, ◌/◌, ◌||◌, List, Option, Some, None, ◌≤◌, [], ◌∷◌, ◌++◌, sym, ◌∙◌, refl, subst, length, ap, arith}
 use Rattle.std.specs.Option.{option_map}
 use Rattle.aps_model.specs.declared.entry.Entry.{Entry}
 use Rattle.aps_model.specs.declared.merit.Contender.{Contender}

@@ -1,4 +1,4 @@
-use Rattle.std.proofs.Common.{◌≡◌, ◌/◌, ◌∙◌, refl, [], ◌∷◌, ◌++◌, ap, None, arith, subst, sym}
+use Rattle.std.proofs.Common.{◌≡◌, ◌/◌, ◌∙◌, refl, [], ◌∷◌, ◌++◌, ap, None, subst, sym}
 use Rattle.aps_model.specs.Due.{due}
 use Rattle.aps_model.specs.History.{History}
 use Rattle.aps_model.specs.Scenario.{Scenario}
