@@ -1,7 +1,6 @@
 -- The dues that a core keeps, after one entry more.
 use Rattle.std.proofs.Common.{◌≡◌, ℕ, ◌<◌, List, [], ◌∷◌, ◌++◌, length, refl, sym, ◌∙◌, ap, subst, None, slice_index, arith}
 use Rattle.aps_model.specs.declared.entry.Entry.{Entry}
-use Rattle.aps_model.specs.declared.merit.PartFacts.{PartFacts}
 use Rattle.aps_model.specs.After.{After}
 use Rattle.aps_model.specs.Due.{due}
 use Rattle.aps_model.specs.History.{History}
@@ -25,35 +24,35 @@ pub dues_none : (s : SchedulerState) (dues : List ℕ) → ((d : ℕ) → slice_
 dues_none s dues none = λ d inside. none d ∙ sym (first_is_due s [] d refl)
 
 -- the processors stay
-pub cpus_after : (run : Run) (kept : History) (state : SchedulerState) (parts : List PartFacts) (c : ℕ) (e : Entry) (left : After) → IsCore run kept state parts → end_of_run run ≡ None → HasTurnIn run c
+pub cpus_after : (run : Run) (kept : History) (state : SchedulerState) (c : ℕ) (e : Entry) (left : After) → IsCore run kept state → end_of_run run ≡ None → HasTurnIn run c
     → step run.setup.scenario state run.entries c ≡ record { entry = e; state = left.state; reboot = left.reboot } → length left.state.cpus ≡ run.setup.scenario.shape.cpus
-cpus_after run kept state parts c e left core goes_on turn steps =
-    let more = one_more run kept state parts c e left core goes_on turn steps in
+cpus_after run kept state c e left core goes_on turn steps =
+    let more = one_more run kept state c e left core goes_on turn steps in
     subst (λ (a : After). length a.state.cpus ≡ run.setup.scenario.shape.cpus) more.leaves (counts_law run.setup.scenario run.setup.order (run.entries ++ e ∷ []) core.keeps.setup.valid more.legal).cpus
 
-pub own_within : (run : Run) (kept : History) (state : SchedulerState) (parts : List PartFacts) (c : ℕ) (e : Entry) (left : After) → IsCore run kept state parts → end_of_run run ≡ None → HasTurnIn run c
+pub own_within : (run : Run) (kept : History) (state : SchedulerState) (c : ℕ) (e : Entry) (left : After) → IsCore run kept state → end_of_run run ≡ None → HasTurnIn run c
     → step run.setup.scenario state run.entries c ≡ record { entry = e; state = left.state; reboot = left.reboot } → c < length left.state.cpus
-own_within run kept state parts c e left core goes_on turn steps =
-    let before = cpu_within run kept state parts c core (due_in run kept state parts c core goes_on turn).exists in
-    omega (arith, before, cpus_after run kept state parts c e left core goes_on turn steps)
+own_within run kept state c e left core goes_on turn steps =
+    let before = cpu_within run kept state c core (due_in run kept state c core goes_on turn).exists in
+    omega (arith, before, cpus_after run kept state c e left core goes_on turn steps)
 
-pub dues_more : (run : Run) (kept : History) (state : SchedulerState) (parts : List PartFacts) (c : ℕ) (e : Entry) (left : After) (dues : List ℕ) (own : ℕ)
-    → IsCore run kept state parts → end_of_run run ≡ None → HasTurnIn run c
+pub dues_more : (run : Run) (kept : History) (state : SchedulerState) (c : ℕ) (e : Entry) (left : After) (dues : List ℕ) (own : ℕ)
+    → IsCore run kept state → end_of_run run ≡ None → HasTurnIn run c
     → step run.setup.scenario state run.entries c ≡ record { entry = e; state = left.state; reboot = left.reboot }
     → length dues ≡ 16 → AreDues state run.entries dues → own ≡ due left.state (run.entries ++ e ∷ []) c → AreDues left.state (run.entries ++ e ∷ []) (dues_after dues e own)
-dues_more run kept state parts c e left dues own core goes_on turn steps whole before own_is =
+dues_more run kept state c e left dues own core goes_on turn steps whole before own_is =
     let scenario = run.setup.scenario in
     let order = run.setup.order in
     let h = run.entries in
     let valid = core.keeps.setup.valid in
     let s = state_of run in
     let m = sound scenario order valid h core.keeps.legal in
-    let more = one_more run kept state parts c e left core goes_on turn steps in
+    let more = one_more run kept state c e left core goes_on turn steps in
     let out : step scenario s h c ≡ record { entry = e; state = left.state; reboot = left.reboot } = ap (λ (t : SchedulerState). step scenario t h c) (sym core.machine) ∙ steps in
     let st : IsStepOf scenario s h c e left.state = subst (λ (o : Step). IsStepOf scenario s h c o.entry o.state) out (sound_step_of scenario order s h c valid m turn) in
     let after : IsSound scenario left.state (h ++ e ∷ []) = subst (λ (a : After). IsSound scenario a.state (h ++ e ∷ [])) more.leaves (sound scenario order valid (h ++ e ∷ []) more.legal) in
     let few = valid.shape.few_cpus in
-    row_after s left.state h c own e dues whole (omega (arith, few, cpus_after run kept state parts c e left core goes_on turn steps)) st.cpu_count st.cpu st.to
+    row_after s left.state h c own e dues whole (omega (arith, few, cpus_after run kept state c e left core goes_on turn steps)) st.cpu_count st.cpu st.to
     (subst (λ (t : SchedulerState). AreDues t h dues) core.machine before) own_is
     (λ d inside ne.
     due_after scenario s h c d e left.state (step scenario s h c) st ne (ap (λ (o : Step). o.entry) out) (ap (λ (o : Step). o.state) out)

@@ -8,7 +8,6 @@ use Rattle.aps_model.specs.declared.entry.End.{End}
 use Rattle.aps_model.specs.declared.entry.End.TheVariants.{Limit}
 use Rattle.aps_model.specs.declared.entry.Entry.{Entry}
 use Rattle.aps_model.specs.declared.entry.Order.{Order}
-use Rattle.aps_model.specs.declared.merit.PartFacts.{PartFacts}
 use Rattle.aps_model.specs.After.{After, after, at_start, end_of, left_by, or_limit, over, over_by, stands_at, state_after}
 use Rattle.aps_model.specs.declared.entry.Order.TheVariants.{Fixed, Free}
 use Rattle.aps_model.specs.Due.{HasTurn, due, first_due, last_to}
@@ -32,7 +31,8 @@ use Rattle.aps_laws.proofs.WaitFacts.{test_eq, test_ne}
 use Rattle.aps_laws.specs.Runs.{EndsNoSooner}
 use Rattle.aps_core.specs.Core.{IsCore, IsSetup, IsUnderWay}
 use Rattle.aps_core.specs.Pending.{IsPending}
-use Rattle.aps_core.specs.CanRecord.{CanRecord}
+use Rattle.aps_core.specs.CanRecord.{CanRecord, HasTold}
+use Rattle.aps_core.specs.Kept.{IsKept}
 use Rattle.aps_core.specs.Run.{Run, Setup, end_of_run, history_of, rooms_of, state_of, with_last}
 use Rattle.aps_core.specs.declared.turn.Turn.TheVariants.{Took}
 use Rattle.aps_core.specs.Turn.{HasTurnIn, IsFed, with_entry}
@@ -70,11 +70,11 @@ starts setup s =
     ap (λ b. or_limit (over_by None b) setup.limit 0) (not_there (horizon setup.scenario.shape) setup.scenario.shape.cpus s.valid.shape.some_cpu)
     ∙ ap (λ b. cond b (Some Limit) None) (test_ne 0 setup.limit (λ e. omega (arith, e, s.some)))
 
-pub begun_core : (setup : Setup) (kept : History) (state : SchedulerState) (parts : List PartFacts) → IsSetup setup
+pub begun_core : (setup : Setup) (kept : History) (state : SchedulerState) → IsSetup setup
     → kept ≡ record { scenario = setup.scenario; entries = []; replies = []; changes = []; rows = setup.scenario.partitions; shape = setup.scenario.shape; end = None; room = rooms_of setup }
-    → state ≡ opening setup.scenario → length parts ≡ 32
-    → IsCore (record { setup = setup; entries = [] }) kept state parts
-begun_core setup kept state parts s kept_is state_is room =
+    → state ≡ opening setup.scenario
+    → IsCore (record { setup = setup; entries = [] }) kept state
+begun_core setup kept state s kept_is state_is =
     let run : Run = record { setup = setup; entries = [] } in
     let start = after_none setup.scenario in
     let ended : or_limit (over (at_start setup.scenario) []) setup.limit 0 ≡ None = starts setup s in
@@ -90,25 +90,24 @@ begun_core setup kept state parts s kept_is state_is room =
           ∙ ap (λ (o : Option End). record { scenario = setup.scenario; entries = []; replies = []; changes = []; rows = setup.scenario.partitions; shape = setup.scenario.shape; end = o; room = rooms_of setup }) (sym ended)
           ∙ ap (recorded_from setup.scenario setup.limit (rooms_of setup) []) (sym start);
       machine = state_is ∙ sym (ap (λ (a : After). a.state) start);
-      room = room;
     }
 
 -- ---- what the core's parts have at a step
 
-pub cpu_exists : (run : Run) (kept : History) (state : SchedulerState) (parts : List PartFacts) (c : ℕ) → IsCore run kept state parts → c < run.setup.scenario.shape.cpus → c < length state.cpus
-cpu_exists run kept state parts c core lt =
+pub cpu_exists : (run : Run) (kept : History) (state : SchedulerState) (c : ℕ) → IsCore run kept state → c < run.setup.scenario.shape.cpus → c < length state.cpus
+cpu_exists run kept state c core lt =
     omega (arith, lt, ap (λ (t : SchedulerState). length t.cpus) core.machine, (counts_law run.setup.scenario run.setup.order run.entries core.keeps.setup.valid core.keeps.legal).cpus)
 
-pub due_in : (run : Run) (kept : History) (state : SchedulerState) (parts : List PartFacts) (c : ℕ) → IsCore run kept state parts → end_of_run run ≡ None → HasTurnIn run c
+pub due_in : (run : Run) (kept : History) (state : SchedulerState) (c : ℕ) → IsCore run kept state → end_of_run run ≡ None → HasTurnIn run c
     → IsDueNow run.setup.scenario run.setup.order state run.entries c
-due_in run kept state parts c core goes_on turn =
+due_in run kept state c core goes_on turn =
     subst (λ s. IsDueNow run.setup.scenario run.setup.order s run.entries c) (sym core.machine)
     (due_now run.setup.scenario run.setup.order run.entries c core.keeps.setup.valid core.keeps.legal (not_over run goes_on) turn)
 
 -- and of that the step rests on
-pub ready_in : (run : Run) (kept : History) (state : SchedulerState) (parts : List PartFacts) (c : ℕ) → IsCore run kept state parts → end_of_run run ≡ None → HasTurnIn run c
+pub ready_in : (run : Run) (kept : History) (state : SchedulerState) (c : ℕ) → IsCore run kept state → end_of_run run ≡ None → HasTurnIn run c
     → IsReady run.setup.scenario state run.entries c
-ready_in run kept state parts c core goes_on turn =
+ready_in run kept state c core goes_on turn =
     subst (λ s. IsReady run.setup.scenario s run.entries c) (sym core.machine)
     (ready run.setup.scenario run.setup.order run.entries c core.keeps.setup.valid core.keeps.legal (omega (arith, core.keeps.fits, core.keeps.setup.few)) (not_over run goes_on) turn)
 
@@ -152,20 +151,20 @@ pub record IsMore (run : Run) (kept : History) (state : SchedulerState) (c : ℕ
   pub steps : step run.setup.scenario state run.entries c ≡ record { entry = e; state = left.state; reboot = left.reboot }
   pub added : kept' ≡ with_last kept run.setup.limit left.reboot left.state e
 
-pub own_entry : (run : Run) (kept : History) (state : SchedulerState) (parts : List PartFacts) (c : ℕ) (e : Entry) (left : After) → IsCore run kept state parts → end_of_run run ≡ None → HasTurnIn run c
+pub own_entry : (run : Run) (kept : History) (state : SchedulerState) (c : ℕ) (e : Entry) (left : After) → IsCore run kept state → end_of_run run ≡ None → HasTurnIn run c
     → step run.setup.scenario state run.entries c ≡ record { entry = e; state = left.state; reboot = left.reboot } → e.cpu ≡ c
-own_entry run kept state parts c e left core goes_on turn steps =
-    sym (ap (λ (out : Step). out.entry.cpu) steps) ∙ (due_in run kept state parts c core goes_on turn).own
+own_entry run kept state c e left core goes_on turn steps =
+    sym (ap (λ (out : Step). out.entry.cpu) steps) ∙ (due_in run kept state c core goes_on turn).own
 
 -- the history with it is legal, and leaves what the step left
 pub record IsOneMore (run : Run) (e : Entry) (left : After) : Type 0 where
   pub legal : IsLegal run.setup.scenario run.setup.order (run.entries ++ e ∷ [])
   pub leaves : after run.setup.scenario (run.entries ++ e ∷ []) ≡ left
 
-pub one_more : (run : Run) (kept : History) (state : SchedulerState) (parts : List PartFacts) (c : ℕ) (e : Entry) (left : After) → IsCore run kept state parts → end_of_run run ≡ None → HasTurnIn run c
+pub one_more : (run : Run) (kept : History) (state : SchedulerState) (c : ℕ) (e : Entry) (left : After) → IsCore run kept state → end_of_run run ≡ None → HasTurnIn run c
     → step run.setup.scenario state run.entries c ≡ record { entry = e; state = left.state; reboot = left.reboot } → IsOneMore run e left
-one_more run kept state parts c e left core goes_on turn steps =
-    let own = own_entry run kept state parts c e left core goes_on turn steps in
+one_more run kept state c e left core goes_on turn steps =
+    let own = own_entry run kept state c e left core goes_on turn steps in
     let scenario = run.setup.scenario in
     let s = state_of run in
     let at : (step scenario s run.entries e.cpu).entry ≡ e =
@@ -180,17 +179,17 @@ one_more run kept state parts c e left core goes_on turn steps =
     }
 
 -- enough threads of each partition with a budget feed it at the entry
-pub fed_in : (run : Run) (kept : History) (state : SchedulerState) (parts : List PartFacts) (c : ℕ) (e : Entry) (left : After) → IsCore run kept state parts → end_of_run run ≡ None → HasTurnIn run c
+pub fed_in : (run : Run) (kept : History) (state : SchedulerState) (c : ℕ) (e : Entry) (left : After) → IsCore run kept state → end_of_run run ≡ None → HasTurnIn run c
     → step run.setup.scenario state run.entries c ≡ record { entry = e; state = left.state; reboot = left.reboot } → IsFed run (Took e)
-fed_in run kept state parts c e left core goes_on turn steps =
-    let more = one_more run kept state parts c e left core goes_on turn steps in
+fed_in run kept state c e left core goes_on turn steps =
+    let more = one_more run kept state c e left core goes_on turn steps in
     enough_law run.setup.scenario run.setup.order run.entries e core.keeps.setup.valid more.legal
 
-core_more : (run : Run) (kept : History) (state : SchedulerState) (parts : List PartFacts) (c : ℕ) (e : Entry) (kept' : History) (left : After) (parts' : List PartFacts)
-    → IsCore run kept state parts → end_of_run run ≡ None → HasTurnIn run c → IsMore run kept state c e kept' left → length parts' ≡ length parts
-    → IsCore (with_entry run e) kept' left.state parts'
-core_more run kept state parts c e kept' left parts' core goes_on turn m count =
-    let more = one_more run kept state parts c e left core goes_on turn m.steps in
+core_more : (run : Run) (kept : History) (state : SchedulerState) (c : ℕ) (e : Entry) (kept' : History) (left : After)
+    → IsCore run kept state → end_of_run run ≡ None → HasTurnIn run c → IsMore run kept state c e kept' left
+    → IsCore (with_entry run e) kept' left.state
+core_more run kept state c e kept' left core goes_on turn m =
+    let more = one_more run kept state c e left core goes_on turn m.steps in
     let scenario = run.setup.scenario in
     record {
       keeps = record {
@@ -204,7 +203,6 @@ core_more run kept state parts c e kept' left parts' core goes_on turn m count =
           ∙ ap (λ (k : History). with_last k run.setup.limit left.reboot left.state e) core.recorded
           ∙ ap (recorded_from scenario run.setup.limit (rooms_of run.setup) (run.entries ++ e ∷ [])) (sym more.leaves);
       machine = sym (ap (λ (a : After). a.state) more.leaves);
-      room = count ∙ core.room;
     }
 
 -- ---- what the history takes over
@@ -228,26 +226,35 @@ can_record scenario order h e limit valid legal =
       shape = order'.shape;
     }
 
-pub can_record_in : (run : Run) (kept : History) (state : SchedulerState) (parts : List PartFacts) (c : ℕ) (e : Entry) (left : After) → IsCore run kept state parts → end_of_run run ≡ None → HasTurnIn run c
+pub can_record_in : (run : Run) (kept : History) (state : SchedulerState) (c : ℕ) (e : Entry) (left : After) → IsCore run kept state → end_of_run run ≡ None → HasTurnIn run c
     → step run.setup.scenario state run.entries c ≡ record { entry = e; state = left.state; reboot = left.reboot } → CanRecord kept left.state
-can_record_in run kept state parts c e left core goes_on turn steps =
-    let more = one_more run kept state parts c e left core goes_on turn steps in
+can_record_in run kept state c e left core goes_on turn steps =
+    let more = one_more run kept state c e left core goes_on turn steps in
     subst (λ (k : History). CanRecord k left.state) (sym core.recorded)
     (subst (λ (a : After). CanRecord (history_of run) a.state) more.leaves
     (can_record run.setup.scenario run.setup.order run.entries e run.setup.limit core.keeps.setup.valid more.legal))
+
+-- where the state keeps rows and lists, the history has them
+pub told_in : (run : Run) (kept : History) (state next : SchedulerState) → IsCore run kept state → IsKept state next → HasTold kept next
+told_in run kept state next core k = record {
+  replies = k.replies ∙ ap (λ (s : SchedulerState). s.replies) core.machine ∙ sym (ap (λ (h : History). h.replies) core.recorded);
+  changes = k.changes ∙ ap (λ (s : SchedulerState). s.changes) core.machine ∙ sym (ap (λ (h : History). h.changes) core.recorded);
+  rows = k.rows ∙ ap (λ (s : SchedulerState). s.rows) core.machine ∙ sym (ap (λ (h : History). h.rows) core.recorded);
+  shape = k.shape ∙ ap (λ (s : SchedulerState). s.shape) core.machine ∙ sym (ap (λ (h : History). h.shape) core.recorded);
+}
 
 -- ---- turns
 
 pub cpus_of : (run : Run) → IsUnderWay run → (state_of run).shape.cpus ≡ run.setup.scenario.shape.cpus
 cpus_of run r = (counts_law run.setup.scenario run.setup.order run.entries r.setup.valid r.legal).sizes.cpus
 
-pub cpu_within : (run : Run) (kept : History) (state : SchedulerState) (parts : List PartFacts) (c : ℕ) → IsCore run kept state parts → c < length state.cpus → c < run.setup.scenario.shape.cpus
-cpu_within run kept state parts c core lt =
+pub cpu_within : (run : Run) (kept : History) (state : SchedulerState) (c : ℕ) → IsCore run kept state → c < length state.cpus → c < run.setup.scenario.shape.cpus
+cpu_within run kept state c core lt =
     omega (arith, lt, ap (λ (t : SchedulerState). length t.cpus) core.machine, (counts_law run.setup.scenario run.setup.order run.entries core.keeps.setup.valid core.keeps.legal).cpus)
 
-pub first_lowest : (run : Run) (kept : History) (state : SchedulerState) (parts : List PartFacts) (order : Order) (c : ℕ) → IsCore run kept state parts → c ≡ first_due state run.entries state.shape.cpus
+pub first_lowest : (run : Run) (kept : History) (state : SchedulerState) (order : Order) (c : ℕ) → IsCore run kept state → c ≡ first_due state run.entries state.shape.cpus
     → HasTurn order (state_of run) run.entries c
-first_lowest run kept state parts order c core is =
+first_lowest run kept state order c core is =
     let s = state_of run in
     let there : c ≡ first_due s run.entries s.shape.cpus = is ∙ ap (λ (t : SchedulerState). first_due t run.entries t.shape.cpus) core.machine in
     subst (HasTurn order s run.entries) (sym there)
@@ -266,10 +273,10 @@ free_turn run c first r free lt lowest same = record {
     other e = cc
 
 -- the moments of the entry
-pub entry_fits : (run : Run) (kept : History) (state : SchedulerState) (parts : List PartFacts) (c : ℕ) (e : Entry) (left : After) → IsCore run kept state parts → end_of_run run ≡ None → HasTurnIn run c
+pub entry_fits : (run : Run) (kept : History) (state : SchedulerState) (c : ℕ) (e : Entry) (left : After) → IsCore run kept state → end_of_run run ≡ None → HasTurnIn run c
     → step run.setup.scenario state run.entries c ≡ record { entry = e; state = left.state; reboot = left.reboot } → IsEntry e
-entry_fits run kept state parts c e left core goes_on turn steps =
-    subst (λ (out : Step). IsEntry out.entry) steps (due_in run kept state parts c core goes_on turn).fits
+entry_fits run kept state c e left core goes_on turn steps =
+    subst (λ (out : Step). IsEntry out.entry) steps (due_in run kept state c core goes_on turn).fits
 
 pub same_number : (a b : ℕ) → nat_eq a b ≡ true → a ≡ b
 same_number a b e = grind (arith, nat_tests)
@@ -280,22 +287,22 @@ step_read scenario scenario' state h h' c out e f steps =
     ap (λ z. step z state h c) (sym e) ∙ ap (λ z. step scenario' state z c) (sym f) ∙ steps
 
 -- the same core, whose run is read from its history
-pub core_kept : (run : Run) (kept : History) (state : SchedulerState) (parts : List PartFacts) (c : ℕ) (e : Entry) (kept' : History) (left : After) (parts' : List PartFacts)
-    → IsCore run kept state parts → end_of_run run ≡ None → HasTurnIn run c → IsMore run kept state c e kept' left → length parts' ≡ length parts
-    → IsCore (record { setup = record run.setup { scenario = kept'.scenario }; entries = kept'.entries }) kept' left.state parts'
-core_kept run kept state parts c e kept' left parts' core goes_on turn m count =
+pub core_kept : (run : Run) (kept : History) (state : SchedulerState) (c : ℕ) (e : Entry) (kept' : History) (left : After)
+    → IsCore run kept state → end_of_run run ≡ None → HasTurnIn run c → IsMore run kept state c e kept' left
+    → IsCore (record { setup = record run.setup { scenario = kept'.scenario }; entries = kept'.entries }) kept' left.state
+core_kept run kept state c e kept' left core goes_on turn m =
     let added = m.added ∙ ap (λ (k : History). with_last k run.setup.limit left.reboot left.state e) core.recorded in
     let scenario : kept'.scenario ≡ run.setup.scenario = ap (λ (k : History). k.scenario) added in
     let entries : kept'.entries ≡ run.entries ++ e ∷ [] = ap (λ (k : History). k.entries) added in
     let same : with_entry run e ≡ record { setup = record run.setup { scenario = kept'.scenario }; entries = kept'.entries } =
     ap (λ z. record { setup = record run.setup { scenario = z }; entries = run.entries ++ e ∷ [] }) (sym scenario)
     ∙ ap (λ z. record { setup = record run.setup { scenario = kept'.scenario }; entries = z }) (sym entries) in
-    subst (λ r. IsCore r kept' left.state parts') same (core_more run kept state parts c e kept' left parts' core goes_on turn m count)
+    subst (λ r. IsCore r kept' left.state) same (core_more run kept state c e kept' left core goes_on turn m)
 
 -- ---- the commands that are still to come
 
-pub tick_of_core : (run : Run) (kept : History) (state : SchedulerState) (parts : List PartFacts) → IsCore run kept state parts → state.shape.tick ≡ run.setup.scenario.shape.tick
-tick_of_core run kept state parts core =
+pub tick_of_core : (run : Run) (kept : History) (state : SchedulerState) → IsCore run kept state → state.shape.tick ≡ run.setup.scenario.shape.tick
+tick_of_core run kept state core =
     ap (λ (t : SchedulerState). t.shape.tick) core.machine ∙ (counts_law run.setup.scenario run.setup.order run.entries core.keeps.setup.valid core.keeps.legal).sizes.tick
 
 pub pending_read : (scenario scenario' : Scenario) (tick : ℕ) (h h' : List Entry) (pending : List (ℕ × CommandRow)) → scenario' ≡ scenario → tick ≡ scenario.shape.tick → h' ≡ h

@@ -9,6 +9,7 @@ pub mod Commands
 pub mod Rows
 pub mod StepParts
 pub mod StepCounts
+mod StandsStay
 pub mod Boot
 pub mod Waking
 pub mod Turns

@@ -12,7 +12,7 @@ use Rattle.aps_model.specs.SchedulerState.{SchedulerState, cpu_at, with_cpu}
 use Rattle.aps_model.specs.Shape.{horizon}
 use Rattle.aps_model.specs.Step.{Step, begun, billed, pick, settled, step, tested, unless_rebooted}
 use Rattle.aps_model.specs.TickWork.{tick_work}
-use Rattle.aps_laws.proofs.WaitFacts.{test_ne}
+use Rattle.aps_laws.proofs.WaitFacts.{test_eq, test_ne}
 use Rattle.aps_laws.specs.Between.{after_bill, after_tick, before_pick, bill_in}
 use Rattle.aps_core.specs.Room.{HasRoom}
 
@@ -57,6 +57,21 @@ step_below scenario s h c now running e t reboot did out b goes_on early did_is 
     ∙ ap (λ (r : Effect). pick r.state h c now (record e { done = r.done })) did_is
     ∙ ap (λ z. pick did.state h c z (record e { done = did.done })) (sym to)
     ∙ picks
+
+-- a reboot ends it
+pub step_over : (scenario : Scenario) (s : SchedulerState) (h : List Entry) (c now : ℕ) (running : Option Pick) (e : Entry) (t : SchedulerState) (reboot : Option ℕ)
+    → IsTested scenario s h c now running e t reboot → is_some reboot ≡ true → step scenario s h c ≡ record { entry = e; state = t; reboot = reboot }
+step_over scenario s h c now running e t None b some = absurd cc
+step_over scenario s h c now running e t (Some p) b some = step_goes_on scenario s h c now running e t (Some p) b
+
+-- and so does the horizon
+pub step_at_horizon : (scenario : Scenario) (s : SchedulerState) (h : List Entry) (c now : ℕ) (running : Option Pick) (e : Entry) (t : SchedulerState) (reboot : Option ℕ)
+    → IsTested scenario s h c now running e t reboot → reboot ≡ None → now ≡ horizon t.shape → step scenario s h c ≡ record { entry = e; state = t; reboot = None }
+unfolding below
+step_at_horizon scenario s h c now running e t reboot b goes_on there =
+    step_goes_on scenario s h c now running e t reboot b
+    ∙ ap (λ r. unless_rebooted scenario (record { state = t; reboot = reboot }) h c now e running r) goes_on
+    ∙ ap (λ v. elim v as (λ _. Step) [ true ↦ record { entry = e; state = t; reboot = None } | false ↦ below scenario t h c now e running ]) (test_eq now (horizon t.shape) there)
 
 -- the state in which the bill is made
 pub ticked_by : (scenario : Scenario) (s : SchedulerState) (h : List Entry) (c now : ℕ) (s1 s2 : SchedulerState)

@@ -16,3 +16,19 @@ pub record CanRecord (kept : History) (state : SchedulerState) : Type 0 where
   pub few_rows : length state.rows ≤ 32
   pub rows : All IsRow state.rows
   pub shape : IsShape state.shape
+
+-- the history has what the state has recorded
+pub record HasTold (kept : History) (state : SchedulerState) : Type 0 where
+  pub replies : state.replies ≡ kept.replies
+  pub changes : state.changes ≡ kept.changes
+  pub rows : state.rows ≡ kept.rows
+  pub shape : state.shape ≡ kept.shape
+
+-- the history with all of that
+abbrev pub with_told : History → SchedulerState → History
+with_told kept state = record kept {
+  replies = state.replies;
+  changes = state.changes;
+  rows = state.rows;
+  shape = state.shape;
+}

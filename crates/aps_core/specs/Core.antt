@@ -9,7 +9,7 @@ use Rattle.aps_model.specs.Valid.{IsScenario}
 use Rattle.aps_laws.specs.Moments.{moment}
 use Rattle.aps_laws.specs.Runs.{EndsNoSooner}
 use Rattle.aps_window.specs.Window.{Window}
-use Rattle.aps_core.specs.Counts.{Counts}
+use Rattle.aps_core.specs.Counts.{Counts, parts_in}
 use Rattle.aps_core.specs.LastEnds.{AreEnds}
 use Rattle.aps_core.specs.NextDues.{AreDues}
 use Rattle.aps_core.specs.Pending.{IsPending}
@@ -30,19 +30,19 @@ pub record IsUnderWay (run : Run) : Type 0 where
   pub fits : length run.entries ≤ run.setup.limit
 
 -- what the run and the parts that stand for it have to do with each other
-pub record IsCore (run : Run) (kept : History) (state : SchedulerState) (parts : List PartFacts) : Type 0 where
+pub record IsCore (run : Run) (kept : History) (state : SchedulerState) : Type 0 where
   pub keeps : IsUnderWay run
   pub recorded : kept ≡ history_of run
   pub machine : state ≡ state_of run
-  pub room : length parts ≡ 32
 
 -- what each core keeps: its parts stand for its run, the commands are still to come whose ticks no entry has begun, in the
--- queues are the ready threads, the ends and the dues that it keeps are those of its entries, and its window has counted
--- these up to the tick of the last one's end
+-- queues are the ready threads, the ends and the dues that it keeps are those of its entries, its window has counted
+-- these up to the tick of the last one's end, and its partitions stand by their rows and that window
 pub record IsCoreWith (run : Run) (kept : History) (state : SchedulerState) (parts : List PartFacts) (ready : List (Option Contender)) (commands : List (ℕ × CommandRow)) (ends : List (Option ℕ)) (dues : List ℕ) (window : Window) : Type 0 where
-  pub core : IsCore run kept state parts
+  pub core : IsCore run kept state
   pub pending : IsPending run.setup.scenario run.setup.scenario.shape.tick run.entries commands
   pub seats : ready ≡ seats_of state
   pub lasts : AreEnds run.entries ends
   pub counts : Counts state.shape run.entries (moment run.entries / state.shape.tick) window
   pub nexts : AreDues state run.entries dues
+  pub stands : parts ≡ parts_in state.shape state.rows window

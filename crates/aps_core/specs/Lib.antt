@@ -10,6 +10,7 @@ pub mod Part
 pub mod Seats
 pub mod Touched
 pub mod Counts
+pub mod Standing
 pub mod Scan
 pub mod Machine
 pub mod MachineView

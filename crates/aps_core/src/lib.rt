@@ -12,6 +12,7 @@ mod merit;
 mod recording;
 mod rooms;
 mod simulator;
+mod standing;
 mod turn;
 mod usage;
 

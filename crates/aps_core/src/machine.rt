@@ -1,13 +1,14 @@
-ghost use Rattle.std.specs.Prelude.{◌≡◌, ◌-◌, ◌<◌, ◌≤◌, ◌/◌, ◌++◌, [], ◌∷◌, length, All, None};
+ghost use Rattle.std.specs.Prelude.{◌≡◌, ◌-◌, ◌<◌, ◌≤◌, ◌/◌, ◌++◌, [], ◌∷◌, length, All, None, false};
 ghost use Rattle.std.specs.Option.{option_map};
 ghost use Rattle.aps_model.specs.After.{is_at_horizon};
+ghost use Rattle.aps_model.specs.Budget.{all_parts};
 ghost use Rattle.aps_model.specs.Due.{due, first_due};
 ghost use Rattle.aps_model.specs.History.{IsEntry};
 ghost use Rattle.aps_model.specs.Shape.{horizon};
 ghost use Rattle.aps_model.specs.Step.{pick, step};
 ghost use Rattle.aps_model.specs.Valid.{IsScenario};
 ghost use Rattle.aps_laws.specs.Moments.{moment};
-ghost use Rattle.aps_core.specs.Counts.{Counts};
+ghost use Rattle.aps_core.specs.Counts.{Counts, parts_in};
 ghost use Rattle.aps_core.specs.LastEnds.{AreEnds};
 ghost use Rattle.aps_core.specs.Kept.{IsKept};
 ghost use Rattle.aps_core.specs.NextDues.{AreDues, AreOthersDues};
@@ -38,13 +39,14 @@ pub mod wake;
 
 use crate::dues::Dues;
 use crate::ends::Ends;
+use crate::standing::Standing;
 use crate::{carried, due, usage};
 use aps_ctl::Ctl;
 use aps_model::{
-    Change, Contender, CpuId, CpuNow, Entry, Nanos, PartFacts, PartitionId, PartitionRow, Reply,
-    Scenario, Shape, ThreadId, ThreadNow,
+    Change, Contender, CpuId, CpuNow, Entry, Nanos, PartitionId, PartitionRow, Reply, Scenario,
+    Shape, ThreadId, ThreadNow,
 };
-use aps_ready::{Gates, Ready};
+use aps_ready::Ready;
 use aps_tree::Tree;
 use aps_window::Window;
 use channel::Channel;
@@ -138,25 +140,22 @@ impl Machine {
         &mut self,
         entries: &[Entry],
         dues: &Dues,
-        window: &Window,
-        parts: &mut [PartFacts],
+        standing: &Standing,
         ready: &mut Ready,
         cpu: CpuId,
         e: Entry,
     ) -> Entry
-        requires one_each { length parts.old ≡ length self.old.rows }
+        requires stands { standing.now ≡ all_parts self.old.shape self.old.rows (entries.now ++ e ∷ []) (e.to / self.old.shape.tick) }
         requires cpu { cpu < length self.old.cpus }
         requires seats { ready.old ≡ seats_of self.old }
         requires dues { AreOthersDues self.old entries.now cpu dues.now }
-        requires counts { Counts self.old.shape (entries.now ++ e ∷ []) (e.to / self.old.shape.tick) window.now }
         ensures same { pick self.old entries.now cpu e.to e ≡ record { entry = result; state = self.new; reboot = None } }
-        ensures parts { length parts.new ≡ length parts.old }
         ensures kept { IsKept self.old self.new }
         ensures seats { ready.new ≡ seats_of self.new }
     {
         let now = e.to;
-        usage::fill_parts(&self.shape, self.tree.rows(), window, parts);
-        let gates = Gates::of(parts);
+        let parts = standing.parts();
+        let gates = standing.gates();
         let starved = ready.missing_by(gates);
         let best = self.greatest(ready, gates, parts);
         let picked = thread_of(&best);
@@ -190,8 +189,7 @@ impl Machine {
         self.shape.horizon()
     }
 
-    /// One step of the processor, at its due moment, by its parts. The answer is its entry, and the partition for which
-    /// it ends the run by a reboot.
+    /// One step of the processor, at its due moment, by its parts.
     pub fn step(
         &mut self,
         scenario: &Scenario,
@@ -199,58 +197,65 @@ impl Machine {
         ends: &Ends,
         dues: &Dues,
         window: &mut Window,
-        parts: &mut [PartFacts],
+        standing: &mut Standing,
         ready: &mut Ready,
         sleepers: &mut Sleepers,
         ctl: &mut Ctl,
         cpu: CpuId,
-    ) -> (Entry, Option<PartitionId>)
+    ) -> Stepped
         requires valid { IsScenario scenario.now }
         requires ready { IsReady scenario.now self.old entries.now cpu }
         requires pending { IsPending scenario.now self.old.shape.tick entries.now ctl.old }
-        requires room { length parts.old ≡ 32 }
+        requires stands { standing.old ≡ parts_in self.old.shape self.old.rows window.old }
         requires seats { ready.old ≡ seats_of self.old }
         requires entries { All IsEntry entries.now }
         requires ends { AreEnds entries.now ends.now }
         requires dues { AreDues self.old entries.now dues.now }
         requires rising { IsRising entries.now }
         requires counts { Counts self.old.shape entries.now (moment entries.now / self.old.shape.tick) window.old }
-        ensures same { step scenario.now self.old entries.now cpu ≡ record { entry = result.0; state = self.new; reboot = result.1 } }
-        ensures pending { IsPending scenario.now self.old.shape.tick (entries.now ++ result.0 ∷ []) ctl.new }
-        ensures counts { Counts self.new.shape (entries.now ++ result.0 ∷ []) (result.0.to / self.new.shape.tick) window.new }
-        ensures parts { length parts.new ≡ length parts.old }
+        ensures same { step scenario.now self.old entries.now cpu ≡ record { entry = result.entry; state = self.new; reboot = result.reboot } }
+        ensures pending { IsPending scenario.now self.old.shape.tick (entries.now ++ result.entry ∷ []) ctl.new }
+        ensures counts { Counts self.new.shape (entries.now ++ result.entry ∷ []) (result.entry.to / self.new.shape.tick) window.new }
+        ensures stands { standing.new ≡ parts_in self.new.shape self.new.rows window.new }
+        ensures kept { result.is_changed ≡ false → IsKept self.old self.new }
         ensures seats { ready.new ≡ seats_of self.new }
     {
         let now = dues.of(cpu);
         let from = ends.last_end(entries, cpu);
-        usage::go_on(window, self.tick_of(now));
+        let is_later = usage::go_on(window, self.tick_of(now));
         let running = self.begin(cpu);
         let commanded = self.work_tick(scenario, entries, window, sleepers, ctl, now);
         let e = bill::bill_of(cpu, from, now, &running);
         usage::add_time(window, &self.shape, &e);
         self.bill(&e, &running);
         let reboot = self.test(entries, window, &e);
+        let is_changed = commanded | e.critical;
+        self.stand_by(window, standing, is_later | is_changed, &e.billed);
         if reboot.is_some() {
             self.sync_all(ready);
-            return (e, reboot);
+            return Stepped {
+                entry: e,
+                reboot,
+                is_changed,
+            };
         }
         if now == self.horizon() {
             self.sync_all(ready);
-            return (e, None);
+            return Stepped {
+                entry: e,
+                reboot: None,
+                is_changed,
+            };
         }
         let done = self.settle(scenario, now, &running);
         self.sync(ready, commanded, sleepers, &e.ran, &done);
-        let count = self.tree.count() as usize;
-        let picked = self.pick(
-            entries,
-            dues,
-            window,
-            &mut parts[..count],
-            ready,
-            cpu,
-            Entry { done, ..e },
-        );
-        (picked, None)
+        let e = Entry { done, ..e };
+        let entry = self.pick(entries, dues, standing, ready, cpu, e);
+        Stepped {
+            entry,
+            reboot: None,
+            is_changed,
+        }
     }
 
     /// The replies so far.
@@ -280,6 +285,15 @@ impl Machine {
     {
         &self.shape
     }
+}
+
+/// What a step made: its entry, the partition for which it ends the run by a reboot, and whether rows, parameters, replies
+/// or changes may be others than before.
+#[derive(Clone, Copy, Debug, PartialEq, Eq)]
+pub struct Stepped {
+    pub entry: Entry,
+    pub reboot: Option<PartitionId>,
+    pub is_changed: bool,
 }
 
 /// The thread of a contender.

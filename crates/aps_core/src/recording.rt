@@ -1,42 +1,48 @@
 //! What a step of the machine recorded goes into the history.
-ghost use Rattle.std.specs.Prelude.{◌≡◌, ◌<◌, ◌≤◌, ◌++◌, List, [], ◌∷◌, length, All, None};
+ghost use Rattle.std.specs.Prelude.{◌≡◌, ◌<◌, ◌≤◌, ◌++◌, List, [], ◌∷◌, length, All, None, false};
 ghost use Rattle.aps_model.specs.declared.command.Change.{Change as ChangeOf};
 ghost use Rattle.aps_model.specs.declared.command.Reply.{Reply as ReplyOf};
 ghost use Rattle.aps_model.specs.After.{is_at_horizon, or_limit, over_by};
 ghost use Rattle.aps_model.specs.History.{IsEntry};
 ghost use Rattle.aps_model.specs.Partition.{IsRow};
-ghost use Rattle.aps_core.specs.CanRecord.{CanRecord};
+ghost use Rattle.aps_core.specs.CanRecord.{CanRecord, HasTold, with_told};
 ghost use Rattle.aps_core.specs.LastEnds.{AreEnds};
 ghost use Rattle.aps_core.specs.Run.{with_last};
 
 use crate::ends::Ends;
-use crate::machine::Machine;
+use crate::machine::{Machine, Stepped};
 use aps_model::{Change, End, Entry, History, PartitionId, PartitionRow, Reply};
 
 /// The history has the entry of a step that left this machine, all that the machine has recorded, and the end of the
 /// run if that has come: by a reboot for the partition, at the horizon, or by the limit.
-pub fn record(
-    history: &mut History,
-    e: Entry,
-    machine: &Machine,
-    ends: &Ends,
-    reboot: Option<PartitionId>,
-    limit: u32,
-)
+pub fn record(history: &mut History, made: Stepped, machine: &Machine, ends: &Ends, limit: u32)
     requires room { length history.old.entries < history.old.room.entries }
-    requires entry { IsEntry e }
+    requires entry { IsEntry made.entry }
     requires goes_on { history.old.end ≡ None }
     requires machine { CanRecord history.old machine.now }
-    requires ends { AreEnds (history.old.entries ++ e ∷ []) ends.now }
-    ensures { history.new ≡ with_last history.old limit reboot machine.now e }
+    requires told { made.is_changed ≡ false → HasTold history.old machine.now }
+    requires ends { AreEnds (history.old.entries ++ made.entry ∷ []) ends.now }
+    ensures { history.new ≡ with_last history.old limit made.reboot machine.now made.entry }
 {
-    add_replies(history, machine.replies());
-    add_changes(history, machine.changes());
-    set_rows(history, machine.rows());
-    history.set_shape(*machine.shape());
-    history.add_entry(e);
-    if let Some(end) = end_after(machine, ends, reboot, history.entries(), limit) {
+    tell(history, machine, made.is_changed);
+    history.add_entry(made.entry);
+    if let Some(end) = end_after(machine, ends, made.reboot, history.entries(), limit) {
         history.set_end(end);
+    }
+}
+
+/// The history has the replies, the changes, the rows and the shape of the machine. Where nothing of that changed, it had
+/// them.
+fn tell(history: &mut History, machine: &Machine, is_changed: bool)
+    requires machine { CanRecord history.old machine.now }
+    requires told { is_changed ≡ false → HasTold history.old machine.now }
+    ensures { history.new ≡ with_told history.old machine.now }
+{
+    if is_changed {
+        add_replies(history, machine.replies());
+        add_changes(history, machine.changes());
+        set_rows(history, machine.rows());
+        history.set_shape(*machine.shape());
     }
 }
 

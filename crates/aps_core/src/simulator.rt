@@ -24,9 +24,10 @@ use crate::machine::Machine;
 use crate::machine::wake::Sleepers;
 use crate::recording;
 use crate::rooms::Room;
+use crate::standing::Standing;
 use crate::turn::Turn;
 use aps_ctl::Ctl;
-use aps_model::{CpuId, End, Entry, History, Nanos, NoMemory, Order, PartFacts, Scenario};
+use aps_model::{CpuId, End, Entry, History, Nanos, NoMemory, Order, Scenario};
 use aps_ready::Ready;
 use aps_window::Window;
 use std::alloc::Global;
@@ -43,7 +44,7 @@ pub struct Core {
     ends: Ends,
     dues: Dues,
     window: Window,
-    parts: Vec<PartFacts>,
+    standing: Standing,
     ready: Ready,
     sleepers: Sleepers,
     ctl: Ctl,
@@ -78,7 +79,7 @@ impl Core {
         let ends = Ends::new();
         let dues = Dues::new();
         let window = Window::new(alloc, scenario.shape().window)?;
-        let parts = start_parts(alloc, MOST_PARTITIONS)?;
+        let standing = machine.start_standing(alloc, &window)?;
         let ready = machine.start_ready(alloc)?;
         let sleepers = Sleepers::new(alloc)?;
         let ctl = Ctl::new(alloc, &scenario)?;
@@ -93,7 +94,7 @@ impl Core {
             ends,
             dues,
             window,
-            parts,
+            standing,
             ready,
             sleepers,
             ctl,
@@ -248,27 +249,25 @@ impl Core {
         ensures fed { IsFed self.old (Took result) }
         ensures room { length self.old.entries < self.old.setup.limit }
     {
-        let (e, reboot) = self.machine.step(
+        let made = self.machine.step(
             self.history.scenario(),
             self.history.entries(),
             &self.ends,
             &self.dues,
             &mut self.window,
-            self.parts.as_mut_slice(),
+            &mut self.standing,
             &mut self.ready,
             &mut self.sleepers,
             &mut self.ctl,
             cpu,
         );
+        let e = made.entry;
         self.ends.add(&e);
-        // the check wants a copy of its own of what is handed on and answered too
-        let added = e;
         recording::record(
             &mut self.history,
-            added,
+            made,
             &self.machine,
             &self.ends,
-            reboot,
             self.limit,
         );
         let due = self.machine.due(self.history.entries(), &self.ends, cpu);
@@ -287,24 +286,4 @@ fn most_changes(scenario: &Scenario) -> u32
         .filter(|row| row.critical > 0)
         .count();
     2 * scenario.commands().len() as u32 + critical as u32
-}
-
-/// How many partitions there are at most.
-const MOST_PARTITIONS: usize = 32;
-
-/// Room for how each partition stands at a pick.
-fn start_parts(alloc: Global, count: usize) -> Result<Vec<PartFacts>, NoMemory>
-    ensures { IfOk result (λ v. length v.items ≡ count) }
-{
-    let mut parts = Vec::with_capacity(alloc, count)?;
-    for _ in 0..count {
-        parts.push(PartFacts {
-            funded: false,
-            standing: false,
-            shut: false,
-            used: 0,
-            budget: 0,
-        })?;
-    }
-    Ok(parts)
 }

@@ -1,10 +1,10 @@
 //! The window of ticks, as the steps turn it, and how each partition stands by it.
-ghost use Rattle.std.specs.Prelude.{◌≡◌, ℕ, ◌-◌, ◌≤◌, ◌++◌, List, [], ◌∷◌, length, All};
+ghost use Rattle.std.specs.Prelude.{◌≡◌, ◌≢◌, ℕ, ◌-◌, ◌≤◌, ◌++◌, List, [], ◌∷◌, length, All, Some, false};
 ghost use Rattle.aps_model.specs.declared.entry.Entry.{Entry as EntryOf};
 ghost use Rattle.aps_model.specs.History.{IsEntry};
 ghost use Rattle.aps_model.specs.Partition.{IsRow};
 ghost use Rattle.aps_model.specs.Shape.{IsShape};
-ghost use Rattle.aps_window.specs.Window.{advanced, resized};
+ghost use Rattle.aps_window.specs.Window.{advanced, resized, total_of};
 ghost use Rattle.aps_core.specs.Counts.{CanBill, Counts, parts_in};
 ghost use Rattle.aps_core.specs.Part.{part_of};
 ghost use Rattle.aps_core.specs.Small.{IsSmall};
@@ -12,16 +12,18 @@ ghost use Rattle.aps_core.specs.Small.{IsSmall};
 use aps_model::{Entry, Nanos, PartFacts, PartitionId, PartitionRow, Shape, has_allowance};
 use aps_window::Window;
 
-/// The window goes on to this tick.
-pub fn go_on(window: &mut Window, tick: u64)
+/// The window goes on to this tick. The answer is whether it stood before it.
+pub fn go_on(window: &mut Window, tick: u64) -> bool
     requires forward { window.old.tick ≤ tick }
     requires few { tick ≤ 1000000 }
-    ensures { window.new ≡ advanced (tick - window.old.tick) window.old }
+    ensures same { window.new ≡ advanced (tick - window.old.tick) window.old }
+    ensures stays { result ≡ false → window.new ≡ window.old }
 {
     let ticks = tick as u32 - window.tick();
     if ticks > 0 {
         window.advance(ticks);
     }
+    ticks > 0
 }
 
 /// The window counts as many ticks as the shape says. It counted as many as it said before.
@@ -40,7 +42,8 @@ pub fn add_time(window: &mut Window, shape: &Shape, e: &Entry)
     requires shape { IsShape shape.now }
     requires entry { IsEntry e.now }
     requires room { CanBill shape.now.tick window.old e.now }
-    ensures { (h : List EntryOf) (j : ℕ) → Counts shape.now h j window.old → Counts shape.now (h ++ e.now ∷ []) j window.new }
+    ensures counts { (h : List EntryOf) (j : ℕ) → Counts shape.now h j window.old → Counts shape.now (h ++ e.now ∷ []) j window.new }
+    ensures others { (p : ℕ) → e.now.billed ≢ Some p → total_of window.new p ≡ total_of window.old p }
 {
     if let Some(p) = e.billed {
         if e.from < e.to {
@@ -67,6 +70,16 @@ fn part_of(shape: &Shape, row: &PartitionRow, spent: Nanos, critical: Nanos) -> 
     }
 }
 
+/// The partition of this number, which has this row, by what the window has of it.
+pub fn part_by(shape: &Shape, row: &PartitionRow, window: &Window, p: PartitionId) -> PartFacts
+    requires shape { IsShape shape.now }
+    requires row { IsRow row.now }
+    ensures same { result ≡ part_of shape.now row.now (total_of window.now p).billed (total_of window.now p).critical }
+    ensures small { IsSmall result }
+{
+    part_of(shape, row, window.used(p), window.critical_used(p))
+}
+
 /// Each partition by its row and what the window has of it.
 pub fn fill_parts(shape: &Shape, rows: &[PartitionRow], window: &Window, parts: &mut [PartFacts])
     requires shape { IsShape shape.now }
@@ -77,7 +90,6 @@ pub fn fill_parts(shape: &Shape, rows: &[PartitionRow], window: &Window, parts: 
     ensures small { All IsSmall parts.new }
 {
     for p in 0..rows.len() {
-        let id = PartitionId::at(p);
-        parts[p] = part_of(shape, &rows[p], window.used(id), window.critical_used(id));
+        parts[p] = part_by(shape, &rows[p], window, PartitionId::at(p));
     }
 }

@@ -1,13 +1,16 @@
-ghost use Rattle.std.specs.Prelude.{◌≡◌, ℕ, ◌<◌, ◌≤◌, length, slice_index_or, IfSome, IfNone, IsTrue, false, nat_eq, ◌&&◌, ◌||◌};
+ghost use Rattle.std.specs.Prelude.{◌≡◌, ℕ, ◌<◌, ◌≤◌, length, slice_index_or, IfOk, IfSome, IfNone, IsTrue, false, nat_eq, ◌&&◌, ◌||◌};
 ghost use Rattle.aps_model.specs.Pick.{contender_of, contenders, is_ready};
 ghost use Rattle.aps_model.specs.SchedulerState.{thread_at};
 ghost use Rattle.aps_core.specs.Counts.{parts_in};
 ghost use Rattle.aps_core.specs.Scan.{has_candidate};
+ghost use Rattle.aps_core.specs.Standing.{DoOthersStand};
 
 use super::Machine;
+use crate::standing::Standing;
 use crate::{merit, usage};
-use aps_model::{Contender, PartFacts, PartitionId, State, ThreadId};
+use aps_model::{Contender, NoMemory, PartFacts, PartitionId, State, ThreadId};
 use aps_window::Window;
+use std::alloc::Global;
 
 impl Machine {
     /// Each partition by its row and what the window has of it.
@@ -17,6 +20,36 @@ impl Machine {
         ensures few { length self.now.rows ≤ 32 }
     {
         usage::fill_parts(&self.shape, self.tree.rows(), window, parts);
+    }
+
+    /// How the partitions stand at the start, for which memory is taken.
+    pub fn start_standing(&self, alloc: Global, window: &Window) -> Result<Standing, NoMemory>
+        ensures { IfOk result (λ standing. standing ≡ parts_in self.now.shape self.now.rows window.now) }
+    {
+        let mut standing = Standing::new(alloc)?;
+        self.stand_by(window, &mut standing, true, &None);
+        Ok(standing)
+    }
+
+    /// The partitions stand by their rows and what the window has of them: all of them anew, or the one that was billed
+    /// where no other can stand otherwise than before.
+    pub fn stand_by(
+        &self,
+        window: &Window,
+        standing: &mut Standing,
+        is_any: bool,
+        billed: &Option<PartitionId>,
+    )
+        requires { is_any ≡ false → DoOthersStand billed.now self.now.shape self.now.rows window.now standing.old }
+        ensures same { standing.new ≡ parts_in self.now.shape self.now.rows window.now }
+        ensures few { length self.now.rows ≤ 32 }
+    {
+        let rows = self.tree.rows();
+        if is_any {
+            standing.fill(&self.shape, rows, window);
+        } else if let Some(p) = billed {
+            standing.fill_one(&self.shape, rows, window, *p);
+        }
     }
 
     /// Which partitions have a candidate among the threads that are ready, where they stand so.

@@ -1,4 +1,4 @@
-ghost use Rattle.std.specs.Prelude.{◌≡◌, ◌≢◌, ℕ, ◌<◌, ◌≤◌, length};
+ghost use Rattle.std.specs.Prelude.{◌≡◌, ◌≢◌, ℕ, ◌<◌, ◌≤◌, length, false};
 ghost use Rattle.std.specs.Option.{option_map};
 ghost use Rattle.aps_model.specs.TickWork.{do_command, thread_named, thread_view, view_of, with_mark};
 ghost use Rattle.aps_ctl.specs.Pending.{all_at};
@@ -112,8 +112,15 @@ impl Machine {
         }
     }
 
-    /// Does the commands of a tick that are still to come, in order of the scenario. Those of other ticks stay.
-    pub fn do_commands(&mut self, entries: &[Entry], window: &mut Window, ctl: &mut Ctl, tick: u64)
+    /// Does the commands of a tick that are still to come, in order of the scenario. Those of other ticks stay. The answer
+    /// is whether there was one.
+    pub fn do_commands(
+        &mut self,
+        entries: &[Entry],
+        window: &mut Window,
+        ctl: &mut Ctl,
+        tick: u64,
+    ) -> bool
         requires counts { Counts self.old.shape entries.now tick window.old }
         requires tick { tick ≤ 1000000 }
         requires calls { AreInRange (all_at tick ctl.old) }
@@ -122,9 +129,13 @@ impl Machine {
         ensures same { self.new ≡ all_done entries.now tick self.old ctl.old }
         ensures counts { Counts self.new.shape entries.now tick window.new }
         ensures others { (j : ℕ) → j ≢ tick → all_at j ctl.new ≡ all_at j ctl.old }
+        ensures idle { result ≡ false → (self.new ≡ self.old) × (window.new ≡ window.old) }
     {
+        let mut commanded = false;
         while let Some((place, call)) = ctl.next_at(tick as u32) {
             self.do_command(entries, window, tick, place, &call);
+            commanded = true;
         }
+        commanded
     }
 }

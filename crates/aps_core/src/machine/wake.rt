@@ -7,6 +7,7 @@ ghost use Rattle.aps_core.specs.Pending.{IsPending};
 ghost use Rattle.aps_model.specs.SchedulerState.{thread_at};
 ghost use Rattle.aps_model.specs.TickWork.{has_tick_work, insert_sleeper, is_earlier, tick_work, wake_all, waking, wakes_at};
 ghost use Rattle.aps_core.specs.Counts.{Counts};
+ghost use Rattle.aps_core.specs.Kept.{IsKept};
 ghost use Rattle.aps_core.specs.Rising.{IsRising};
 ghost use Rattle.aps_core.specs.Room.{HasRoomToWake, changes_of_a_run, last_place, stamps_before};
 ghost use Rattle.aps_core.specs.Seats.{seat_at};
@@ -196,14 +197,14 @@ impl Machine {
         requires changes { length (tick_work scenario.now self.old entries.now now).changes ≤ changes_of_a_run }
         ensures same { self.new ≡ tick_work scenario.now self.old entries.now now }
         ensures idle { result ≡ false → (x : ℕ) → woke sleepers.new x ≡ false → seat_at self.new x ≡ seat_at self.old x }
+        ensures kept { result ≡ false → IsKept self.old self.new }
+        ensures window { result ≡ false → window.new ≡ window.old }
         ensures counts { Counts self.new.shape entries.now (now / self.old.shape.tick) window.new }
         ensures pending { (e : EntryOf) → e.to ≡ now → IsPending scenario.now self.old.shape.tick (entries.now ++ e ∷ []) ctl.new }
     {
         if self.has_tick_work(entries, now) {
             let tick = self.tick_of(now);
-            let before = self.replies().len();
-            self.do_commands(entries, window, ctl, tick);
-            let commanded = before < self.replies().len();
+            let commanded = self.do_commands(entries, window, ctl, tick);
             self.wake_all(scenario, now, sleepers);
             return commanded;
         }

@@ -37,6 +37,7 @@ loop-place-preserved c =
       others = λ j apart.
           ap (all_at j) c.in-Some.ensures.left ∙ others_left c.args.tick j c.loop-place.ctl apart ∙ c.loop-place.invariant.others j apart;
       calls = subst (λ pending. AreInRange (all_at c.args.tick pending)) (sym c.in-Some.ensures.left) (next.left c.loop-place.invariant.calls);
+      idle = λ e. absurd cc;
     }
 
 pub returns-clause-same : goal.returns-clause-same

@@ -1,4 +1,4 @@
-use Rattle.std.proofs.Common.{◌≡◌, ◌≢◌, ℕ, length}
+use Rattle.std.proofs.Common.{◌≡◌, ◌≢◌, ℕ, length, false}
 use Rattle.aps_ctl.specs.Pending.{all_at}
 use Rattle.aps_core.specs.Calls.{AreInRange, all_done}
 use Rattle.aps_core.specs.Counts.{Counts}
@@ -10,6 +10,7 @@ invariant-loop-place l = record {
   others : (j : ℕ) → j ≢ l.tick → all_at j l.ctl ≡ all_at j l.initial.ctl;
   counts : Counts l.self.shape l.entries l.tick l.window;
   calls : AreInRange (all_at l.tick l.ctl);
+  idle : l.commanded ≡ false → (l.self ≡ l.initial.self) × (l.window ≡ l.initial.window);
 }
 
 abbrev pub decreases-loop-place : goal.decreases-loop-place

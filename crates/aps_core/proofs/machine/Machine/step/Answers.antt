@@ -1,22 +1,29 @@
-use Rattle.std.proofs.Common.{◌≡◌, ℕ, ◌/◌, List, Option, Some, None, ◌≤◌, [], ◌∷◌, ◌++◌, sym, ◌∙◌, refl, subst, length, ap, arith}
+use Rattle.std.proofs.Common.{◌≡◌, ℕ, ◌/◌, ◌||◌, List, Option, Some, None, ◌≤◌, [], ◌∷◌, ◌++◌, sym, ◌∙◌, refl, subst, length, ap, arith}
 use Rattle.std.specs.Option.{option_map}
 use Rattle.aps_model.specs.declared.entry.Entry.{Entry}
 use Rattle.aps_model.specs.declared.merit.Contender.{Contender}
 use Rattle.aps_model.specs.declared.state.Pick.{Pick}
 use Rattle.aps_model.specs.Bill.{bill_of}
 use Rattle.aps_model.specs.Due.{due}
+use Rattle.aps_model.specs.Messages.{Effect}
 use Rattle.aps_model.specs.SchedulerState.{SchedulerState, thread_at}
 use Rattle.aps_laws.specs.Servers.{IsNobodysClient}
-use Rattle.aps_core.specs.Counts.{Counts}
+use Rattle.aps_laws.specs.Stamps.{IsStamped}
+use Rattle.aps_window.specs.Window.{Window, total_of}
+use Rattle.aps_core.specs.Counts.{Counts, parts_in}
+use Rattle.aps_core.specs.Kept.{IsKept}
 use Rattle.aps_core.specs.MachineView.{state_of}
 use Rattle.aps_core.specs.Pending.{IsPending}
 use Rattle.aps_core.specs.Room.{HasRoomToWake}
 use Rattle.aps_core.specs.Seats.{who_at}
 use Rattle.aps_core.specs.Touched.{IsTouched, is_at_channel, peer_of}
+use Rattle.aps_core.proofs.Counting.{parts_are}
+use Rattle.aps_core.proofs.Frame.{kept_then, settled_kept}
 use Rattle.aps_core.proofs.Seats.{seats_count, who_seats}
 use Rattle.aps_core.proofs.SeatsStay.{step_seat}
+use Rattle.aps_core.proofs.StandsStay.{calm_kept, neither, others_stand}
 use Rattle.aps_core.proofs.StepCounts.{IsBilling, counts_begun, counts_left, done_bill, entry_of, own_bill, picked_bill, room_to_bill, settled_shape, spent_shape, tested_shape}
-use Rattle.aps_core.proofs.StepParts.{billed_by, none_is, room_after, settled_by, settled_is, step_below, tested_by, ticked_by}
+use Rattle.aps_core.proofs.StepParts.{billed_by, none_is, room_after, settled_by, settled_is, step_at_horizon, step_below, step_over, tested_by, ticked_by}
 use Rattle.aps_core.proofs.machine.Machine.step.Goals as goal
 
 -- ---- the work of the tick
@@ -66,14 +73,14 @@ returns-clause-same c =
     (c.of-now.ensures ∙ c.requires.dues c.args.cpu c.requires.ready.exists) c.last_end-from.ensures.same c.begin-running.ensures.running c.begin-running.ensures.same c.work_tick-commanded.ensures.same c.bill_of-e.ensures.same c.bill.ensures c.test-reboot.ensures in
     step_below c.args.scenario.now c.args.self.now c.args.entries.now c.args.cpu _ _ _ _ _ _ _ b
     (none_is c.test-reboot.result (sym c.is_some.ensures ∙ c.if-is_some.false))
-    (λ there. c.if-now-horizon.false (there ∙ sym c.horizon.ensures.same)) c.settle-done.ensures c.bill_of-e.ensures.to c.pick-picked.ensures.same
+    (λ there. c.if-now-horizon.false (there ∙ sym c.horizon.ensures.same)) c.settle-done.ensures c.bill_of-e.ensures.to c.pick-entry.ensures.same
 
 -- ---- the window
 
 pub work_tick-commanded-requires-clause-counts : goal.work_tick-commanded-requires-clause-counts
 work_tick-commanded-requires-clause-counts c =
-    counts_begun c.args.self.now c.begin-running.new.self c.args.entries.now c.args.cpu c.of-now.result c.tick_of.result c.args.window.now c.go_on.new.window c.requires.counts
-    (omega (arith, c.requires.ready.rises, (c.of-now.ensures ∙ c.requires.dues c.args.cpu c.requires.ready.exists))) c.tick_of.ensures.same c.go_on.ensures c.begin-running.ensures.same
+    counts_begun c.args.self.now c.begin-running.new.self c.args.entries.now c.args.cpu c.of-now.result c.tick_of.result c.args.window.now c.go_on-is_later.new.window c.requires.counts
+    (omega (arith, c.requires.ready.rises, (c.of-now.ensures ∙ c.requires.dues c.args.cpu c.requires.ready.exists))) c.tick_of.ensures.same c.go_on-is_later.ensures.same c.begin-running.ensures.same
 
 pub add_time-requires-clause-entry : goal.add_time-requires-clause-entry
 add_time-requires-clause-entry c =
@@ -132,7 +139,7 @@ test-reboot-requires-clause-counts c =
       at_tick = c.tick_of.ensures.same;
     } in
     let before = subst (λ (u : SchedulerState). Counts u.shape c.args.entries.now (c.of-now.result / c.begin-running.new.self.shape.tick) c.work_tick-commanded.new.window) (sym c.self.view_is) c.work_tick-commanded.ensures.counts in
-    let with_bill = c.add_time.ensures c.args.entries.now (c.of-now.result / c.begin-running.new.self.shape.tick) before in
+    let with_bill = c.add_time.ensures.counts c.args.entries.now (c.of-now.result / c.begin-running.new.self.shape.tick) before in
     let spent : c.bill.new.self.shape ≡ s2.shape = spent_shape c.work_tick-commanded.new.self e c.begin-running.result c.bill.new.self c.bill.ensures ∙ ap (λ (u : SchedulerState). u.shape) (sym c.self.view_is) in
     counts_left c.args.scenario.now c.args.self.now c.args.entries.now c.args.cpu c.of-now.result c.last_end-from.result c.tick_of.result c.begin-running.result c.begin-running.new.self s2 e c.add_time.new.window
     c.requires.ready b with_bill c.bill.new.self e (spent) (own_bill e)
@@ -159,7 +166,7 @@ returns-then-is_some-clause-counts c =
       at_tick = c.tick_of.ensures.same;
     } in
     let before = subst (λ (u : SchedulerState). Counts u.shape c.args.entries.now (c.of-now.result / c.begin-running.new.self.shape.tick) c.work_tick-commanded.new.window) (sym c.self.view_is) c.work_tick-commanded.ensures.counts in
-    let with_bill = c.add_time.ensures c.args.entries.now (c.of-now.result / c.begin-running.new.self.shape.tick) before in
+    let with_bill = c.add_time.ensures.counts c.args.entries.now (c.of-now.result / c.begin-running.new.self.shape.tick) before in
     let spent : c.bill.new.self.shape ≡ s2.shape = spent_shape c.work_tick-commanded.new.self e c.begin-running.result c.bill.new.self c.bill.ensures ∙ ap (λ (u : SchedulerState). u.shape) (sym c.self.view_is) in
     let tested = tested_shape c.bill.new.self c.args.entries.now e c.test-reboot.new.self c.test-reboot.result c.test-reboot.ensures in
     counts_left c.args.scenario.now c.args.self.now c.args.entries.now c.args.cpu c.of-now.result c.last_end-from.result c.tick_of.result c.begin-running.result c.begin-running.new.self s2 e c.add_time.new.window
@@ -187,7 +194,7 @@ returns-then-now-horizon-clause-counts c =
       at_tick = c.tick_of.ensures.same;
     } in
     let before = subst (λ (u : SchedulerState). Counts u.shape c.args.entries.now (c.of-now.result / c.begin-running.new.self.shape.tick) c.work_tick-commanded.new.window) (sym c.self.view_is) c.work_tick-commanded.ensures.counts in
-    let with_bill = c.add_time.ensures c.args.entries.now (c.of-now.result / c.begin-running.new.self.shape.tick) before in
+    let with_bill = c.add_time.ensures.counts c.args.entries.now (c.of-now.result / c.begin-running.new.self.shape.tick) before in
     let spent : c.bill.new.self.shape ≡ s2.shape = spent_shape c.work_tick-commanded.new.self e c.begin-running.result c.bill.new.self c.bill.ensures ∙ ap (λ (u : SchedulerState). u.shape) (sym c.self.view_is) in
     let tested = tested_shape c.bill.new.self c.args.entries.now e c.test-reboot.new.self c.test-reboot.result c.test-reboot.ensures in
     counts_left c.args.scenario.now c.args.self.now c.args.entries.now c.args.cpu c.of-now.result c.last_end-from.result c.tick_of.result c.begin-running.result c.begin-running.new.self s2 e c.add_time.new.window
@@ -200,8 +207,8 @@ settle-done-requires-clause-room c =
     (c.of-now.ensures ∙ c.requires.dues c.args.cpu c.requires.ready.exists) c.last_end-from.ensures.same c.begin-running.ensures.running c.begin-running.ensures.same c.work_tick-commanded.ensures.same c.bill_of-e.ensures.same c.bill.ensures c.test-reboot.ensures)
     c.requires.ready.room
 
-pub pick-picked-requires-clause-counts : goal.pick-picked-requires-clause-counts
-pick-picked-requires-clause-counts c =
+pub pick-entry-requires-clause-stands : goal.pick-entry-requires-clause-stands
+pick-entry-requires-clause-stands c =
     let s2 = state_of c.self.inside in
     let e = c.bill_of-e.result in
     let b : IsBilling c.args.scenario.now c.args.self.now c.args.entries.now c.args.cpu c.of-now.result c.last_end-from.result c.tick_of.result c.begin-running.result c.begin-running.new.self s2 e =
@@ -217,17 +224,26 @@ pick-picked-requires-clause-counts c =
       at_tick = c.tick_of.ensures.same;
     } in
     let before = subst (λ (u : SchedulerState). Counts u.shape c.args.entries.now (c.of-now.result / c.begin-running.new.self.shape.tick) c.work_tick-commanded.new.window) (sym c.self.view_is) c.work_tick-commanded.ensures.counts in
-    let with_bill = c.add_time.ensures c.args.entries.now (c.of-now.result / c.begin-running.new.self.shape.tick) before in
+    let with_bill = c.add_time.ensures.counts c.args.entries.now (c.of-now.result / c.begin-running.new.self.shape.tick) before in
     let spent : c.bill.new.self.shape ≡ s2.shape = spent_shape c.work_tick-commanded.new.self e c.begin-running.result c.bill.new.self c.bill.ensures ∙ ap (λ (u : SchedulerState). u.shape) (sym c.self.view_is) in
     let tested = tested_shape c.bill.new.self c.args.entries.now e c.test-reboot.new.self c.test-reboot.result c.test-reboot.ensures in
     let settled = settled_shape c.args.scenario.now c.test-reboot.new.self c.of-now.result c.begin-running.result _ c.settle-done.ensures in
+    let e' = record e { done = c.settle-done.result } in
+    let s4 = c.settle-done.new.self in
+    let left = settled_kept c.args.scenario.now c.test-reboot.new.self c.of-now.result c.begin-running.result in
+    let counts : Counts s4.shape (c.args.entries.now ++ e' ∷ []) (e'.to / s4.shape.tick) c.add_time.new.window =
     counts_left c.args.scenario.now c.args.self.now c.args.entries.now c.args.cpu c.of-now.result c.last_end-from.result c.tick_of.result c.begin-running.result c.begin-running.new.self s2 e c.add_time.new.window
-    c.requires.ready b with_bill c.settle-done.new.self (record e { done = c.settle-done.result }) (settled ∙ tested ∙ spent) (done_bill e c.settle-done.result)
+    c.requires.ready b with_bill c.settle-done.new.self (record e { done = c.settle-done.result }) (settled ∙ tested ∙ spent) (done_bill e c.settle-done.result) in
+    let rows : s4.rows ≡ c.test-reboot.new.self.rows = sym (ap (λ (x : Effect). x.state.rows) c.settle-done.ensures) ∙ left.rows in
+    c.stand_by.ensures.same
+    ∙ (λ i. parts_in (sym settled i) (sym rows i) c.add_time.new.window)
+    ∙ parts_are s4.shape s4.rows (c.args.entries.now ++ e' ∷ []) (e'.to / s4.shape.tick) c.add_time.new.window counts
+    (let few = c.stand_by.ensures.few in omega (arith, few, ap length rows))
 
 pub returns-clause-pending : goal.returns-clause-pending
 returns-clause-pending c =
-    subst (λ n. IsPending c.args.scenario.now n (c.args.entries.now ++ c.pick-picked.result ∷ []) c.work_tick-commanded.new.ctl) (ap (λ (u : SchedulerState). u.shape.tick) c.begin-running.ensures.same)
-    (c.work_tick-commanded.ensures.pending c.pick-picked.result ((picked_bill c.settle-done.new.self c.args.entries.now c.args.cpu c.bill_of-e.result.to c.bill_of-e.result c.settle-done.result _ c.pick-picked.ensures.same).to ∙ c.bill_of-e.ensures.to))
+    subst (λ n. IsPending c.args.scenario.now n (c.args.entries.now ++ c.pick-entry.result ∷ []) c.work_tick-commanded.new.ctl) (ap (λ (u : SchedulerState). u.shape.tick) c.begin-running.ensures.same)
+    (c.work_tick-commanded.ensures.pending c.pick-entry.result ((picked_bill c.settle-done.new.self c.args.entries.now c.args.cpu c.bill_of-e.result.to c.bill_of-e.result c.settle-done.result _ c.pick-entry.ensures.same).to ∙ c.bill_of-e.ensures.to))
 
 pub returns-clause-counts : goal.returns-clause-counts
 returns-clause-counts c =
@@ -246,15 +262,15 @@ returns-clause-counts c =
       at_tick = c.tick_of.ensures.same;
     } in
     let before = subst (λ (u : SchedulerState). Counts u.shape c.args.entries.now (c.of-now.result / c.begin-running.new.self.shape.tick) c.work_tick-commanded.new.window) (sym c.self.view_is) c.work_tick-commanded.ensures.counts in
-    let with_bill = c.add_time.ensures c.args.entries.now (c.of-now.result / c.begin-running.new.self.shape.tick) before in
+    let with_bill = c.add_time.ensures.counts c.args.entries.now (c.of-now.result / c.begin-running.new.self.shape.tick) before in
     let spent : c.bill.new.self.shape ≡ s2.shape = spent_shape c.work_tick-commanded.new.self e c.begin-running.result c.bill.new.self c.bill.ensures ∙ ap (λ (u : SchedulerState). u.shape) (sym c.self.view_is) in
     let tested = tested_shape c.bill.new.self c.args.entries.now e c.test-reboot.new.self c.test-reboot.result c.test-reboot.ensures in
     let settled = settled_shape c.args.scenario.now c.test-reboot.new.self c.of-now.result c.begin-running.result _ c.settle-done.ensures in
     counts_left c.args.scenario.now c.args.self.now c.args.entries.now c.args.cpu c.of-now.result c.last_end-from.result c.tick_of.result c.begin-running.result c.begin-running.new.self s2 e c.add_time.new.window
-    c.requires.ready b with_bill c.pick-picked.new.self c.pick-picked.result (c.pick-picked.ensures.kept.shape ∙ settled ∙ tested ∙ spent) (picked_bill c.settle-done.new.self c.args.entries.now c.args.cpu c.bill_of-e.result.to c.bill_of-e.result c.settle-done.result _ c.pick-picked.ensures.same)
+    c.requires.ready b with_bill c.pick-entry.new.self c.pick-entry.result (c.pick-entry.ensures.kept.shape ∙ settled ∙ tested ∙ spent) (picked_bill c.settle-done.new.self c.args.entries.now c.args.cpu c.bill_of-e.result.to c.bill_of-e.result c.settle-done.result _ c.pick-entry.ensures.same)
 
-pub pick-picked-requires-clause-dues : goal.pick-picked-requires-clause-dues
-pick-picked-requires-clause-dues c =
+pub pick-entry-requires-clause-dues : goal.pick-entry-requires-clause-dues
+pick-entry-requires-clause-dues c =
     let s = c.args.self.now in
     let h = c.args.entries.now in
     let before =
@@ -313,3 +329,95 @@ sync-requires-clause-tied c idle calm y apart =
     (λ p runs. subst (λ (s : SchedulerState). IsNobodysClient s.triples p.thread) (sym billed) (c.requires.ready.free_billed p (sym c.begin-running.ensures.running ∙ runs)))
     calm
     (subst (λ o. IsTouched c.work_tick-commanded.new.sleepers o (peer_of c.settle-done.result) (is_at_channel c.settle-done.result) c.settle-done.new.self.triples y → ⊥) own apart))
+
+-- ---- how the partitions stand, and what a calm step leaves
+
+pub stand_by-requires : goal.stand_by-requires
+stand_by-requires c still =
+    let calm = neither c.go_on-is_later.result (c.work_tick-commanded.result || c.bill_of-e.result.critical) still in
+    let both = neither c.work_tick-commanded.result c.bill_of-e.result.critical calm.1 in
+    let kept = calm_kept c.args.self.now c.args.entries.now c.args.cpu c.begin-running.result c.begin-running.new.self c.work_tick-commanded.new.self c.bill.new.self c.test-reboot.new.self c.bill_of-e.result c.test-reboot.result
+    c.begin-running.ensures.same (c.work_tick-commanded.ensures.kept both.0) c.bill.ensures c.test-reboot.ensures both.1 in
+    others_stand c.bill_of-e.result.billed c.args.self.now.shape c.test-reboot.new.self.shape c.args.self.now.rows c.test-reboot.new.self.rows c.args.window.now c.add_time.new.window c.args.standing.now
+    c.requires.stands kept.shape kept.rows
+    (λ p apart. c.add_time.ensures.others p apart ∙ ap (λ (w : Window). total_of w p) (c.work_tick-commanded.ensures.window both.0 ∙ c.go_on-is_later.ensures.stays calm.0))
+
+pub returns-then-is_some-clause-kept : goal.returns-then-is_some-clause-kept
+returns-then-is_some-clause-kept c calm =
+    let both = neither c.work_tick-commanded.result c.bill_of-e.result.critical calm in
+    calm_kept c.args.self.now c.args.entries.now c.args.cpu c.begin-running.result c.begin-running.new.self c.work_tick-commanded.new.self c.bill.new.self c.test-reboot.new.self c.bill_of-e.result c.test-reboot.result
+    c.begin-running.ensures.same (c.work_tick-commanded.ensures.kept both.0) c.bill.ensures c.test-reboot.ensures both.1
+
+pub returns-then-now-horizon-clause-kept : goal.returns-then-now-horizon-clause-kept
+returns-then-now-horizon-clause-kept c calm =
+    let both = neither c.work_tick-commanded.result c.bill_of-e.result.critical calm in
+    calm_kept c.args.self.now c.args.entries.now c.args.cpu c.begin-running.result c.begin-running.new.self c.work_tick-commanded.new.self c.bill.new.self c.test-reboot.new.self c.bill_of-e.result c.test-reboot.result
+    c.begin-running.ensures.same (c.work_tick-commanded.ensures.kept both.0) c.bill.ensures c.test-reboot.ensures both.1
+
+pub returns-clause-kept : goal.returns-clause-kept
+returns-clause-kept c calm =
+    let both = neither c.work_tick-commanded.result c.bill_of-e.result.critical calm in
+    let settled : IsKept c.test-reboot.new.self c.settle-done.new.self =
+    subst (λ (x : Effect). IsKept c.test-reboot.new.self x.state) c.settle-done.ensures (settled_kept c.args.scenario.now c.test-reboot.new.self c.of-now.result c.begin-running.result) in
+    kept_then
+    (calm_kept c.args.self.now c.args.entries.now c.args.cpu c.begin-running.result c.begin-running.new.self c.work_tick-commanded.new.self c.bill.new.self c.test-reboot.new.self c.bill_of-e.result c.test-reboot.result
+    c.begin-running.ensures.same (c.work_tick-commanded.ensures.kept both.0) c.bill.ensures c.test-reboot.ensures both.1)
+    (kept_then settled c.pick-entry.ensures.kept)
+
+pub returns-clause-stands : goal.returns-clause-stands
+returns-clause-stands c =
+    let settled : IsKept c.test-reboot.new.self c.settle-done.new.self =
+    subst (λ (x : Effect). IsKept c.test-reboot.new.self x.state) c.settle-done.ensures (settled_kept c.args.scenario.now c.test-reboot.new.self c.of-now.result c.begin-running.result) in
+    let after = kept_then settled c.pick-entry.ensures.kept in
+    c.stand_by.ensures.same ∙ (λ i. parts_in (sym after.shape i) (sym after.rows i) c.add_time.new.window)
+
+pub returns-then-is_some-clause-same : goal.returns-then-is_some-clause-same
+returns-then-is_some-clause-same c =
+    let b =
+    tested_by c.args.scenario.now c.args.self.now c.args.entries.now c.args.cpu _ _ _ _ _ _ _ _ _
+    (c.of-now.ensures ∙ c.requires.dues c.args.cpu c.requires.ready.exists) c.last_end-from.ensures.same c.begin-running.ensures.running c.begin-running.ensures.same c.work_tick-commanded.ensures.same c.bill_of-e.ensures.same c.bill.ensures c.test-reboot.ensures in
+    step_over c.args.scenario.now c.args.self.now c.args.entries.now c.args.cpu _ _ _ _ c.test-reboot.result b (sym c.is_some.ensures ∙ c.if-is_some.true)
+
+pub returns-then-now-horizon-clause-same : goal.returns-then-now-horizon-clause-same
+returns-then-now-horizon-clause-same c =
+    let b =
+    tested_by c.args.scenario.now c.args.self.now c.args.entries.now c.args.cpu _ _ _ _ _ _ _ _ _
+    (c.of-now.ensures ∙ c.requires.dues c.args.cpu c.requires.ready.exists) c.last_end-from.ensures.same c.begin-running.ensures.running c.begin-running.ensures.same c.work_tick-commanded.ensures.same c.bill_of-e.ensures.same c.bill.ensures c.test-reboot.ensures in
+    step_at_horizon c.args.scenario.now c.args.self.now c.args.entries.now c.args.cpu _ _ _ _ c.test-reboot.result b
+    (none_is c.test-reboot.result (sym c.is_some.ensures ∙ c.if-is_some.false)) (c.if-now-horizon.true ∙ c.horizon.ensures.same)
+
+pub settle-done-requires-clause-now : goal.settle-done-requires-clause-now
+settle-done-requires-clause-now c = rw (c.of-now.ensures ∙ c.requires.dues c.args.cpu c.requires.ready.exists) c.requires.ready.early
+
+pub pick-entry-requires-clause-cpu : goal.pick-entry-requires-clause-cpu
+pick-entry-requires-clause-cpu c =
+    let b =
+    tested_by c.args.scenario.now c.args.self.now c.args.entries.now c.args.cpu _ _ _ _ _ _ _ _ _
+    (c.of-now.ensures ∙ c.requires.dues c.args.cpu c.requires.ready.exists) c.last_end-from.ensures.same c.begin-running.ensures.running c.begin-running.ensures.same c.work_tick-commanded.ensures.same c.bill_of-e.ensures.same c.bill.ensures c.test-reboot.ensures in
+    let before = settled_by c.args.scenario.now c.args.self.now c.args.entries.now c.args.cpu _ _ _ _ _ _ b c.settle-done.ensures in
+    let there = c.requires.ready.exists_settled in
+    omega (arith, there, ap (λ (s : SchedulerState). length s.cpus) before)
+
+pub sync_all-requires-clause-stamped : goal.sync_all-requires-clause-stamped
+sync_all-requires-clause-stamped c =
+    let b =
+    tested_by c.args.scenario.now c.args.self.now c.args.entries.now c.args.cpu _ _ _ _ _ _ _ _ _
+    (c.of-now.ensures ∙ c.requires.dues c.args.cpu c.requires.ready.exists) c.last_end-from.ensures.same c.begin-running.ensures.running c.begin-running.ensures.same c.work_tick-commanded.ensures.same c.bill_of-e.ensures.same c.bill.ensures c.test-reboot.ensures in
+    subst (λ (s : SchedulerState). IsStamped s.threads s.stamps)
+    (sym (billed_by c.args.scenario.now c.args.self.now c.args.entries.now c.args.cpu _ _ _ _ _ b)) c.requires.ready.stamped_billed
+
+pub sync_all-requires-then-now-horizon-clause-stamped : goal.sync_all-requires-then-now-horizon-clause-stamped
+sync_all-requires-then-now-horizon-clause-stamped c =
+    let b =
+    tested_by c.args.scenario.now c.args.self.now c.args.entries.now c.args.cpu _ _ _ _ _ _ _ _ _
+    (c.of-now.ensures ∙ c.requires.dues c.args.cpu c.requires.ready.exists) c.last_end-from.ensures.same c.begin-running.ensures.running c.begin-running.ensures.same c.work_tick-commanded.ensures.same c.bill_of-e.ensures.same c.bill.ensures c.test-reboot.ensures in
+    subst (λ (s : SchedulerState). IsStamped s.threads s.stamps)
+    (sym (billed_by c.args.scenario.now c.args.self.now c.args.entries.now c.args.cpu _ _ _ _ _ b)) c.requires.ready.stamped_billed
+
+pub sync-requires-clause-stamped : goal.sync-requires-clause-stamped
+sync-requires-clause-stamped c =
+    let b =
+    tested_by c.args.scenario.now c.args.self.now c.args.entries.now c.args.cpu _ _ _ _ _ _ _ _ _
+    (c.of-now.ensures ∙ c.requires.dues c.args.cpu c.requires.ready.exists) c.last_end-from.ensures.same c.begin-running.ensures.running c.begin-running.ensures.same c.work_tick-commanded.ensures.same c.bill_of-e.ensures.same c.bill.ensures c.test-reboot.ensures in
+    subst (λ (s : SchedulerState). IsStamped s.threads s.stamps)
+    (sym (settled_by c.args.scenario.now c.args.self.now c.args.entries.now c.args.cpu _ _ _ _ _ _ b c.settle-done.ensures)) c.requires.ready.stamped_settled

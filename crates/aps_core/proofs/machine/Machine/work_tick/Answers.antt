@@ -1,23 +1,24 @@
-use Rattle.std.proofs.Common.{◌≡◌, ℕ, ◌≤◌, length, ◌∙◌, sym, ap, subst, false, nat_lt, arith}
-use Rattle.std.proofs.lemmas.Bool.Decides.{nat_tests}
+use Rattle.std.proofs.Common.{ℕ, length, ◌∙◌, sym, ap, subst, arith}
 use Rattle.aps_model.specs.SchedulerState.{SchedulerState}
 use Rattle.aps_ctl.specs.Pending.{all_at}
+use Rattle.aps_model.specs.TickWork.{wake_all}
+use Rattle.aps_core.specs.Kept.{IsKept}
 use Rattle.aps_core.specs.Room.{HasRoomToWake}
 use Rattle.aps_core.specs.Seats.{seat_at}
-use Rattle.aps_core.proofs.Commands.{commands_room, quiet_commands}
+use Rattle.aps_core.proofs.Commands.{commands_room}
 use Rattle.aps_core.proofs.Counting.{counts_like}
 use Rattle.aps_core.proofs.Frame.{ticked_lists, wake_kept}
 use Rattle.aps_core.proofs.Pending.{pending_begun, tick_started}
 use Rattle.aps_core.proofs.SeatsStay.{wakes_seats}
 use Rattle.aps_core.proofs.machine.Machine.work_tick.Goals as goal
 
-pub do_commands-requires-clause-calls : goal.do_commands-requires-clause-calls
-do_commands-requires-clause-calls c =
+pub do_commands-commanded-requires-clause-calls : goal.do_commands-commanded-requires-clause-calls
+do_commands-commanded-requires-clause-calls c =
     let works = sym c.has_tick_work.ensures ∙ c.if-has_tick_work.true in
     (tick_started c.args.scenario.now c.args.self.now c.args.entries.now c.args.now c.tick_of-tick.result c.args.ctl.now c.requires.valid works c.tick_of-tick.ensures.same c.requires.pending).calls
 
-pub do_commands-requires-clause-replies : goal.do_commands-requires-clause-replies
-do_commands-requires-clause-replies c =
+pub do_commands-commanded-requires-clause-replies : goal.do_commands-commanded-requires-clause-replies
+do_commands-commanded-requires-clause-replies c =
     let works = sym c.has_tick_work.ensures ∙ c.if-has_tick_work.true in
     let started = tick_started c.args.scenario.now c.args.self.now c.args.entries.now c.args.now c.tick_of-tick.result c.args.ctl.now c.requires.valid works c.tick_of-tick.ensures.same c.requires.pending in
     let lists = ticked_lists c.args.scenario.now c.args.self.now c.args.entries.now c.args.now c.tick_of-tick.result works c.tick_of-tick.ensures.same in
@@ -26,8 +27,8 @@ do_commands-requires-clause-replies c =
     let done = ap (λ (s : SchedulerState). length s.replies) started.done in
     omega (arith, same, few, done)
 
-pub do_commands-requires-clause-changes : goal.do_commands-requires-clause-changes
-do_commands-requires-clause-changes c =
+pub do_commands-commanded-requires-clause-changes : goal.do_commands-commanded-requires-clause-changes
+do_commands-commanded-requires-clause-changes c =
     let works = sym c.has_tick_work.ensures ∙ c.if-has_tick_work.true in
     let started = tick_started c.args.scenario.now c.args.self.now c.args.entries.now c.args.now c.tick_of-tick.result c.args.ctl.now c.requires.valid works c.tick_of-tick.ensures.same c.requires.pending in
     let lists = ticked_lists c.args.scenario.now c.args.self.now c.args.entries.now c.args.now c.tick_of-tick.result works c.tick_of-tick.ensures.same in
@@ -40,33 +41,32 @@ pub wake_all-requires-clause-room : goal.wake_all-requires-clause-room
 wake_all-requires-clause-room c =
     let place : ℕ = 256 in
     let stamp : ℕ = 6000000000 in
-    subst (HasRoomToWake place stamp) (sym c.do_commands.ensures.same)
+    subst (HasRoomToWake place stamp) (sym c.do_commands-commanded.ensures.same)
     (commands_room place stamp c.args.entries.now c.tick_of-tick.result (all_at c.tick_of-tick.result c.args.ctl.now) c.args.self.now c.requires.room)
-
--- no command was done, where no reply came
-no_more : (a b : ℕ) → nat_lt a b ≡ false → b ≤ a
-no_more a b not = grind (arith, nat_tests)
 
 pub returns-then-has_tick_work-clause-idle : goal.returns-then-has_tick_work-clause-idle
 returns-then-has_tick_work-clause-idle c quiet x asleep =
-    let h = c.args.entries.now in
-    let tick = c.tick_of-tick.result in
-    let commands = all_at tick c.args.ctl.now in
-    let few = no_more (length c.replies-before.result.now) (length c.replies.result.now) quiet in
-    let before = ap length c.replies-before.ensures in
-    let after = ap length c.replies.ensures ∙ ap (λ (s : SchedulerState). length s.replies) c.do_commands.ensures.same in
-    let same = c.do_commands.ensures.same ∙ quiet_commands h tick commands c.args.self.now (omega (arith, few, before, after)) in
-    wakes_seats c.args.scenario.now c.args.now x c.wake_all.new.sleepers c.do_commands.new.self c.wake_all.new.self c.wake_all.ensures.same c.wake_all.ensures.woken asleep
+    let same = (c.do_commands-commanded.ensures.idle quiet).0 in
+    wakes_seats c.args.scenario.now c.args.now x c.wake_all.new.sleepers c.do_commands-commanded.new.self c.wake_all.new.self c.wake_all.ensures.same c.wake_all.ensures.woken asleep
     ∙ ap (λ (s : SchedulerState). seat_at s x) same
 
 pub returns-then-has_tick_work-clause-pending : goal.returns-then-has_tick_work-clause-pending
 returns-then-has_tick_work-clause-pending c e to =
     let works = sym c.has_tick_work.ensures ∙ c.if-has_tick_work.true in
     let started = tick_started c.args.scenario.now c.args.self.now c.args.entries.now c.args.now c.tick_of-tick.result c.args.ctl.now c.requires.valid works c.tick_of-tick.ensures.same c.requires.pending in
-    pending_begun c.args.scenario.now c.args.self.now.shape.tick c.args.entries.now e c.args.now c.tick_of-tick.result c.args.ctl.now c.do_commands.new.ctl started.at to c.do_commands.ensures.others c.requires.pending
+    pending_begun c.args.scenario.now c.args.self.now.shape.tick c.args.entries.now e c.args.now c.tick_of-tick.result c.args.ctl.now c.do_commands-commanded.new.ctl started.at to c.do_commands-commanded.ensures.others c.requires.pending
 
 pub returns-then-has_tick_work-clause-counts : goal.returns-then-has_tick_work-clause-counts
 returns-then-has_tick_work-clause-counts c =
-    counts_like c.do_commands.new.self.shape _ c.args.entries.now c.tick_of-tick.result _ c.do_commands.new.window c.do_commands.ensures.counts
-    (ap (λ (s : SchedulerState). s.shape) c.wake_all.ensures.same ∙ (wake_kept c.args.scenario.now c.args.now c.do_commands.new.self).shape)
+    counts_like c.do_commands-commanded.new.self.shape _ c.args.entries.now c.tick_of-tick.result _ c.do_commands-commanded.new.window c.do_commands-commanded.ensures.counts
+    (ap (λ (s : SchedulerState). s.shape) c.wake_all.ensures.same ∙ (wake_kept c.args.scenario.now c.args.now c.do_commands-commanded.new.self).shape)
     (sym c.tick_of-tick.ensures.same)
+
+pub returns-then-has_tick_work-clause-kept : goal.returns-then-has_tick_work-clause-kept
+returns-then-has_tick_work-clause-kept c quiet =
+    subst (IsKept c.args.self.now) (sym c.wake_all.ensures.same)
+    (subst (λ s. IsKept s (wake_all c.args.scenario.now c.args.now c.do_commands-commanded.new.self)) (c.do_commands-commanded.ensures.idle quiet).0
+    (wake_kept c.args.scenario.now c.args.now c.do_commands-commanded.new.self))
+
+pub returns-then-has_tick_work-clause-window : goal.returns-then-has_tick_work-clause-window
+returns-then-has_tick_work-clause-window c quiet = (c.do_commands-commanded.ensures.idle quiet).1

@@ -22,14 +22,14 @@ invariant_of-result c =
     rw c.in_ok-history.ensures
     (record {
       core =
-          begun_core setup _ c.in_ok-machine.machine c.in_ok-parts.parts.items
+          begun_core setup _ c.in_ok-machine.machine
           (record { valid = c.commands.ensures.valid; some = c.requires.some; few = c.requires.few })
           (rw (c.commands.ensures.same, c.most_changes-changes.ensures) refl)
-          c.in_ok-machine.ensures
-          c.in_ok-parts.ensures;
+          c.in_ok-machine.ensures;
       pending = λ j none. ap (all_at j) c.in_ok-ctl.ensures;
       seats = c.in_ok-ready.ensures;
       lasts = c.new-ends.ensures;
+      stands = c.in_ok-standing.ensures;
       nexts = dues_none c.in_ok-machine.machine _ c.new-dues.ensures;
       counts = counts_begin c.args.scenario c.in_ok-machine.machine _ c.in_ok-window.window c.commands.ensures.valid.shape c.in_ok-machine.ensures (ap (λ (s : Shape). s.window) c.shape.ensures.same) c.in_ok-window.ensures.same;
     })

@@ -1,5 +1,4 @@
-use Rattle.std.proofs.Common.{◌≡◌, ◌/◌, ◌∙◌, refl, [], ◌∷◌, ◌++◌, ap, None, arith, subst, sym}
-use Rattle.std.proofs.lemmas.Grind.{common_steps}
+use Rattle.std.proofs.Common.{◌≡◌, ◌/◌, ◌∙◌, refl, [], ◌∷◌, ◌++◌, ap, None, subst, sym}
 use Rattle.aps_model.specs.Due.{due}
 use Rattle.aps_model.specs.History.{History}
 use Rattle.aps_model.specs.Scenario.{Scenario}
@@ -16,80 +15,80 @@ use Rattle.aps_core.specs.declared.turn.Turn.TheVariants.{Took}
 use Rattle.aps_core.specs.Turn.{HasTurnIn, IsFed}
 use Rattle.aps_core.proofs.Counting.{counts_like}
 use Rattle.aps_core.proofs.DuesKept.{dues_more, own_within}
-use Rattle.aps_core.proofs.Kept.{can_record_in, core_kept, entry_fits, fed_in, own_entry, pending_read, ready_in, step_read, tick_of_core}
+use Rattle.aps_core.proofs.Kept.{can_record_in, core_kept, entry_fits, fed_in, own_entry, pending_read, ready_in, step_read, tick_of_core, told_in}
 use Rattle.aps_core.proofs.Rising.{rising_law}
 use Rattle.aps_core.proofs.simulator.Core.take_turn.Goals as goal
 
-pub step-requires-clause-ready : goal.step-requires-clause-ready
-step-requires-clause-ready c =
+pub step-made-requires-clause-ready : goal.step-made-requires-clause-ready
+step-made-requires-clause-ready c =
     let goes_on = subst (λ run. end_of_run run ≡ None) (sym c.self.view_is) c.requires.goes_on in
     let turn = subst (λ run. HasTurnIn run c.args.cpu) (sym c.self.view_is) c.requires.turn in
     rw (c.scenario.ensures, c.entries.ensures.same)
-    (ready_in (run_of c.self.inside) c.self.inside.history c.self.inside.machine c.self.inside.parts.items c.args.cpu c.self.invariant.core goes_on turn)
+    (ready_in (run_of c.self.inside) c.self.inside.history c.self.inside.machine c.args.cpu c.self.invariant.core goes_on turn)
 
-pub step-requires-clause-rising : goal.step-requires-clause-rising
-step-requires-clause-rising c =
+pub step-made-requires-clause-rising : goal.step-made-requires-clause-rising
+step-made-requires-clause-rising c =
     let run = c.self.invariant.core.keeps in
     subst IsRising (sym c.entries.ensures.same) (rising_law c.self.inside.history.scenario c.self.inside.order run.setup.valid c.self.inside.history.entries run.legal)
 
 pub record-requires-clause-entry : goal.record-requires-clause-entry
 record-requires-clause-entry c =
-    entry_fits (run_of c.self.inside) c.self.inside.history c.self.inside.machine c.self.inside.parts.items c.args.cpu c.step.result.0 (record { state = c.step.new.self; reboot = c.step.result.1 }) c.self.invariant.core
+    entry_fits (run_of c.self.inside) c.self.inside.history c.self.inside.machine c.args.cpu c.step-made.result.entry (record { state = c.step-made.new.self; reboot = c.step-made.result.reboot }) c.self.invariant.core
     (subst (λ run. end_of_run run ≡ None) (sym c.self.view_is) c.requires.goes_on)
     (subst (λ run. HasTurnIn run c.args.cpu) (sym c.self.view_is) c.requires.turn)
-    (step_read _ _ c.self.inside.machine _ _ c.args.cpu _ c.scenario.ensures c.entries.ensures.same c.step.ensures.same)
+    (step_read _ _ c.self.inside.machine _ _ c.args.cpu _ c.scenario.ensures c.entries.ensures.same c.step-made.ensures.same)
 
 pub record-requires-clause-machine : goal.record-requires-clause-machine
 record-requires-clause-machine c =
-    can_record_in (run_of c.self.inside) c.self.inside.history c.self.inside.machine c.self.inside.parts.items c.args.cpu c.step.result.0 (record { state = c.step.new.self; reboot = c.step.result.1 }) c.self.invariant.core
+    can_record_in (run_of c.self.inside) c.self.inside.history c.self.inside.machine c.args.cpu c.step-made.result.entry (record { state = c.step-made.new.self; reboot = c.step-made.result.reboot }) c.self.invariant.core
     (subst (λ run. end_of_run run ≡ None) (sym c.self.view_is) c.requires.goes_on)
     (subst (λ run. HasTurnIn run c.args.cpu) (sym c.self.view_is) c.requires.turn)
-    (step_read _ _ c.self.inside.machine _ _ c.args.cpu _ c.scenario.ensures c.entries.ensures.same c.step.ensures.same)
+    (step_read _ _ c.self.inside.machine _ _ c.args.cpu _ c.scenario.ensures c.entries.ensures.same c.step-made.ensures.same)
 
 pub returns-clause-own : goal.returns-clause-own
 returns-clause-own c =
-    own_entry (run_of c.self.inside) c.self.inside.history c.self.inside.machine c.self.inside.parts.items c.args.cpu c.step.result.0 (record { state = c.step.new.self; reboot = c.step.result.1 }) c.self.invariant.core
+    own_entry (run_of c.self.inside) c.self.inside.history c.self.inside.machine c.args.cpu c.step-made.result.entry (record { state = c.step-made.new.self; reboot = c.step-made.result.reboot }) c.self.invariant.core
     (subst (λ run. end_of_run run ≡ None) (sym c.self.view_is) c.requires.goes_on)
     (subst (λ run. HasTurnIn run c.args.cpu) (sym c.self.view_is) c.requires.turn)
-    (step_read _ _ c.self.inside.machine _ _ c.args.cpu _ c.scenario.ensures c.entries.ensures.same c.step.ensures.same)
+    (step_read _ _ c.self.inside.machine _ _ c.args.cpu _ c.scenario.ensures c.entries.ensures.same c.step-made.ensures.same)
 
 pub returns-clause-fed : goal.returns-clause-fed
 returns-clause-fed c =
-    subst (λ run. IsFed run (Took c.step.result.0)) c.self.view_is
-    (fed_in (run_of c.self.inside) c.self.inside.history c.self.inside.machine c.self.inside.parts.items c.args.cpu c.step.result.0 (record { state = c.step.new.self; reboot = c.step.result.1 }) c.self.invariant.core
+    subst (λ run. IsFed run (Took c.step-made.result.entry)) c.self.view_is
+    (fed_in (run_of c.self.inside) c.self.inside.history c.self.inside.machine c.args.cpu c.step-made.result.entry (record { state = c.step-made.new.self; reboot = c.step-made.result.reboot }) c.self.invariant.core
     (subst (λ run. end_of_run run ≡ None) (sym c.self.view_is) c.requires.goes_on)
     (subst (λ run. HasTurnIn run c.args.cpu) (sym c.self.view_is) c.requires.turn)
-    (step_read _ _ c.self.inside.machine _ _ c.args.cpu _ c.scenario.ensures c.entries.ensures.same c.step.ensures.same))
+    (step_read _ _ c.self.inside.machine _ _ c.args.cpu _ c.scenario.ensures c.entries.ensures.same c.step-made.ensures.same))
 
-pub step-requires-clause-valid : goal.step-requires-clause-valid
-step-requires-clause-valid c = subst IsScenario (sym c.scenario.ensures) c.self.invariant.core.keeps.setup.valid
+pub step-made-requires-clause-valid : goal.step-made-requires-clause-valid
+step-made-requires-clause-valid c = subst IsScenario (sym c.scenario.ensures) c.self.invariant.core.keeps.setup.valid
 
-pub step-requires-clause-pending : goal.step-requires-clause-pending
-step-requires-clause-pending c =
-    rw (c.scenario.ensures, c.entries.ensures.same, tick_of_core (run_of c.self.inside) c.self.inside.history c.self.inside.machine c.self.inside.parts.items c.self.invariant.core)
+pub step-made-requires-clause-pending : goal.step-made-requires-clause-pending
+step-made-requires-clause-pending c =
+    rw (c.scenario.ensures, c.entries.ensures.same, tick_of_core (run_of c.self.inside) c.self.inside.history c.self.inside.machine c.self.invariant.core)
     c.self.invariant.pending
 
-pub step-requires-clause-ends : goal.step-requires-clause-ends
-step-requires-clause-ends c = subst (λ h. AreEnds h c.self.inside.ends) (sym c.entries.ensures.same) c.self.invariant.lasts
+pub step-made-requires-clause-ends : goal.step-made-requires-clause-ends
+step-made-requires-clause-ends c = subst (λ h. AreEnds h c.self.inside.ends) (sym c.entries.ensures.same) c.self.invariant.lasts
 
-pub step-requires-clause-dues : goal.step-requires-clause-dues
-step-requires-clause-dues c = subst (λ h. AreDues c.self.inside.machine h c.self.inside.dues) (sym c.entries.ensures.same) c.self.invariant.nexts
+pub step-made-requires-clause-dues : goal.step-made-requires-clause-dues
+step-made-requires-clause-dues c = subst (λ h. AreDues c.self.inside.machine h c.self.inside.dues) (sym c.entries.ensures.same) c.self.invariant.nexts
 
 pub due-due-requires-clause-cpu : goal.due-due-requires-clause-cpu
 due-due-requires-clause-cpu c =
-    own_within (run_of c.self.inside) c.self.inside.history c.self.inside.machine c.self.inside.parts.items c.args.cpu c.step.result.0 (record { state = c.step.new.self; reboot = c.step.result.1 })
+    own_within (run_of c.self.inside) c.self.inside.history c.self.inside.machine c.args.cpu c.step-made.result.entry (record { state = c.step-made.new.self; reboot = c.step-made.result.reboot })
     c.self.invariant.core
     (subst (λ run. end_of_run run ≡ None) (sym c.self.view_is) c.requires.goes_on)
     (subst (λ run. HasTurnIn run c.args.cpu) (sym c.self.view_is) c.requires.turn)
-    (step_read _ _ c.self.inside.machine _ _ c.args.cpu _ c.scenario.ensures c.entries.ensures.same c.step.ensures.same)
+    (step_read _ _ c.self.inside.machine _ _ c.args.cpu _ c.scenario.ensures c.entries.ensures.same c.step-made.ensures.same)
 
 pub due-due-requires-clause-ends : goal.due-due-requires-clause-ends
 due-due-requires-clause-ends c =
     subst (λ h. AreEnds h c.add.new.self) (sym (c.entries-2.ensures.same ∙ ap (λ (k : History). k.entries) c.record.ensures))
     (c.add.ensures c.self.inside.history.entries c.self.invariant.lasts)
 
-pub step-requires-clause-counts : goal.step-requires-clause-counts
-step-requires-clause-counts c =
+pub step-made-requires-clause-counts : goal.step-made-requires-clause-counts
+step-made-requires-clause-counts c =
     let shape = c.self.inside.machine.shape in
     subst (λ h. Counts shape h (moment h / shape.tick) c.self.inside.window) (sym c.entries.ensures.same) c.self.invariant.counts
 
@@ -99,41 +98,44 @@ record-requires-clause-ends c = c.add.ensures c.self.inside.history.entries c.se
 pub invariant_of-self : goal.invariant_of-self
 invariant_of-self c = record {
   core =
-      core_kept (run_of c.self.inside) c.self.inside.history c.self.inside.machine c.self.inside.parts.items c.args.cpu c.step.result.0 c.record.new.history (record { state = c.step.new.self; reboot = c.step.result.1 }) _
+      core_kept (run_of c.self.inside) c.self.inside.history c.self.inside.machine c.args.cpu c.step-made.result.entry c.record.new.history (record { state = c.step-made.new.self; reboot = c.step-made.result.reboot })
       c.self.invariant.core
       (subst (λ run. end_of_run run ≡ None) (sym c.self.view_is) c.requires.goes_on)
       (subst (λ run. HasTurnIn run c.args.cpu) (sym c.self.view_is) c.requires.turn)
       (record {
-        steps = step_read _ _ c.self.inside.machine _ _ c.args.cpu _ c.scenario.ensures c.entries.ensures.same c.step.ensures.same;
+        steps = step_read _ _ c.self.inside.machine _ _ c.args.cpu _ c.scenario.ensures c.entries.ensures.same c.step-made.ensures.same;
         added = c.record.ensures;
-      })
-      (grind (arith, common_steps));
+      });
   pending =
-      pending_read c.scenario.result.now c.record.new.history.scenario _ _ c.record.new.history.entries c.step.new.ctl
+      pending_read c.scenario.result.now c.record.new.history.scenario _ _ c.record.new.history.entries c.step-made.new.ctl
       (ap (λ (h : History). h.scenario) c.record.ensures ∙ sym c.scenario.ensures)
-      (tick_of_core (run_of c.self.inside) c.self.inside.history c.self.inside.machine c.self.inside.parts.items c.self.invariant.core ∙ ap (λ (s : Scenario). s.shape.tick) (sym c.scenario.ensures))
-      (ap (λ (h : History). h.entries) c.record.ensures ∙ ap (λ h. h ++ c.step.result.0 ∷ []) (sym c.entries.ensures.same))
-      c.step.ensures.pending;
-  seats = c.step.ensures.seats;
+      (tick_of_core (run_of c.self.inside) c.self.inside.history c.self.inside.machine c.self.invariant.core ∙ ap (λ (s : Scenario). s.shape.tick) (sym c.scenario.ensures))
+      (ap (λ (h : History). h.entries) c.record.ensures ∙ ap (λ h. h ++ c.step-made.result.entry ∷ []) (sym c.entries.ensures.same))
+      c.step-made.ensures.pending;
+  seats = c.step-made.ensures.seats;
   lasts =
       subst (λ (k : History). AreEnds k.entries c.add.new.self) (sym c.record.ensures)
       (c.add.ensures c.self.inside.history.entries c.self.invariant.lasts);
   nexts =
-      subst (λ (k : History). AreDues c.step.new.self k.entries c.go_on.new.self) (sym c.record.ensures)
-      (subst (AreDues c.step.new.self (c.self.inside.history.entries ++ c.step.result.0 ∷ [])) (sym c.go_on.ensures.same)
-      (dues_more (run_of c.self.inside) c.self.inside.history c.self.inside.machine c.self.inside.parts.items c.args.cpu c.step.result.0 (record { state = c.step.new.self; reboot = c.step.result.1 })
+      subst (λ (k : History). AreDues c.step-made.new.self k.entries c.go_on.new.self) (sym c.record.ensures)
+      (subst (AreDues c.step-made.new.self (c.self.inside.history.entries ++ c.step-made.result.entry ∷ [])) (sym c.go_on.ensures.same)
+      (dues_more (run_of c.self.inside) c.self.inside.history c.self.inside.machine c.args.cpu c.step-made.result.entry (record { state = c.step-made.new.self; reboot = c.step-made.result.reboot })
       c.self.inside.dues c.due-due.result c.self.invariant.core
       (subst (λ run. end_of_run run ≡ None) (sym c.self.view_is) c.requires.goes_on)
       (subst (λ run. HasTurnIn run c.args.cpu) (sym c.self.view_is) c.requires.turn)
-      (step_read _ _ c.self.inside.machine _ _ c.args.cpu _ c.scenario.ensures c.entries.ensures.same c.step.ensures.same)
+      (step_read _ _ c.self.inside.machine _ _ c.args.cpu _ c.scenario.ensures c.entries.ensures.same c.step-made.ensures.same)
       c.go_on.ensures.whole c.self.invariant.nexts
-      (c.due-due.ensures ∙ ap (λ h. due c.step.new.self h c.args.cpu) (c.entries-2.ensures.same ∙ ap (λ (k : History). k.entries) c.record.ensures))));
+      (c.due-due.ensures ∙ ap (λ h. due c.step-made.new.self h c.args.cpu) (c.entries-2.ensures.same ∙ ap (λ (k : History). k.entries) c.record.ensures))));
+  stands = c.step-made.ensures.stands;
   counts =
-      let shape = c.step.new.self.shape in
+      let shape = c.step-made.new.self.shape in
       let h = c.self.inside.history.entries in
-      let e = c.step.result.0 in
-      let after : Counts shape (h ++ e ∷ []) (e.to / shape.tick) c.step.new.window =
-      subst (λ g. Counts shape (g ++ e ∷ []) (e.to / shape.tick) c.step.new.window) c.entries.ensures.same c.step.ensures.counts in
-      subst (λ (k : History). Counts shape k.entries (moment k.entries / shape.tick) c.step.new.window) (sym c.record.ensures)
-      (counts_like shape shape (h ++ e ∷ []) (e.to / shape.tick) (moment (h ++ e ∷ []) / shape.tick) c.step.new.window after refl (ap (λ n. n / shape.tick) (moment-append h e)));
+      let e = c.step-made.result.entry in
+      let after : Counts shape (h ++ e ∷ []) (e.to / shape.tick) c.step-made.new.window =
+      subst (λ g. Counts shape (g ++ e ∷ []) (e.to / shape.tick) c.step-made.new.window) c.entries.ensures.same c.step-made.ensures.counts in
+      subst (λ (k : History). Counts shape k.entries (moment k.entries / shape.tick) c.step-made.new.window) (sym c.record.ensures)
+      (counts_like shape shape (h ++ e ∷ []) (e.to / shape.tick) (moment (h ++ e ∷ []) / shape.tick) c.step-made.new.window after refl (ap (λ n. n / shape.tick) (moment-append h e)));
 }
+
+pub record-requires-clause-told : goal.record-requires-clause-told
+record-requires-clause-told c calm = told_in (run_of c.self.inside) c.self.inside.history c.self.inside.machine c.step-made.new.self c.self.invariant.core (c.step-made.ensures.kept calm)

@@ -1,0 +1,129 @@
+//! How the partitions stand in the window, and the gates of that, kept from step to step.
+ghost use Rattle.std.specs.Prelude.{◌≡◌, ◌<◌, ◌≤◌, ◌++◌, [], ◌∷◌, length, slice_set, All, IfOk, Some};
+ghost use Rattle.aps_model.specs.Partition.{IsRow};
+ghost use Rattle.aps_model.specs.Shape.{IsShape};
+ghost use Rattle.aps_ready.specs.Gates.{AreGates};
+ghost use Rattle.aps_core.specs.Counts.{parts_in};
+ghost use Rattle.aps_core.specs.Small.{IsSmall};
+ghost use Rattle.aps_core.specs.Standing.{DoOthersStand};
+
+use crate::usage::part_by;
+use aps_model::{NoMemory, PartFacts, PartitionId, PartitionRow, Shape};
+use aps_ready::Gates;
+use aps_window::Window;
+use std::alloc::Global;
+use std::marker::Model;
+
+/// The most partitions.
+const PARTITIONS: usize = 32;
+
+/// Each partition as it stands, in the place of its number, and the gates by which the ready threads are looked at.
+/// Contracts see the row of partitions.
+#[derive(Drop)]
+pub struct Standing {
+    parts: Vec<PartFacts>,
+    gates: Gates,
+}
+
+impl Model for Standing {
+    ghost use Rattle.std.specs.Prelude.{List, vec_capacity};
+    ghost use Rattle.aps_model.specs.declared.merit.PartFacts.{PartFacts};
+    ghost use Rattle.aps_core.specs.Standing.{IsStanding};
+
+    ghost Value = { List PartFacts };
+
+    ghost view = { λ s. s.parts.items };
+
+    ghost invariant = { λ s. IsStanding s.parts.items s.gates (vec_capacity s.parts) };
+}
+
+impl Standing {
+    /// No partitions, and room for all.
+    pub fn new(alloc: Global) -> Result<Standing, NoMemory>
+        ensures { IfOk result (λ s. s ≡ []) }
+    {
+        Ok(Standing {
+            parts: Vec::with_capacity(alloc, PARTITIONS)?,
+            gates: Gates::none(),
+        })
+    }
+
+    /// The partitions.
+    #[inline(always)]
+    pub fn parts(&self) -> &[PartFacts]
+        ensures same { result.now ≡ self.now }
+        ensures small { All IsSmall self.now }
+        ensures few { length self.now ≤ 32 }
+    {
+        self.parts.as_slice()
+    }
+
+    /// The gates of them.
+    #[inline(always)]
+    pub fn gates(&self) -> Gates
+        ensures { AreGates self.now result }
+    {
+        self.gates
+    }
+
+    /// No partitions.
+    fn clear(&mut self)
+        ensures { self.new ≡ [] }
+    {
+        self.parts.clear();
+        self.gates = Gates::none();
+    }
+
+    /// One partition more.
+    fn push(&mut self, part: PartFacts)
+        requires room { length self.old < 32 }
+        requires small { IsSmall part }
+        ensures { self.new ≡ self.old ++ part ∷ [] }
+    {
+        self.gates.set(PartitionId::at(self.parts.len()), &part);
+        self.parts.push_reserved(part);
+    }
+
+    /// The partition stands so, and each other as before.
+    #[inline(always)]
+    fn set(&mut self, p: PartitionId, part: PartFacts)
+        requires inside { p < length self.old }
+        requires small { IsSmall part }
+        ensures { self.new ≡ slice_set self.old p part }
+    {
+        self.gates.set(p, &part);
+        self.parts[p.index()] = part;
+    }
+
+    /// Each partition stands by its row and what the window has of it.
+    pub fn fill(&mut self, shape: &Shape, rows: &[PartitionRow], window: &Window)
+        requires shape { IsShape shape.now }
+        requires few_rows { length rows.now ≤ 32 }
+        requires rows { All IsRow rows.now }
+        ensures { self.new ≡ parts_in shape.now rows.now window.now }
+    {
+        self.clear();
+        for p in 0..rows.len() {
+            self.push(part_by(shape, &rows[p], window, PartitionId::at(p)));
+        }
+    }
+
+    /// The same, where the others stand so already.
+    pub fn fill_one(
+        &mut self,
+        shape: &Shape,
+        rows: &[PartitionRow],
+        window: &Window,
+        p: PartitionId,
+    )
+        requires shape { IsShape shape.now }
+        requires rows { All IsRow rows.now }
+        requires others { DoOthersStand (Some p) shape.now rows.now window.now self.old }
+        ensures { self.new ≡ parts_in shape.now rows.now window.now }
+    {
+        let index = p.index();
+        if index < rows.len() {
+            self.set(p, part_by(shape, &rows[index], window, p));
+        }
+    }
+}
