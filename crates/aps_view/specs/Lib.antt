@@ -1,5 +1,4 @@
 pub mod Naming
-pub mod Asked
 pub mod Status
 pub mod Printing
 pub mod Intake

@@ -1,5 +1,5 @@
 -- The reports of a history.
-use Rattle.std.specs.Prelude.{◌≡◌, ℕ, List, Option, Some, None, option_map, ⊤}
+use Rattle.std.specs.Prelude.{◌≡◌, ℕ, List, Option, Some, None, IsSome, option_map, ⊤}
 use Rattle.aps_model.specs.declared.entry.Entry.{Entry}
 use Rattle.aps_model.specs.Scenario.{Scenario}
 use Rattle.aps_explain.specs.Text.{explain_text}
@@ -27,12 +27,13 @@ abbrev pub trace_of : Report → Option TraceAsked
 trace_of (Trace trace) = Some trace
 trace_of report = None
 
--- the text is this report of a history, or nothing where the scenario has no thread of the name that it is asked about
+-- the text is this report of a history, or nothing where the scenario has no thread of the name that it is asked about; of a
+-- picture it is said that there is a text, and not how it is drawn
 abbrev pub IsReport : Report → Scenario → List Entry → Option (List ℕ) → Type 0
 IsReport Cycles scenario h text = text ≡ Some (cycles_text scenario h)
 IsReport (Csv ticks) scenario h text = text ≡ Some (csv_text scenario h (told ticks))
 IsReport Shares scenario h text = text ≡ Some (shares_text scenario h)
 IsReport Latency scenario h text = text ≡ Some (latency_text scenario h)
 IsReport (Explain thread at) scenario h text = text ≡ explained scenario h thread at
-IsReport (Picture picture ticks) scenario h text = text ≡ None
+IsReport (Picture picture ticks) scenario h text = IsSome text
 IsReport (Trace trace) scenario h text = ⊤

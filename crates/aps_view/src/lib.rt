@@ -2,8 +2,8 @@
 //! definitions.
 #![tactic(auto)]
 
-mod asked;
 pub mod calm;
+mod drawing;
 mod naming;
 mod outcome;
 mod printing;

@@ -1,13 +1,12 @@
 //! The outcome of a call of the program, by its words and its input.
 ghost use Rattle.std.specs.Prelude.{◌≡◌, map, string_bytes};
 ghost use Rattle.aps_check.specs.Text.{verdict_text};
-ghost use Rattle.aps_view.specs.Asked.{asked};
+ghost use Rattle.aps_view_words.specs.Asked.{asked};
 ghost use Rattle.aps_view.specs.Cause.{IsOutcome};
 ghost use Rattle.aps_view.specs.Intake.{intake_of};
 ghost use Rattle.aps_view.specs.Outcome.{status_of, text_of};
 ghost use Rattle.aps_view.specs.Printing.{Prints, Says, output_of};
 
-use crate::asked::asked_of;
 use crate::printing::print;
 use crate::reading::outcome_of;
 use crate::refusal::{InputRefusal, print_refusal};
@@ -15,6 +14,7 @@ use crate::status::Status;
 use crate::traced::Traced;
 use aps_check::Verdict;
 use aps_io::{Sink, Source};
+use aps_view_words::asked_of;
 use aps_words::WordsRefusal;
 use std::alloc::Global;
 

@@ -4,6 +4,7 @@ ghost use Rattle.aps_model.specs.Legal.{IsLegal};
 ghost use Rattle.aps_view.specs.Report as spec;
 ghost use Rattle.aps_view.specs.Report.{IsReport};
 
+use crate::drawing::drawn;
 use crate::naming::thread_named;
 use aps_core::Core;
 use aps_explain::explain_text;
@@ -39,7 +40,10 @@ pub fn report_of(alloc: Global, report: Report, core: &Core) -> Result<Option<St
         Report::Cycles => Ok(Some(cycles_text(alloc, history, order)?)),
         Report::Csv { ticks } => Ok(Some(csv(alloc, history, order, told(ticks))?)),
         Report::Shares => Ok(Some(shares_text(alloc, history, order)?)),
-        Report::Picture { .. } | Report::Trace { .. } => Ok(None),
+        Report::Picture { picture, ticks } => {
+            Ok(Some(drawn(alloc, history, order, picture, told(ticks))?))
+        }
+        Report::Trace { .. } => Ok(None),
         Report::Latency => Ok(Some(latency_text(alloc, history, order)?)),
         Report::Explain { thread, at } => explained(alloc, history, order, thread, at),
     }

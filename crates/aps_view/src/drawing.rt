@@ -1,0 +1,31 @@
+//! Pictures of a history.
+ghost use Rattle.std.specs.Prelude.{◌≤◌, length};
+ghost use Rattle.aps_model.specs.Legal.{IsLegal};
+
+use aps_model::{History, NoMemory, Order};
+use aps_pictures::{Ticks, threads_text, usage_text};
+use aps_shares::all_overspent;
+use aps_timeline::timeline_text;
+use aps_view_words::Picture;
+use std::alloc::Global;
+
+/// This picture of a history, which is legal in this order of turns, from tick to tick. `NoMemory` comes where memory runs out.
+pub fn drawn(
+    alloc: Global,
+    history: &History,
+    order: Order,
+    picture: Picture,
+    ticks: Ticks,
+) -> Result<String, NoMemory>
+    requires legal { IsLegal history.now.scenario order history.now.entries }
+    requires few { length history.now.entries ≤ 4000000 }
+{
+    match picture {
+        Picture::Timeline => {
+            let overspent = all_overspent(alloc, history, order)?;
+            timeline_text(alloc, history, order, ticks, &overspent)
+        }
+        Picture::Threads => threads_text(alloc, history, order, ticks),
+        Picture::Usage => usage_text(alloc, history, order, ticks),
+    }
+}
