@@ -43,16 +43,15 @@ fn add_last_digits(out: &mut String, value: u128, count: u8) -> Result<(), NoMem
 
 /// How many digits the number has.
 pub fn digits_of(value: u64) -> u8
+    ensures same { result ≡ length (decimal value) }
     ensures some { 1 ≤ result }
     ensures few { result ≤ 20 }
 {
-    let mut count = 1;
-    let mut rest = value / 10;
-    while rest > 0 {
-        rest /= 10;
-        count += 1;
+    if value < 10 {
+        1
+    } else {
+        digits_of(value / 10) + 1
     }
-    count
 }
 
 /// The part of the whole in percent with one place, rounded down, and the sign; a dash where there is no whole.
