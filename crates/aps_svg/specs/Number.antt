@@ -1,6 +1,6 @@
 -- Numbers in texts.
 use lib.Chars.{codes}
-use Rattle.std.specs.Prelude.{ℕ, ◌+◌, ◌-◌, ◌*◌, ◌/◌, ◌%◌, ◌++◌, zero, suc, List, [], ◌∷◌, nat_eq, if◌then◌else◌}
+use Rattle.std.specs.Prelude.{ℕ, ◌*◌, ◌/◌, ◌%◌, ◌++◌, zero, suc, List, [], nat_eq, if◌then◌else◌}
 use Rattle.std.specs.Fmt.{decimal}
 
 -- the number without so many of its last digits

@@ -1,5 +1,6 @@
 //! Numbers in texts.
-ghost use Rattle.std.specs.Prelude.{◌≡◌, ◌++◌, string_bytes, OnOk};
+ghost use Rattle.std.specs.Prelude.{◌≡◌, ◌++◌, ◌≤◌, length, string_bytes, OnOk};
+ghost use Rattle.std.specs.Fmt.{decimal};
 ghost use Rattle.aps_svg.specs.Number as spec;
 
 use aps_model::NoMemory;
@@ -55,13 +56,13 @@ pub fn digits_of(value: u64) -> u8
 }
 
 /// The part of the whole in percent with one place, rounded down, and the sign; a dash where there is no whole.
-pub fn add_percent(out: &mut String, part: u64, whole: u64) -> Result<(), NoMemory>
+pub fn add_percent(out: &mut String, part: u64, whole: u128) -> Result<(), NoMemory>
     ensures { OnOk result (string_bytes out.new ≡ string_bytes out.old ++ spec.percent_text part whole) }
 {
     if whole == 0 {
         return out.push_str("- %");
     }
-    add_decimal(out, u128::from(part) * 1000 / u128::from(whole), 1)?;
+    add_decimal(out, u128::from(part) * 1000 / whole, 1)?;
     out.push_str(" %")
 }
 
