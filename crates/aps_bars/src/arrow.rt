@@ -34,14 +34,14 @@ fn arrow_by(ran: ThreadId, done: &Done) -> Option<Arrow>
     ensures { result ≡ spec.arrow_by ran done.now }
 {
     match done {
-        Done::SendTo(receiver) => Some(arrow(Carried::Message, ran, *receiver)),
-        Done::ReceiveGot(sender) => Some(arrow(Carried::Message, *sender, ran)),
-        Done::ReplyFreed(client) => Some(arrow(Carried::Reply, ran, *client)),
+        Done::SendTo(receiver) => Some(from_to(Carried::Message, ran, *receiver)),
+        Done::ReceiveGot(sender) => Some(from_to(Carried::Message, *sender, ran)),
+        Done::ReplyFreed(client) => Some(from_to(Carried::Reply, ran, *client)),
         _ => None,
     }
 }
 
-fn arrow(carried: Carried, source: ThreadId, target: ThreadId) -> Arrow
+fn from_to(carried: Carried, source: ThreadId, target: ThreadId) -> Arrow
     ensures { result ≡ record { carried = carried; source = source; target = target } }
 {
     Arrow {

@@ -55,11 +55,19 @@ impl Drawn {
     {
         self.rows.as_slice()
     }
+
+    /// What was altered, and the partition rows that stand last, taken out. The lanes are dropped.
+    pub fn without_lanes(self) -> (Vec<Alteration>, Vec<PartitionRow>)
+        ensures alterations { result.0.items ≡ self.alterations }
+        ensures rows { result.1.items ≡ self.rows }
+    {
+        (self.alterations, self.rows)
+    }
 }
 
 /// What is drawn of a history, in one pass over its entries, which are legal in this order of turns. `NoMemory` comes where memory
 /// runs out.
-pub fn drawn(alloc: Global, history: &History, order: Order) -> Result<Drawn, NoMemory>
+pub fn drawn_of(alloc: Global, history: &History, order: Order) -> Result<Drawn, NoMemory>
     requires legal { IsLegal history.now.scenario order history.now.entries }
     requires few { length history.now.entries ≤ 4000000 }
     ensures { IfOk result (IsDrawn history.now.scenario history.now.entries) }

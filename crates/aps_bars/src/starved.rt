@@ -32,7 +32,7 @@ impl Model for Without {
 
 /// For how long each partition stood as the one without work that the last of these entries named, in order. Bars that follow on one
 /// another and are of the same partition are one. `NoMemory` comes where memory runs out.
-pub fn starved(alloc: Global, entries: &[Entry]) -> Result<Vec<Starved>, NoMemory>
+pub fn all_starved(alloc: Global, entries: &[Entry]) -> Result<Vec<Starved>, NoMemory>
     ensures { IfOk result (λ bars. bars.items ≡ spec.starved_of entries.now) }
 {
     let mut without = Without::none(alloc);

@@ -16,7 +16,8 @@ const PARTITIONS: usize = 32;
 const POINTS: u64 = 1000;
 
 /// Of one partition in a group of samples: how far below the top of its panel stand the most that it used and the least, the
-/// most that wasn't critical, what it was allowed last, and the least bound; and whether it had no candidate in one of its ticks.
+/// most that wasn't critical, what it was allowed last, and the least bound; and whether in one of these ticks it had no
+/// candidate at some pick.
 #[derive(Clone, Copy)]
 pub struct Point {
     pub high: u16,

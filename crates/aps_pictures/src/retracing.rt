@@ -3,6 +3,7 @@ ghost use Rattle.std.specs.Prelude.{◌≡◌, ◌<◌, ◌≤◌, [], length, I
 ghost use Rattle.aps_model.specs.Legal.{IsLegal};
 ghost use Rattle.aps_model.specs.Valid.{IsScenario};
 ghost use Rattle.aps_core.specs.Turn.{IsTaken, with_entry};
+ghost use Rattle.aps_samples.specs.Retraced.{start_of};
 
 use aps_core::Core;
 use aps_model::{Entry, History, Nanos, NoMemory, Order, PartitionRow};
@@ -26,13 +27,22 @@ pub fn standing_at(
     requires legal { IsLegal history.now.scenario order history.now.entries }
     requires few { length history.now.entries ≤ 4000000 }
 {
+    let mut core = boot(alloc, history, order)?;
+    retrace_to(&mut core, history.entries(), moment);
+    standing_of(alloc, &core)
+}
+
+/// A core that has made no step of the history's scenario.
+fn boot(alloc: Global, history: &History, order: Order) -> Result<Core, NoMemory>
+    requires { length history.now.entries ≤ 4000000 }
+    ensures same { IfOk result (λ core. core ≡ start_of history.now order) }
+    ensures valid { IfOk result (λ core. IsScenario history.now.scenario) }
+{
     // the check wants the scenario's own word that it is valid
     let _shape = history.scenario().shape();
-    let entries = history.entries();
-    let limit = (entries.len() as u32).max(1);
-    let mut core = Core::boot(alloc, history.scenario().copy(alloc)?, order, limit)?;
-    retrace_to(&mut core, entries, moment);
-    standing_of(alloc, &core)
+    let scenario = history.scenario().copy(alloc)?;
+    let limit = (history.entries().len() as u32).max(1);
+    Core::boot(alloc, scenario, order, limit)
 }
 
 /// What stands as the core has it.

@@ -18,6 +18,7 @@ pub struct Sizes {
     pub cpus: u8,
     pub tick: Nanos,
     ghost few: { cpus ≤ 16 },
+    ghost some: { 0 < tick },
     ghost short: { tick ≤ 10000000 },
 }
 

@@ -49,8 +49,8 @@ pub struct Found {
     pub least: Option<Peak>,
 }
 
-/// Of all samples that are shown: how many are unchanged, the last one that isn't full, what is found of each partition, and the
-/// rows of the last tick.
+/// Of all samples that are shown: how many are unchanged, the last one that isn't full, what is found of each partition, and
+/// the rows of the last tick.
 #[derive(Drop)]
 pub struct Survey {
     pub unchanged: u64,

@@ -78,7 +78,11 @@ fn add_texture(out: &mut String, p: usize) -> Result<(), NoMemory>
     let mark = mark_of(p);
     write!(
         out,
-        "<pattern id=\"p{p}\" width=\"60\" height=\"60\" patternUnits=\"userSpaceOnUse\"><rect width=\"60\" height=\"60\" fill=\"#{colour}\"/>{mark}</pattern>\n"
+        "<pattern id=\"p{p}\" width=\"60\" height=\"60\" patternUnits=\"userSpaceOnUse\">"
+    )?;
+    write!(
+        out,
+        "<rect width=\"60\" height=\"60\" fill=\"#{colour}\"/>{mark}</pattern>\n"
     )
 }
 

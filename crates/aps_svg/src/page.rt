@@ -3,8 +3,12 @@ use crate::fill::add_textures;
 use aps_model::NoMemory;
 use std::fmt::Write;
 
+/// The texture of critical time.
 const HATCHING: &str = "<defs>
-<pattern id=\"c\" width=\"60\" height=\"60\" patternUnits=\"userSpaceOnUse\"><path d=\"M0 60L60 0M-15 15L15 -15M45 75L75 45\" stroke=\"#222222\" stroke-width=\"9\" fill=\"none\"/></pattern>
+<pattern id=\"c\" width=\"60\" height=\"60\" patternUnits=\"userSpaceOnUse\">";
+
+const HATCHES: &str =
+    "<path d=\"M0 60L60 0M-15 15L15 -15M45 75L75 45\" stroke=\"#222222\" stroke-width=\"9\" fill=\"none\"/></pattern>
 ";
 
 /// What stands before the elements of a picture of this report, which is so high and shows so many partitions.
@@ -17,6 +21,7 @@ pub fn add_head(
     add_sizes(out, height)?;
     write!(out, "<title>apsim {report}</title>\n")?;
     out.push_str(HATCHING)?;
+    out.push_str(HATCHES)?;
     add_textures(out, partitions)?;
     write!(
         out,

@@ -1,5 +1,6 @@
 //! The time that a picture shows.
-ghost use Rattle.std.specs.Prelude.{◌≡◌, ◌+◌, ◌-◌, ◌*◌, ◌/◌, ◌<◌, ◌≤◌, min, max};
+ghost use Rattle.std.specs.Prelude.{◌≡◌, ◌+◌, ◌-◌, ◌<◌, ◌≤◌};
+ghost use Rattle.aps_svg.specs.Span.{x_of};
 
 use crate::sharing::share;
 use aps_model::Nanos;
@@ -45,7 +46,7 @@ impl Span {
 
     /// Where a moment stands on the picture, in units from the left; one outside stands at the nearer end.
     pub fn x_of(&self, moment: Nanos) -> u64
-        ensures same { result ≡ 1400 + (min (max moment self.now.from) self.now.to - self.now.from) * 12000 / (self.now.to - self.now.from) }
+        ensures same { result ≡ x_of self.now.from self.now.to moment }
         ensures least { 1400 ≤ result }
         ensures most { result ≤ 13400 }
     {
