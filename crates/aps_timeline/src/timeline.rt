@@ -4,7 +4,7 @@ ghost use Rattle.aps_model.specs.Legal.{IsLegal};
 
 use crate::lane::{add_lane, add_stack_lane};
 use crate::strip::{Strips, add_strips, strips_of};
-use aps_bars::{Drawn, Lane, Overspent, Starved, drawn, starved};
+use aps_bars::{Drawn, Lane, Overspent, Starved, all_starved, drawn_of};
 use aps_model::{History, NoMemory, Order};
 use aps_pictures::legend::{add_hatched, add_partitions, add_sample, below_partitions, sample_at};
 use aps_pictures::titles::{add_words, open_span_title};
@@ -56,7 +56,7 @@ pub fn timeline_text(
     requires few { length history.now.entries ≤ 4000000 }
 {
     let scene = Scene::of(alloc, history, order, ticks)?;
-    let bars = drawn(alloc, history, order)?;
+    let bars = drawn_of(alloc, history, order)?;
     let plan = plan_of(alloc, history, &scene, &bars, overspent)?;
     let mut out = String::new(alloc);
     let below = plan.foot + 240 * plan.strips.count();
@@ -94,7 +94,7 @@ fn plan_of(
     let without = shown_of(
         alloc,
         &scene.span,
-        starved(alloc, history.entries())?.as_slice(),
+        all_starved(alloc, history.entries())?.as_slice(),
     )?;
     let strips = strips_of(alloc, &scene.span, bars.alterations(), overspent)?;
     let foot = if without.is_empty() {
