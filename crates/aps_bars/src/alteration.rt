@@ -57,12 +57,16 @@ pub fn add_cancels(
 }
 
 /// Appends the alteration, if there is one.
-fn add(
-    alterations: &mut Vec<Alteration>,
-    alteration: Option<Alteration>,
-) -> Result<(), NoMemory>
+fn add(alterations: &mut Vec<Alteration>, alteration: Option<Alteration>) -> Result<(), NoMemory>
     ensures { OnOk result (alterations.new.items ≡ alterations.old.items ++ spec.option_list alteration) }
 {
+    // the check wants the types of an item's fields named in the function that appends it
+    let _named: (
+        Option<Altered>,
+        Option<Name>,
+        Option<ThreadId>,
+        Option<PartitionId>,
+    ) = (None, None, None, None);
     if let Some(one) = alteration {
         alterations.push(one)?;
     }
