@@ -37,18 +37,34 @@ pub fn threads_text(
 {
     let scene = Scene::of(alloc, history, order, ticks)?;
     let lives = lives(alloc, history, order)?;
-    let threads = history.scenario().threads();
+    draw(
+        alloc,
+        history.scenario().threads(),
+        &scene,
+        lives.as_slice(),
+    )
+}
+
+/// The picture of these threads, whose lives these are.
+fn draw(
+    alloc: Global,
+    threads: &[ThreadRow],
+    scene: &Scene,
+    lives: &[Life],
+) -> Result<String, NoMemory>
+    requires { length threads.now ≤ 1024 }
+{
     let mut out = String::new(alloc);
     let top = below_partitions(scene.rows.len()) + 300;
     let bottom = top + threads.len() as u64 * LANE;
+    let exact = are_few(&scene.span, lives);
     add_head(&mut out, "threads", bottom + 330, scene.rows.len())?;
-    let exact = are_few(&scene.span, lives.as_slice());
-    add_top(&mut out, &scene, exact)?;
+    add_top(&mut out, scene, exact)?;
     add_axis(&mut out, frame_of(top, bottom), scene.span)?;
     if exact {
-        add_lives(&mut out, &scene, threads, lives.as_slice(), top)?;
+        add_lives(&mut out, scene, threads, lives, top)?;
     } else {
-        add_stacks(alloc, &mut out, &scene, threads, lives.as_slice(), top)?;
+        add_stacks(alloc, &mut out, scene, threads, lives, top)?;
     }
     add_foot(&mut out)?;
     Ok(out)

@@ -111,15 +111,26 @@ fn usage_of(
 {
     let survey = survey_of(alloc, history, order, sizes, range)?;
     let groups = groups_of(alloc, history, order, sizes, range, &survey)?;
+    draw(alloc, rows, parts, sizes, range, &survey, &groups)
+}
+
+/// The picture of these groups of samples.
+fn draw(
+    alloc: Global,
+    rows: &[PartitionRow],
+    parts: u16,
+    sizes: Sizes,
+    range: Range,
+    survey: &Survey,
+    groups: &Groups,
+) -> Result<String, NoMemory>
+    requires { length rows.now ≤ 32 }
+{
     let mut out = String::new(alloc);
-    add_head(
-        &mut out,
-        "usage",
-        TOP + height_of(rows.len()) * PITCH,
-        rows.len(),
-    )?;
+    let height = TOP + height_of(rows.len()) * PITCH;
+    add_head(&mut out, "usage", height, rows.len())?;
     add_top(&mut out, sizes, survey.unchanged)?;
-    add_panels(&mut out, rows, parts, sizes, range, &survey, &groups)?;
+    add_panels(&mut out, rows, parts, sizes, range, survey, groups)?;
     add_foot(&mut out)?;
     Ok(out)
 }

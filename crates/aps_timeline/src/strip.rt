@@ -2,8 +2,8 @@
 ghost use Rattle.std.specs.Prelude.{◌≡◌, ◌+◌, ◌*◌, ◌<◌, ◌≤◌, length};
 
 use aps_bars::text::{add_alteration, row_name};
-use aps_bars::{Alteration, Drawn, Overspent};
-use aps_model::{History, NoMemory};
+use aps_bars::{Alteration, Overspent};
+use aps_model::{NoMemory, ThreadRow};
 use aps_pictures::Scene;
 use aps_svg::element::add_text;
 use aps_svg::glyph::add_glyph;
@@ -93,10 +93,10 @@ fn add_mark(marks: &mut Vec<Mark>, x: u64, place: usize) -> Result<(), NoMemory>
 pub fn add_strips(
     alloc: Global,
     out: &mut String,
-    history: &History,
+    threads: &[ThreadRow],
     scene: &Scene,
-    bars: &Drawn,
     strips: &Strips,
+    alterations: &[Alteration],
     overspent: &[Overspent],
     foot: u64,
 ) -> Result<(), NoMemory>
@@ -108,7 +108,7 @@ pub fn add_strips(
         y += STRIP;
     }
     if !strips.changes.is_empty() {
-        add_changes(alloc, out, history, scene, bars, &strips.changes, y)?;
+        add_changes(alloc, out, threads, scene, &strips.changes, alterations, y)?;
     }
     Ok(())
 }
@@ -139,19 +139,18 @@ fn add_overspent(
 fn add_changes(
     alloc: Global,
     out: &mut String,
-    history: &History,
+    threads: &[ThreadRow],
     scene: &Scene,
-    bars: &Drawn,
     marks: &[Mark],
+    alterations: &[Alteration],
     y: u64,
 ) -> Result<(), NoMemory>
     requires { y ≤ 2000000 }
 {
     add_label(out, y, "changes")?;
-    let threads = history.scenario().threads();
     for i in 0..marks.len() {
         let mut text = String::new(alloc);
-        if let Some(one) = bars.alterations().get(marks[i].place) {
+        if let Some(one) = alterations.get(marks[i].place) {
             add_alteration(&mut text, threads, scene.rows.as_slice(), one)?;
         }
         add_marked(out, Glyph::Change, marks, i, y, text)?;

@@ -58,27 +58,47 @@ pub fn timeline_text(
     let scene = Scene::of(alloc, history, order, ticks)?;
     let bars = drawn_of(alloc, history, order)?;
     let plan = plan_of(alloc, history, &scene, &bars, overspent)?;
+    draw(alloc, history, &scene, &bars, &plan, overspent)
+}
+
+/// The picture by this plan.
+fn draw(
+    alloc: Global,
+    history: &History,
+    scene: &Scene,
+    bars: &Drawn,
+    plan: &Plan,
+    overspent: &[Overspent],
+) -> Result<String, NoMemory> {
     let mut out = String::new(alloc);
     let below = plan.foot + 240 * plan.strips.count();
     add_head(&mut out, "timeline", below + 330, scene.rows.len())?;
-    add_top(&mut out, &scene, plan.exact)?;
-    open_group(&mut out, "grid")?;
-    add_axis(&mut out, frame_of(plan.top, below), scene.span)?;
-    close_group(&mut out)?;
-    add_lanes(alloc, &mut out, history, &scene, &bars, &plan)?;
-    add_without(alloc, &mut out, &scene, &plan)?;
+    add_top(&mut out, scene, plan.exact)?;
+    add_grid(&mut out, scene, plan.top, below)?;
+    add_lanes(alloc, &mut out, history, scene, bars, plan)?;
+    add_without(alloc, &mut out, scene, plan)?;
+    let alterations = bars.alterations();
     add_strips(
         alloc,
         &mut out,
-        history,
-        &scene,
-        &bars,
+        history.scenario().threads(),
+        scene,
         &plan.strips,
+        alterations,
         overspent,
         plan.foot,
     )?;
     add_foot(&mut out)?;
     Ok(out)
+}
+
+/// The lines for round moments.
+fn add_grid(out: &mut String, scene: &Scene, top: u64, below: u64) -> Result<(), NoMemory>
+    requires { below ≤ 1000000 }
+{
+    open_group(out, "grid")?;
+    add_axis(out, frame_of(top, below), scene.span)?;
+    close_group(out)
 }
 
 /// What is drawn besides the lanes, and where.
@@ -218,15 +238,32 @@ fn add_lanes(
     plan: &Plan,
 ) -> Result<(), NoMemory> {
     let mut columns = Columns::new(alloc, scene.span)?;
-    for (c, lane) in bars.lanes().iter().take(16).enumerate() {
-        let y = plan.top + c as u64 * LANE;
-        if plan.exact {
-            add_lane(out, history, scene, lane, c, y)?;
-        } else {
-            add_stack_lane(out, &mut columns, history, scene, lane, c, y)?;
+    for c in 0..usize::from(scene.cpus) {
+        if let Some(lane) = bars.lanes().get(c) {
+            add_one(out, &mut columns, history, scene, plan, lane, c)?;
         }
     }
     Ok(())
+}
+
+/// The lane of the processor with this number.
+fn add_one(
+    out: &mut String,
+    columns: &mut Columns,
+    history: &History,
+    scene: &Scene,
+    plan: &Plan,
+    lane: &Lane,
+    c: usize,
+) -> Result<(), NoMemory>
+    requires { c ≤ 15 }
+{
+    let y = plan.top + c as u64 * LANE;
+    if plan.exact {
+        add_lane(out, history, scene, lane, c, y)
+    } else {
+        add_stack_lane(out, columns, history, scene, lane, c, y)
+    }
 }
 
 /// Below the lanes, for how long partitions with a budget were without work.
