@@ -1,5 +1,5 @@
 -- The reports of a history.
-use Rattle.std.specs.Prelude.{◌≡◌, ℕ, List, Option, Some, None, IsSome, option_map, ⊤}
+use Rattle.std.specs.Prelude.{◌≡◌, ℕ, List, Option, Some, None, IsSome, option_map}
 use Rattle.aps_model.specs.declared.entry.Entry.{Entry}
 use Rattle.aps_model.specs.Scenario.{Scenario}
 use Rattle.aps_explain.specs.Text.{explain_text}
@@ -11,7 +11,6 @@ use Rattle.aps_shares.specs.Text.{shares_text}
 use Rattle.aps_view_words.specs.declared.asked.Report.{Report}
 use Rattle.aps_view_words.specs.declared.asked.Report.TheVariants.{Cycles, Csv, Shares, Latency, Explain, Picture, Trace}
 use Rattle.aps_view_words.specs.declared.asked.Ticks.{Ticks}
-use Rattle.aps_view_words.specs.declared.asked.Trace.{Trace as TraceAsked}
 use Rattle.aps_view.specs.Naming.{thread_named}
 
 -- these ticks, for the table of samples
@@ -22,11 +21,6 @@ told ticks = record { from = ticks.from; to = ticks.to }
 abbrev pub explained : Scenario → List Entry → Option (List ℕ) → ℕ → Option (List ℕ)
 explained scenario h thread at = option_map (λ x. explain_text scenario h x at) (thread_named scenario.threads thread)
 
--- the trace that a report is, if it is one
-abbrev pub trace_of : Report → Option TraceAsked
-trace_of (Trace trace) = Some trace
-trace_of report = None
-
 -- the text is this report of a history, or nothing where the scenario has no thread of the name that it is asked about; of a
 -- picture it is said that there is a text, and not how it is drawn
 abbrev pub IsReport : Report → Scenario → List Entry → Option (List ℕ) → Type 0
@@ -36,4 +30,4 @@ IsReport Shares scenario h text = text ≡ Some (shares_text scenario h)
 IsReport Latency scenario h text = text ≡ Some (latency_text scenario h)
 IsReport (Explain thread at) scenario h text = text ≡ explained scenario h thread at
 IsReport (Picture picture ticks) scenario h text = IsSome text
-IsReport (Trace trace) scenario h text = ⊤
+IsReport (Trace trace) scenario h text = text ≡ None

@@ -2,6 +2,7 @@
 //! definitions.
 #![tactic(auto)]
 
+mod asked;
 pub mod calm;
 mod drawing;
 mod naming;
@@ -12,5 +13,4 @@ mod refusal;
 mod report;
 pub mod status;
 pub mod top;
-mod traced;
 mod viewing;

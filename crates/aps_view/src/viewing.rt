@@ -1,21 +1,19 @@
 //! What comes of a scenario that is run, and of one with the entries of a journal.
-ghost use Rattle.std.specs.Prelude.{◌≡◌, ℕ, ◌<◌, ◌≤◌, List, [], Option, option_map, string_bytes, IfOk};
+ghost use Rattle.std.specs.Prelude.{◌≡◌, ◌<◌, ◌≤◌, [], option_map, string_bytes, IfOk};
 ghost use Rattle.aps_check.specs.Verdict.{IsRunSoFar};
 ghost use Rattle.aps_core.specs.Turn.{IsTaken, with_entry};
 ghost use Rattle.aps_view.specs.declared.status.Status.TheVariants.{Done};
 ghost use Rattle.aps_view.specs.Cause.{told_by};
 ghost use Rattle.aps_view.specs.Due.{IsDueOfEntries, IsDueOfRun, IsReported, judging, reported};
-ghost use Rattle.aps_view.specs.Report.{IsReport};
 
 use crate::outcome::Outcome;
 use crate::refusal::InputRefusal;
-use crate::report::{report_of, trace_of};
+use crate::report::report;
 use crate::status::Status;
-use crate::traced::Traced;
 use aps_check::{Verdict, check};
 use aps_core::Core;
 use aps_model::{Entry, NoMemory, Order, Scenario};
-use aps_view_words::{Asked, Report};
+use aps_view_words::Asked;
 use std::alloc::Global;
 
 /// Runs the scenario in fixed order, and makes the report that was asked for.
@@ -26,34 +24,8 @@ pub fn ran(alloc: Global, asked: Asked, scenario: Scenario) -> Result<Outcome, N
 {
     let mut core = Core::boot(alloc, scenario, Order::Fixed, asked.limit)?;
     let end = core.finish();
-    let outcome = told(alloc, asked.report, core, Status::of_end(&end))?;
-    Ok(outcome)
-}
-
-/// What comes of what the core has recorded, under this status.
-fn told(alloc: Global, report: Report, core: Core, status: Status) -> Result<Outcome, NoMemory>
-    requires few { core.setup.limit ≤ 4000000 }
-    ensures { IfOk result (λ outcome. IsReported report core.setup.scenario core.entries status (told_by outcome)) }
-{
-    match trace_of(report) {
-        Some(trace) => Ok(Outcome::Traced(Traced::of(status, trace, core))),
-        None => told_as_text(alloc, report, &core, status),
-    }
-}
-
-/// The same, of a report that is a text.
-fn told_as_text(
-    alloc: Global,
-    report: Report,
-    core: &Core,
-    status: Status,
-) -> Result<Outcome, NoMemory>
-    requires few { core.now.setup.limit ≤ 4000000 }
-    ensures { IfOk result (λ outcome. (text : Option (List ℕ)) × IsReport report core.now.setup.scenario core.now.entries text
-        × (told_by outcome ≡ reported status text)) }
-{
-    let text = report_of(alloc, report, core)?;
-    Ok(of_text(status, text))
+    let text = report(alloc, asked.report, &core)?;
+    Ok(of_text(Status::of_end(&end), text))
 }
 
 /// What comes of a history with this report, under this status.
@@ -94,11 +66,12 @@ fn viewed(
     requires some { 1 ≤ asked.limit }
     requires few { asked.limit ≤ 4000000 }
     requires sound { IsRunSoFar (judging asked scenario) entries.now }
-    ensures { IfOk result (λ outcome. IsReported asked.report scenario entries.now Done (told_by outcome)) }
+    ensures { IfOk result (λ outcome. IsReported asked scenario entries.now Done (told_by outcome)) }
 {
     let mut core = Core::boot(alloc, scenario, Order::Free, asked.limit)?;
     retrace(&mut core, entries);
-    told(alloc, asked.report, core, Status::Done)
+    let text = report(alloc, asked.report, &core)?;
+    Ok(of_text(Status::Done, text))
 }
 
 /// The core, which has no entries yet, makes the steps of which these are the entries.

@@ -1,0 +1,214 @@
+//! Samples in groups, each of which is drawn as one point.
+ghost use Rattle.std.specs.Prelude.{◌≡◌, ◌+◌, ◌*◌, ◌<◌, ◌≤◌, length, IfOk};
+ghost use Rattle.aps_model.specs.Legal.{IsLegal};
+ghost use Rattle.aps_model.specs.Loaded.{finished_ticks};
+ghost use Rattle.aps_samples.specs.Pass.{IsAt, scenario_of};
+
+use crate::scale::{Sizes, depth_of, top_of};
+use crate::survey::{Range, Survey, bound_of};
+use aps_model::{History, NoMemory, Order};
+use aps_samples::{Sample, Samples};
+use std::alloc::Global;
+
+const PARTITIONS: usize = 32;
+
+/// How many points a line has at most.
+const POINTS: u64 = 1000;
+
+/// Of one partition in a group of samples: how far below the top of its panel stand the most that it used and the least, the
+/// most that wasn't critical, what it was allowed last, and the least bound; and whether in one of these ticks it had no
+/// candidate at some pick.
+#[derive(Clone, Copy)]
+pub struct Point {
+    pub high: u16,
+    pub low: u16,
+    pub plain: u16,
+    pub allowance: u16,
+    pub bound: u16,
+    pub lacking: bool,
+}
+
+/// A group: its samples by their places among those that are shown, from one to before another, whether all are unchanged, and
+/// what is drawn of each partition.
+#[derive(Clone, Copy)]
+pub struct Group {
+    pub from: u64,
+    pub end: u64,
+    pub unchanged: bool,
+    pub points: [Point; PARTITIONS],
+}
+
+/// All groups, how many samples each has but the last, and how far below the top each partition's line begins.
+#[derive(Drop)]
+pub struct Groups {
+    pub size: u64,
+    pub begins: [u16; PARTITIONS],
+    pub groups: Vec<Group>,
+}
+
+/// The groups of these samples, of a history that is legal in this order of turns. `NoMemory` comes where memory runs out.
+pub fn groups_of(
+    alloc: Global,
+    history: &History,
+    order: Order,
+    sizes: Sizes,
+    range: Range,
+    survey: &Survey,
+) -> Result<Groups, NoMemory>
+    requires legal { IsLegal history.now.scenario order history.now.entries }
+    requires few { length history.now.entries ≤ 4000000 }
+    requires finished { range.end ≤ finished_ticks history.now.scenario.shape history.now.entries }
+{
+    let mut groups = Groups {
+        size: range.count().div_ceil(POINTS),
+        begins: [900; PARTITIONS],
+        groups: Vec::new(alloc),
+    };
+    let tops = tops_of(survey);
+    let mut samples = Samples::begin(alloc, history, order)?;
+    groups.pass(history, &mut samples, sizes, range, &tops)?;
+    Ok(groups)
+}
+
+/// What the top of each partition's panel stands for.
+fn tops_of(survey: &Survey) -> [u64; 32] {
+    let mut tops = [0; PARTITIONS];
+    for p in 0..PARTITIONS {
+        tops[p] = top_of(survey.found[p].scale);
+    }
+    tops
+}
+
+impl Groups {
+    /// Adds the samples that are shown, by a pass that begins.
+    fn pass(
+        &mut self,
+        history: &History,
+        samples: &mut Samples,
+        sizes: Sizes,
+        range: Range,
+        tops: &[u64; 32],
+    ) -> Result<(), NoMemory>
+        requires at { IsAt history.now.entries samples.old }
+        requires of { scenario_of samples.old.cursor ≡ history.now.scenario }
+        requires first { samples.old.tick ≡ 0 }
+        requires finished { range.end ≤ finished_ticks history.now.scenario.shape history.now.entries }
+    {
+        for j in 0..range.end {
+            let rows = samples.cursor.core.history().rows().len();
+            let sample = samples.next(history);
+            if range.from <= j {
+                let lacking = lacking(samples, rows, j);
+                self.add(&sample, sizes, j - range.from, tops, &lacking)?;
+            }
+        }
+        Ok(())
+    }
+
+    /// Adds the sample at this place among those that are shown.
+    fn add(
+        &mut self,
+        sample: &Sample,
+        sizes: Sizes,
+        place: u64,
+        tops: &[u64; 32],
+        lacking: &[bool; 32],
+    ) -> Result<(), NoMemory>
+        requires { place ≤ 100000000 }
+    {
+        if place == 0 && sample.tick > 0 {
+            self.begins = begins_at(sample, sizes, tops);
+        }
+        if self.begins_group(place) {
+            self.groups.push(empty_group(place))?;
+        }
+        if let Some(group) = self.groups.last_mut() {
+            group.add(sample, sizes, tops, lacking);
+            group.end = place + 1;
+        }
+        Ok(())
+    }
+
+    fn begins_group(&self, place: u64) -> bool {
+        self.size == 0 || place % self.size == 0
+    }
+}
+
+/// How far below the top each partition's line begins, where it doesn't begin at 0.
+fn begins_at(sample: &Sample, sizes: Sizes, tops: &[u64; 32]) -> [u16; 32] {
+    let whole = sizes.whole(sample.window);
+    let mut begins = [0; PARTITIONS];
+    for p in 0..PARTITIONS {
+        begins[p] = depth_of(sample.usage.used[p], whole, tops[p]);
+    }
+    begins
+}
+
+/// The partitions that had no candidate at some pick of tick `j`, which the pass has just left, where so many exist in it.
+fn lacking(samples: &Samples, rows: usize, j: u64) -> [bool; 32] {
+    let mut all = [false; PARTITIONS];
+    for p in 0..PARTITIONS {
+        all[p] = p < rows && samples.lasts.lacked[p] > j;
+    }
+    all
+}
+
+/// A group without samples.
+fn empty_group(place: u64) -> Group {
+    let point = Point {
+        high: 900,
+        low: 0,
+        plain: 900,
+        allowance: 900,
+        bound: 0,
+        lacking: false,
+    };
+    Group {
+        from: place,
+        end: place,
+        unchanged: true,
+        points: [point; PARTITIONS],
+    }
+}
+
+impl Group {
+    /// Adds a sample.
+    fn add(&mut self, sample: &Sample, sizes: Sizes, tops: &[u64; 32], lacking: &[bool; 32]) {
+        for p in 0..PARTITIONS {
+            let next = point_of(sample, sizes, p, tops[p], lacking[p]);
+            self.points[p] = joined(&self.points[p], &next);
+        }
+        if !sample.unchanged {
+            self.unchanged = false;
+        }
+    }
+}
+
+/// The point of one sample.
+fn point_of(sample: &Sample, sizes: Sizes, p: usize, top: u64, lacking: bool) -> Point
+    requires { p < 32 }
+{
+    let whole = sizes.whole(sample.window);
+    let used = sample.usage.used[p];
+    let depth = depth_of(used, whole, top);
+    Point {
+        high: depth,
+        low: depth,
+        plain: depth_of(used.saturating_sub(sample.usage.critical[p]), whole, top),
+        allowance: depth_of(sample.allowance[p], whole, top),
+        bound: depth_of(bound_of(sample, sizes, p), whole, top),
+        lacking,
+    }
+}
+
+/// The point of a group with one sample more.
+fn joined(point: &Point, next: &Point) -> Point {
+    Point {
+        high: point.high.min(next.high),
+        low: point.low.max(next.low),
+        plain: point.plain.min(next.plain),
+        allowance: next.allowance,
+        bound: point.bound.max(next.bound),
+        lacking: point.lacking || next.lacking,
+    }
+}

@@ -1,0 +1,21 @@
+//! Pictures of a recorded history: what its threads did, and what its partitions used; and what these have in common with a
+//! picture of its processors.
+#![tactic(auto)]
+
+mod group;
+pub mod legend;
+mod life;
+mod panel;
+mod retracing;
+mod scale;
+pub mod scene;
+mod survey;
+mod threads;
+pub mod titles;
+mod usage;
+
+pub use aps_samples::table::Ticks;
+pub use life::add_run;
+pub use scene::Scene;
+pub use threads::{frame_of, threads_text};
+pub use usage::usage_text;

@@ -1,0 +1,127 @@
+//! The life of one thread, drawn.
+ghost use Rattle.std.specs.Prelude.{◌≡◌, ◌+◌, ◌*◌, ◌<◌, ◌≤◌, length};
+
+use aps_lives::{Doing, Life, Segment};
+use aps_model::{CpuId, NoMemory, PartitionId};
+use aps_svg::element::{add_rect, close_text, open_text};
+use aps_svg::{Anchor, Area, Columns, Edge, Fill, Part, Place, Span};
+use std::fmt::Write;
+
+/// How high a bar is.
+const HEIGHT: u64 = 150;
+
+/// The segments of a life that last long enough to be seen.
+pub fn add_life(out: &mut String, span: &Span, life: &Life, y: u64) -> Result<(), NoMemory>
+    requires { y ≤ 1000000 }
+{
+    for segment in life.segments() {
+        if span.meets(segment.from, segment.to) {
+            add_segment(out, span, segment, y)?;
+        }
+    }
+    Ok(())
+}
+
+fn add_segment(out: &mut String, span: &Span, segment: &Segment, y: u64) -> Result<(), NoMemory>
+    requires { y ≤ 1000000 }
+{
+    let x = span.x_of(segment.from);
+    let width = span.x_of(segment.to).saturating_sub(x);
+    if width == 0 {
+        return Ok(());
+    }
+    match segment.doing {
+        Doing::Running {
+            cpu,
+            partition,
+            critical,
+        } => {
+            let area = Area {
+                x,
+                y,
+                width,
+                height: HEIGHT,
+            };
+            add_run(out, area, partition, critical)?;
+            add_cpu(out, area, cpu)
+        }
+        Doing::Ready => add_ready(out, x, y + 50, width),
+        Doing::Sending(_) | Doing::Replying(_) => add_wait(out, x, y + 50, width),
+        _ => Ok(()),
+    }
+}
+
+/// A bar of time that is billed to this partition, hatched where it is critical.
+pub fn add_run(
+    out: &mut String,
+    area: Area,
+    partition: PartitionId,
+    critical: bool,
+) -> Result<(), NoMemory> {
+    add_rect(out, area, Fill::Partition(partition.index()), Edge::Plain)?;
+    if critical {
+        add_rect(out, area, Fill::Hatched, Edge::Half)?;
+    }
+    Ok(())
+}
+
+/// The processor, where the bar is wide enough.
+fn add_cpu(out: &mut String, area: Area, cpu: CpuId) -> Result<(), NoMemory>
+    requires x { area.x ≤ 1000000 }
+    requires y { area.y ≤ 1000000 }
+{
+    if area.width < 300 {
+        return Ok(());
+    }
+    let place = Place {
+        x: area.x + 30,
+        y: area.y + 112,
+    };
+    let cpu = cpu.index();
+    open_text(out, place, 100, Anchor::Start)?;
+    write!(out, "{cpu}")?;
+    close_text(out)
+}
+
+/// A low bar of time in which a thread was ready.
+pub fn add_ready(out: &mut String, x: u64, y: u64, width: u64) -> Result<(), NoMemory> {
+    write!(
+        out,
+        "<rect x=\"{x}\" y=\"{y}\" width=\"{width}\" height=\"50\" fill=\"#777777\"/>\n"
+    )
+}
+
+/// A low bar of time in which a thread waited for a server.
+pub fn add_wait(out: &mut String, x: u64, y: u64, width: u64) -> Result<(), NoMemory> {
+    write!(
+        out,
+        "<rect x=\"{x}\" y=\"{y}\" width=\"{width}\" height=\"50\" fill=\"#ffffff\" stroke=\"#222222\" stroke-width=\"8\"/>\n"
+    )
+}
+
+/// The columns get the time in which the thread ran or was ready.
+pub fn stacked(columns: &mut Columns, span: &Span, life: &Life) {
+    for segment in life.segments() {
+        if span.meets(segment.from, segment.to) {
+            add_time(columns, segment);
+        }
+    }
+}
+
+fn add_time(columns: &mut Columns, segment: &Segment) {
+    match segment.doing {
+        Doing::Running {
+            partition,
+            critical,
+            ..
+        } => {
+            let part = Part::Billed {
+                partition: partition.index(),
+                critical,
+            };
+            columns.add(segment.from, segment.to, part);
+        }
+        Doing::Ready => columns.add(segment.from, segment.to, Part::Ready),
+        _ => (),
+    }
+}

@@ -1,0 +1,78 @@
+//! A core that makes the steps of a recorded history again, up to a moment.
+ghost use Rattle.std.specs.Prelude.{◌≡◌, ◌<◌, ◌≤◌, [], length, IfOk};
+ghost use Rattle.aps_model.specs.Legal.{IsLegal};
+ghost use Rattle.aps_model.specs.Valid.{IsScenario};
+ghost use Rattle.aps_core.specs.Turn.{IsTaken, with_entry};
+ghost use Rattle.aps_samples.specs.Retraced.{start_of};
+
+use aps_core::Core;
+use aps_model::{Entry, History, Nanos, NoMemory, Order, PartitionRow};
+use std::alloc::Global;
+
+/// The partition rows and the window (ticks) as they stand at some moment.
+#[derive(Drop)]
+pub struct Standing {
+    pub rows: Vec<PartitionRow>,
+    pub window: u16,
+}
+
+/// What stands after the first entry that ends at this moment or later, or after the last one; of a history that is legal in
+/// this order of turns. `NoMemory` comes where memory runs out.
+pub fn standing_at(
+    alloc: Global,
+    history: &History,
+    order: Order,
+    moment: Nanos,
+) -> Result<Standing, NoMemory>
+    requires legal { IsLegal history.now.scenario order history.now.entries }
+    requires few { length history.now.entries ≤ 4000000 }
+{
+    let mut core = boot(alloc, history, order)?;
+    retrace_to(&mut core, history.entries(), moment);
+    standing_of(alloc, &core)
+}
+
+/// A core that has made no step of the history's scenario.
+fn boot(alloc: Global, history: &History, order: Order) -> Result<Core, NoMemory>
+    requires { length history.now.entries ≤ 4000000 }
+    ensures same { IfOk result (λ core. core ≡ start_of history.now order) }
+    ensures valid { IfOk result (λ core. IsScenario history.now.scenario) }
+{
+    // the check wants the scenario's own word that it is valid
+    let _shape = history.scenario().shape();
+    let scenario = history.scenario().copy(alloc)?;
+    let limit = (history.entries().len() as u32).max(1);
+    Core::boot(alloc, scenario, order, limit)
+}
+
+/// What stands as the core has it.
+fn standing_of(alloc: Global, core: &Core) -> Result<Standing, NoMemory> {
+    let mut rows = Vec::new(alloc);
+    rows.extend_from_slice(core.history().rows())?;
+    let window = core.history().shape().window;
+    Ok(Standing { rows, window })
+}
+
+/// The core, which has made no step, makes those of these entries up to the first that ends at this moment or later.
+fn retrace_to(core: &mut Core, entries: &[Entry], moment: Nanos)
+    requires valid { IsScenario core.old.setup.scenario }
+    requires begins { core.old.entries ≡ [] }
+    requires legal { IsLegal core.old.setup.scenario core.old.setup.order entries.now }
+    requires few { length entries.now ≤ core.old.setup.limit }
+{
+    for e in entries {
+        retrace(core, e);
+        if moment <= e.to {
+            return;
+        }
+    }
+}
+
+/// The core makes the step of which this is the entry.
+fn retrace(core: &mut Core, e: &Entry)
+    requires exists { e.now.cpu < core.old.setup.scenario.shape.cpus }
+    requires taken { IsTaken core.old e.now.cpu e.now }
+    ensures { core.new ≡ with_entry core.old e.now }
+{
+    let _turn = core.step(e.cpu);
+}

@@ -1,0 +1,216 @@
+//! What the panels say of all samples that are shown, found in one pass over them.
+ghost use Rattle.std.specs.Prelude.{◌≡◌, ◌+◌, ◌*◌, ◌<◌, ◌≤◌, length, IfOk};
+ghost use Rattle.aps_model.specs.Legal.{IsLegal};
+ghost use Rattle.aps_model.specs.Loaded.{finished_ticks};
+ghost use Rattle.aps_samples.specs.Pass.{IsAt, scenario_of};
+
+use crate::scale::{Sizes, scale_of};
+use aps_model::{History, Nanos, NoMemory, Order, PartitionRow};
+use aps_samples::{Sample, Samples};
+use std::alloc::Global;
+
+const PARTITIONS: usize = 32;
+
+/// The samples that are shown: of these ticks, from one to before another.
+#[derive(Clone, Copy)]
+pub struct Range {
+    pub from: u64,
+    pub end: u64,
+    ghost some: { from < end },
+    ghost few: { end ≤ 100000000 },
+}
+
+impl Range {
+    /// How many samples these are.
+    pub fn count(&self) -> u64
+        ensures some { 0 < result }
+        ensures few { result ≤ 100000000 }
+    {
+        self.end - self.from
+    }
+}
+
+/// A sample in which a partition used so much (ns) of the whole, and how many parts of 1,000 that is.
+#[derive(Clone, Copy)]
+pub struct Peak {
+    pub tick: u64,
+    pub used: Nanos,
+    pub whole: Nanos,
+    share: u128,
+}
+
+/// Of one partition: its scale, whether it has critical time, and the first of the full samples in which it used the most, and
+/// the least where it always had work.
+#[derive(Clone, Copy)]
+pub struct Found {
+    pub scale: usize,
+    pub critical: bool,
+    pub most: Option<Peak>,
+    pub least: Option<Peak>,
+}
+
+/// Of all samples that are shown: how many are unchanged, the last one that isn't full, what is found of each partition, and
+/// the rows of the last tick.
+#[derive(Drop)]
+pub struct Survey {
+    pub unchanged: u64,
+    pub partial: Option<u64>,
+    pub found: [Found; PARTITIONS],
+    pub rows: Vec<PartitionRow>,
+}
+
+/// What these samples say, of a history that is legal in this order of turns. `NoMemory` comes where memory runs out.
+pub fn survey_of(
+    alloc: Global,
+    history: &History,
+    order: Order,
+    sizes: Sizes,
+    range: Range,
+) -> Result<Survey, NoMemory>
+    requires legal { IsLegal history.now.scenario order history.now.entries }
+    requires few { length history.now.entries ≤ 4000000 }
+    requires finished { range.end ≤ finished_ticks history.now.scenario.shape history.now.entries }
+{
+    let mut survey = Survey::none(alloc);
+    let mut samples = Samples::begin(alloc, history, order)?;
+    survey.pass(history, &mut samples, sizes, range)?;
+    Ok(survey)
+}
+
+impl Survey {
+    /// Before the first sample.
+    fn none(alloc: Global) -> Survey {
+        Survey {
+            unchanged: 0,
+            partial: None,
+            found: [Found {
+                scale: 0,
+                critical: false,
+                most: None,
+                least: None,
+            }; PARTITIONS],
+            rows: Vec::new(alloc),
+        }
+    }
+
+    /// Adds the samples that are shown, by a pass that begins.
+    fn pass(
+        &mut self,
+        history: &History,
+        samples: &mut Samples,
+        sizes: Sizes,
+        range: Range,
+    ) -> Result<(), NoMemory>
+        requires at { IsAt history.now.entries samples.old }
+        requires of { scenario_of samples.old.cursor ≡ history.now.scenario }
+        requires first { samples.old.tick ≡ 0 }
+        requires finished { range.end ≤ finished_ticks history.now.scenario.shape history.now.entries }
+    {
+        for j in 0..range.end {
+            if j + 1 == range.end {
+                self.keep_rows(samples)?;
+            }
+            let sample = samples.next(history);
+            if range.from <= j {
+                self.add(&sample, sizes);
+            }
+        }
+        Ok(())
+    }
+
+    /// Keeps the rows that stand now.
+    fn keep_rows(&mut self, samples: &Samples) -> Result<(), NoMemory> {
+        self.rows
+            .extend_from_slice(samples.cursor.core.history().rows())
+    }
+
+    /// Adds a sample.
+    fn add(&mut self, sample: &Sample, sizes: Sizes) {
+        if sample.unchanged {
+            self.unchanged = self.unchanged.saturating_add(1);
+        }
+        if !sample.full {
+            self.partial = Some(sample.tick);
+        }
+        for p in 0..PARTITIONS {
+            self.found[p] = self.found[p].with(sample, sizes, p);
+        }
+    }
+}
+
+impl Found {
+    /// What is found with one sample more, of the partition with this number.
+    fn with(&self, sample: &Sample, sizes: Sizes, p: usize) -> Found
+        requires { p < 32 }
+    {
+        let whole = sizes.whole(sample.window);
+        let used = sample.usage.used[p];
+        let peak = Peak {
+            tick: sample.tick,
+            used,
+            whole,
+            share: share_of(used, whole),
+        };
+        let highest = highest_of(sample, sizes, p);
+        Found {
+            scale: self.scale.max(scale_of(highest, whole)),
+            critical: self.critical || sample.usage.critical[p] > 0,
+            most: more(self.most, peak, sample.full),
+            least: less(self.least, peak, sample.demand[p]),
+        }
+    }
+}
+
+/// How many parts of 1,000 of the whole this is, rounded down.
+fn share_of(used: Nanos, whole: Nanos) -> u128 {
+    if whole == 0 {
+        return 0;
+    }
+    u128::from(used) * 1000 / u128::from(whole)
+}
+
+/// The greatest of what is drawn of a partition in a sample, in ns.
+fn highest_of(sample: &Sample, sizes: Sizes, p: usize) -> Nanos
+    requires { p < 32 }
+{
+    let drawn = sample.usage.used[p].max(sample.allowance[p]);
+    if sample.unchanged {
+        drawn.max(bound_of(sample, sizes, p))
+    } else {
+        drawn
+    }
+}
+
+/// What a partition uses at most in a window without a change, in ns: what it is allowed, its critical time and its free time,
+/// and a tick of each processor where it is allowed anything.
+pub fn bound_of(sample: &Sample, sizes: Sizes, p: usize) -> Nanos
+    requires { p < 32 }
+{
+    let allowance = sample.allowance[p];
+    let slack = if allowance > 0 {
+        sizes.tick_of_all()
+    } else {
+        0
+    };
+    // no sum comes near the greatest number
+    allowance
+        .saturating_add(sample.usage.critical[p])
+        .saturating_add(sample.free[p])
+        .saturating_add(slack)
+}
+
+/// The first of the greatest so far, where the peak counts.
+fn more(most: Option<Peak>, peak: Peak, counts: bool) -> Option<Peak> {
+    match most {
+        Some(first) if !counts || peak.share <= first.share => Some(first),
+        _ => if counts { Some(peak) } else { None },
+    }
+}
+
+/// The first of the least so far, where the peak counts.
+fn less(least: Option<Peak>, peak: Peak, counts: bool) -> Option<Peak> {
+    match least {
+        Some(first) if !counts || first.share <= peak.share => Some(first),
+        _ => if counts { Some(peak) } else { None },
+    }
+}

@@ -1,0 +1,3 @@
+pub mod Number
+pub mod Step
+pub mod Span

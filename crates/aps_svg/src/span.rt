@@ -1,0 +1,56 @@
+//! The time that a picture shows.
+ghost use Rattle.std.specs.Prelude.{◌≡◌, ◌+◌, ◌-◌, ◌<◌, ◌≤◌};
+ghost use Rattle.aps_svg.specs.Span.{x_of};
+
+use crate::sharing::share;
+use aps_model::Nanos;
+
+/// Where the time that is shown begins and ends on a picture, in units from the left.
+pub const LEFT: u64 = 1400;
+
+pub const PLOT: u64 = 12_000;
+
+/// From one moment to a later one (ns), which are at most 100,000,000,000,000,000.
+#[derive(Clone, Copy)]
+pub struct Span {
+    pub from: Nanos,
+    pub to: Nanos,
+    ghost some: { from < to },
+    ghost early: { to ≤ 100000000000000000 },
+}
+
+impl Span {
+    /// How long it is.
+    pub fn length(&self) -> Nanos
+        ensures same { result ≡ self.now.to - self.now.from }
+        ensures some { 0 < result }
+        ensures few { result ≤ 100000000000000000 }
+    {
+        self.to - self.from
+    }
+
+    /// Whether time from one moment to another meets the span.
+    pub fn meets(&self, from: Nanos, to: Nanos) -> bool {
+        self.from < to && from < self.to
+    }
+
+    /// Whether the span has this moment; its end is one of it too.
+    pub fn has(&self, moment: Nanos) -> bool {
+        self.from <= moment && moment <= self.to
+    }
+
+    /// How much of the time from one moment to another lies in the span.
+    pub fn within(&self, from: Nanos, to: Nanos) -> Nanos {
+        to.min(self.to).saturating_sub(from.max(self.from))
+    }
+
+    /// Where a moment stands on the picture, in units from the left; one outside stands at the nearer end.
+    pub fn x_of(&self, moment: Nanos) -> u64
+        ensures same { result ≡ x_of self.now.from self.now.to moment }
+        ensures least { 1400 ≤ result }
+        ensures most { result ≤ 13400 }
+    {
+        let shown = moment.max(self.from).min(self.to);
+        LEFT + share(shown - self.from, PLOT, self.to - self.from)
+    }
+}

@@ -1,0 +1,33 @@
+//! Round steps for a scale.
+ghost use Rattle.std.specs.Prelude.{◌≡◌, ℕ, ◌+◌, ◌*◌, ◌<◌, ◌≤◌};
+ghost use Rattle.aps_svg.specs.Step.{IsRound};
+
+/// The least round step by which a length is divided into at most so many: 1, 2 or 5 times a power of ten.
+pub fn step_of(length: u64, most: u64) -> u64
+    requires some { 0 < most }
+    requires short { length ≤ 100000000000000000 }
+    ensures some { 1 ≤ result }
+    ensures few { result ≤ 1000000000000000000 }
+    ensures round { IsRound result }
+    ensures enough { length ≤ result * most }
+    ensures least { (step : ℕ) → IsRound step → length ≤ step * most → result ≤ step }
+{
+    round_at_least(length.div_ceil(most))
+}
+
+/// The least round number that isn't below this one.
+fn round_at_least(number: u64) -> u64
+    requires { number ≤ 100000000000000000 }
+    ensures some { 1 ≤ result }
+    ensures round { IsRound result }
+    ensures enough { number ≤ result }
+    ensures least { (step : ℕ) → IsRound step → number ≤ step → result ≤ step }
+    ensures near { 2 ≤ number → 2 * result + 5 ≤ 5 * number }
+{
+    match number {
+        0 | 1 => 1,
+        2 => 2,
+        3..=5 => 5,
+        _ => 10 * round_at_least(number.div_ceil(10)),
+    }
+}

@@ -1,0 +1,207 @@
+//! The strips below the lanes: overspent budgets, and changes.
+ghost use Rattle.std.specs.Prelude.{◌≡◌, ◌+◌, ◌*◌, ◌<◌, ◌≤◌, length};
+
+use aps_bars::text::{add_alteration, row_name};
+use aps_bars::{Alteration, Overspent};
+use aps_model::{NoMemory, ThreadRow};
+use aps_pictures::Scene;
+use aps_svg::element::add_text;
+use aps_svg::glyph::add_glyph;
+use aps_svg::{Anchor, Glyph, Place, Span};
+use std::alloc::Global;
+use std::fmt::Write;
+
+/// How near a mark may stand to the last one drawn, and how much of the space before the next one stays empty.
+const NEAR: u64 = 80;
+
+const EMPTY: u64 = 70;
+
+/// How wide a letter is, and how wide a picture.
+const LETTER: u64 = 62;
+
+const WIDTH: u64 = 14_000;
+
+/// How far a strip is below the last one.
+const STRIP: u64 = 240;
+
+/// A mark that is drawn: where, its place in its list, and how many of those behind it are left out.
+#[derive(Clone, Copy)]
+struct Mark {
+    x: u64,
+    place: usize,
+    more: u64,
+    ghost inside: { x ≤ 14000 },
+}
+
+/// The marks of both strips.
+#[derive(Drop)]
+pub struct Strips {
+    overspent: Vec<Mark>,
+    changes: Vec<Mark>,
+}
+
+impl Strips {
+    /// How many strips have a mark.
+    pub fn count(&self) -> u64
+        ensures { result ≤ 2 }
+    {
+        let overspent = if self.overspent.is_empty() { 0 } else { 1 };
+        let changes = if self.changes.is_empty() { 0 } else { 1 };
+        overspent + changes
+    }
+}
+
+/// The marks of the strips in this span.
+pub fn strips_of(
+    alloc: Global,
+    span: &Span,
+    alterations: &[Alteration],
+    overspent: &[Overspent],
+) -> Result<Strips, NoMemory> {
+    let mut strips = Strips {
+        overspent: Vec::new(alloc),
+        changes: Vec::new(alloc),
+    };
+    for (i, one) in overspent.iter().enumerate() {
+        if span.has(one.moment) {
+            add_mark(&mut strips.overspent, span.x_of(one.moment), i)?;
+        }
+    }
+    for (i, one) in alterations.iter().enumerate() {
+        if span.has(one.moment) {
+            add_mark(&mut strips.changes, span.x_of(one.moment), i)?;
+        }
+    }
+    Ok(strips)
+}
+
+/// The mark of what stands at this place of its list: it is counted at the last one where it is too near that.
+fn add_mark(marks: &mut Vec<Mark>, x: u64, place: usize) -> Result<(), NoMemory>
+    requires { x ≤ 14000 }
+{
+    if let Some(last) = marks.last_mut() {
+        if x < last.x + NEAR {
+            last.more = last.more.saturating_add(1);
+            return Ok(());
+        }
+    }
+    marks.push(Mark { x, place, more: 0 })?;
+    Ok(())
+}
+
+/// The strips that have a mark.
+pub fn add_strips(
+    alloc: Global,
+    out: &mut String,
+    threads: &[ThreadRow],
+    scene: &Scene,
+    strips: &Strips,
+    alterations: &[Alteration],
+    overspent: &[Overspent],
+    foot: u64,
+) -> Result<(), NoMemory>
+    requires { foot ≤ 1000000 }
+{
+    let mut y = foot;
+    if !strips.overspent.is_empty() {
+        add_overspent(alloc, out, scene, &strips.overspent, overspent, y)?;
+        y += STRIP;
+    }
+    if !strips.changes.is_empty() {
+        add_changes(alloc, out, threads, scene, &strips.changes, alterations, y)?;
+    }
+    Ok(())
+}
+
+/// The strip of overspent budgets: each with its partition.
+fn add_overspent(
+    alloc: Global,
+    out: &mut String,
+    scene: &Scene,
+    marks: &[Mark],
+    overspent: &[Overspent],
+    y: u64,
+) -> Result<(), NoMemory>
+    requires { y ≤ 2000000 }
+{
+    add_label(out, y, "overspent")?;
+    for i in 0..marks.len() {
+        let mut text = String::new(alloc);
+        if let Some(one) = overspent.get(marks[i].place) {
+            text.push_str(row_name(scene.rows.as_slice(), one.partition))?;
+        }
+        add_marked(out, Glyph::Spent, marks, i, y, text)?;
+    }
+    Ok(())
+}
+
+/// The strip of changes: each with its words.
+fn add_changes(
+    alloc: Global,
+    out: &mut String,
+    threads: &[ThreadRow],
+    scene: &Scene,
+    marks: &[Mark],
+    alterations: &[Alteration],
+    y: u64,
+) -> Result<(), NoMemory>
+    requires { y ≤ 2000000 }
+{
+    add_label(out, y, "changes")?;
+    for i in 0..marks.len() {
+        let mut text = String::new(alloc);
+        if let Some(one) = alterations.get(marks[i].place) {
+            add_alteration(&mut text, threads, scene.rows.as_slice(), one)?;
+        }
+        add_marked(out, Glyph::Change, marks, i, y, text)?;
+    }
+    Ok(())
+}
+
+fn add_label(out: &mut String, y: u64, label: &str) -> Result<(), NoMemory>
+    requires { y ≤ 2000000 }
+{
+    let place = Place {
+        x: 1300,
+        y: y + 130,
+    };
+    add_text(out, place, 110, Anchor::End, label)
+}
+
+/// The mark at this place, and its text where there is room before the next one.
+fn add_marked(
+    out: &mut String,
+    glyph: Glyph,
+    marks: &[Mark],
+    i: usize,
+    y: u64,
+    mut text: String,
+) -> Result<(), NoMemory>
+    requires place { i < length marks.now }
+    requires y { y ≤ 2000000 }
+{
+    let Mark { x, more, .. } = marks[i];
+    add_glyph(out, glyph, x, y + 60)?;
+    if more > 0 {
+        write!(text, " +{more}")?;
+    }
+    if room_behind(marks, i) / LETTER < text.len() as u64 {
+        return Ok(());
+    }
+    let place = Place {
+        x: x + 60,
+        y: y + 130,
+    };
+    add_text(out, place, 100, Anchor::Start, text.as_str())
+}
+
+/// How much room there is for a text behind the mark at this place.
+fn room_behind(marks: &[Mark], i: usize) -> u64
+    requires { i < length marks.now }
+{
+    let end = match marks.get(i + 1) {
+        Some(next) => next.x.saturating_sub(EMPTY),
+        None => WIDTH,
+    };
+    end.saturating_sub(marks[i].x + 60)
+}

@@ -1,0 +1,45 @@
+use Rattle.std.proofs.Common.{◌≡◌, ◌≤◌, length, ap, arith}
+use Rattle.aps_model.specs.History.{History}
+use Rattle.aps_view.proofs.report.report.Goals as goal
+
+pub cycles_text-requires-clause-few : goal.cycles_text-requires-clause-few
+cycles_text-requires-clause-few c =
+    let h = c.history-history.result.now in
+    let fit : length h.entries ≤ h.room.entries = c.entries-entries.ensures.keeps.entries_fit in
+    let room : h.room.entries ≡ c.args.core.now.setup.limit = ap (λ (k : History). k.room.entries) c.history-history.ensures.same in
+    omega (arith, fit, room, c.requires.few)
+
+pub csv-requires-clause-few : goal.csv-requires-clause-few
+csv-requires-clause-few c =
+    let h = c.history-history.result.now in
+    let fit : length h.entries ≤ h.room.entries = c.entries-entries.ensures.keeps.entries_fit in
+    let room : h.room.entries ≡ c.args.core.now.setup.limit = ap (λ (k : History). k.room.entries) c.history-history.ensures.same in
+    omega (arith, fit, room, c.requires.few)
+
+pub latency_text-requires-clause-few : goal.latency_text-requires-clause-few
+latency_text-requires-clause-few c =
+    let h = c.history-history.result.now in
+    let fit : length h.entries ≤ h.room.entries = c.entries-entries.ensures.keeps.entries_fit in
+    let room : h.room.entries ≡ c.args.core.now.setup.limit = ap (λ (k : History). k.room.entries) c.history-history.ensures.same in
+    omega (arith, fit, room, c.requires.few)
+
+pub explained-requires-clause-few : goal.explained-requires-clause-few
+explained-requires-clause-few c =
+    let h = c.history-history.result.now in
+    let fit : length h.entries ≤ h.room.entries = c.entries-entries.ensures.keeps.entries_fit in
+    let room : h.room.entries ≡ c.args.core.now.setup.limit = ap (λ (k : History). k.room.entries) c.history-history.ensures.same in
+    omega (arith, fit, room, c.requires.few)
+
+pub shares_text-requires-clause-few : goal.shares_text-requires-clause-few
+shares_text-requires-clause-few c =
+    let h = c.history-history.result.now in
+    let fit : length h.entries ≤ h.room.entries = c.entries-entries.ensures.keeps.entries_fit in
+    let room : h.room.entries ≡ c.args.core.now.setup.limit = ap (λ (k : History). k.room.entries) c.history-history.ensures.same in
+    omega (arith, fit, room, c.requires.few)
+
+pub drawn-requires-clause-few : goal.drawn-requires-clause-few
+drawn-requires-clause-few c =
+    let h = c.history-history.result.now in
+    let fit : length h.entries ≤ h.room.entries = c.entries-entries.ensures.keeps.entries_fit in
+    let room : h.room.entries ≡ c.args.core.now.setup.limit = ap (λ (k : History). k.room.entries) c.history-history.ensures.same in
+    omega (arith, fit, room, c.requires.few)
