@@ -1,5 +1,8 @@
-use Rattle.std.proofs.Common.{◌≡◌, ◌≤◌, length, ap, arith}
+use Rattle.std.proofs.Common.{◌≡◌, ◌≤◌, ◌∙◌, List, ℕ, Some, length, string_bytes, ap, subst, sym, arith}
 use Rattle.aps_model.specs.History.{History}
+use Rattle.aps_shares.specs.Text.{shares_text}
+use Rattle.aps_view_words.specs.declared.asked.Report.{Report}
+use Rattle.aps_view.specs.Report.{IsReport}
 use Rattle.aps_view.proofs.report.report.Goals as goal
 
 pub cycles_text-requires-clause-few : goal.cycles_text-requires-clause-few
@@ -43,3 +46,10 @@ drawn-requires-clause-few c =
     let fit : length h.entries ≤ h.room.entries = c.entries-entries.ensures.keeps.entries_fit in
     let room : h.room.entries ≡ c.args.core.now.setup.limit = ap (λ (k : History). k.room.entries) c.history-history.ensures.same in
     omega (arith, fit, room, c.requires.few)
+
+pub returns-in_ok-shares_text-in-Shares : goal.returns-in_ok-shares_text-in-Shares
+returns-in_ok-shares_text-in-Shares c =
+    let core = c.args.core.now in
+    let text = string_bytes c.in_ok-shares_text-in-Shares.field-0 in
+    subst (λ (r : Report). IsReport r core.setup.scenario core.entries (Some text)) (sym c.in-Shares.is)
+    (ap (λ (t : List ℕ). Some t) (c.in_ok-shares_text-in-Shares.ensures ∙ ap (λ (k : History). shares_text k.scenario k.entries) c.history-history.ensures.same))
