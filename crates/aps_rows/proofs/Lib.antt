@@ -1,6 +1,6 @@
 pub mod Line
 pub mod Checks
-mod Rows
+pub mod Rows
 mod MoreRows
 mod TreeRows
 mod MoreChecks

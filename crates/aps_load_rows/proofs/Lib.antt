@@ -1,0 +1,8 @@
+mod Works
+mod ShareHadBefore
+mod LongWithoutTime
+mod LessThanATick
+mod HalfItsShare
+mod ShortByTheSlack
+mod PassedOver
+mod ResponseLost
