@@ -3,15 +3,15 @@ use Rattle.std.proofs.Common.{◌≡◌, ℕ, ◌<◌, ◌≤◌, ◌⊎◌, Lis
 use Rattle.std.proofs.lemmas.List.{append-nil, length-append}
 use Rattle.aps_view_words.specs.declared.asked.Asked.{Asked}
 use Rattle.aps_view.specs.declared.outcome.Outcome.{Outcome}
-use Rattle.aps_view.specs.declared.outcome.Outcome.TheVariants.{WordsRefused, ReadFault, TooLong, InputRefused, Reported, Broken, NoMemory}
+use Rattle.aps_view.specs.declared.outcome.Outcome.TheVariants.{WordsRefused, ReadFault, TooLong, InputRefused, Reported, Traced, Broken, NoMemory}
 use Rattle.aps_view.specs.declared.status.Status.{Status}
 use Rattle.aps_view.specs.declared.status.Status.TheVariants as status
 use Rattle.aps_view.specs.Answer.{IsAnswer}
 use Rattle.aps_view.specs.Cause.{HasCause, HasCauseIn, IsOfWhole, told_by}
-use Rattle.aps_view.specs.Due.{Due, IsDue, IsDueOfInput, IsDueTold}
+use Rattle.aps_view.specs.Due.{Due, IsAdded, IsDue, IsDueOfInput, IsDueTold}
 use Rattle.aps_view.specs.Intake.{Intake, intake_of, most_bytes}
 use Rattle.aps_view.specs.Outcome.{status_of, text_of}
-use Rattle.aps_view.specs.Printing.{Prints, output_of}
+use Rattle.aps_view.specs.Printing.{Says, output_of}
 use Rattle.aps_view.specs.Status.{code}
 
 -- want of memory is a cause of its own, whatever was asked for
@@ -40,6 +40,7 @@ unasked intake bytes input ReadFault h = absurd h
 unasked intake bytes input TooLong h = absurd h
 unasked intake bytes input (InputRefused refusal) h = absurd h
 unasked intake bytes input (Reported status text) h = absurd h
+unasked intake bytes input (Traced traced) h = absurd h
 unasked intake bytes input (Broken verdict) h = absurd h
 unasked intake bytes input NoMemory h = inl refl
 
@@ -50,24 +51,36 @@ outcome_due (Some asked) input bytes rest outcome taken h = is_due asked input b
 
 -- ---- what was told
 
+-- the text was told under the status that is due, or memory ran out
 module _ (before after : List ℕ) (told : ℕ) (came : Status) (is : told ≡ code came) where
-  printed_due : (asked : Option Asked) (input : List ℕ) (due : Due) → IsDue asked input due → Prints (output_of (Some before) (Some after) 0 0) due.text due.status came
-      → IsDueTold asked input before after told
-  printed_due asked input due h (inl whole) = inl (due, h, is ∙ ap code whole.0, whole.1)
-  printed_due asked input due h (inr (inl fault)) = absurd (omega (arith, fault.1))
-  printed_due asked input due h (inr (inr lack)) = inr (is ∙ ap code lack.0)
+  said_due : (text : Option (List ℕ)) (wanted : Status) → Says (output_of (Some before) (Some after) 0 0) text wanted came
+      → ((told ≡ code wanted) × IsAdded before after text) ⊎ (told ≡ code status.NoMemory)
+  said_due (Some text) wanted (inl whole) = inl (is ∙ ap code whole.0, whole.1)
+  said_due (Some text) wanted (inr (inl fault)) = absurd (omega (arith, fault.1))
+  said_due (Some text) wanted (inr (inr lack)) = inr (is ∙ ap code lack.0)
+  said_due None wanted (inl same) = inl (is ∙ ap code same, tt)
+  said_due None wanted (inr (inl fault)) = absurd (omega (arith, fault.1))
+  said_due None wanted (inr (inr lack)) = inr (is ∙ ap code lack)
 
-  nothing_due : (text : List ℕ) → Prints (output_of (Some before) (Some after) 0 0) text status.NoMemory came → told ≡ code status.NoMemory
-  nothing_due text (inl whole) = is ∙ ap code whole.0
-  nothing_due text (inr (inl fault)) = absurd (omega (arith, fault.1))
-  nothing_due text (inr (inr lack)) = is ∙ ap code lack.0
+  printed_due : (asked : Option Asked) (input : List ℕ) (due : Due) → IsDue asked input due
+      → Says (output_of (Some before) (Some after) 0 0) due.text due.status came → IsDueTold asked input before after told
+  printed_due asked input due h said = elim (said_due due.text due.status said) [
+    | inl came ↦ inl (due, h, came.0, came.1)
+    | inr lack ↦ inr lack
+  ]
+
+  nothing_due : (text : Option (List ℕ)) → Says (output_of (Some before) (Some after) 0 0) text status.NoMemory came → told ≡ code status.NoMemory
+  nothing_due text said = elim (said_due text status.NoMemory said) [
+    | inl came ↦ came.0
+    | inr lack ↦ lack
+  ]
 
 pub calm_answer : (asked : Option Asked) (input rest before after : List ℕ) (told : ℕ)
     → IsAnswer asked (intake_of (Some input) (Some rest) 0 0) (output_of (Some before) (Some after) 0 0) told → IsDueTold asked input before after told
 calm_answer asked input rest before after told a =
     elim (outcome_due asked input a.bytes rest a.outcome a.read a.cause) [
       | inl none ↦
-          let P : Status → Type 0 = λ wanted. Prints (output_of (Some before) (Some after) 0 0) (text_of a.outcome) wanted a.status in
+          let P : Status → Type 0 = λ wanted. Says (output_of (Some before) (Some after) 0 0) (text_of a.outcome) wanted a.status in
           inr (nothing_due before after told a.status a.told_is (text_of a.outcome) (subst P (ap status_of none) a.printed))
       | inr due ↦ printed_due before after told a.status a.told_is asked input (told_by a.outcome) due a.printed
     ]

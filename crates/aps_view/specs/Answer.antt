@@ -7,7 +7,7 @@ use Rattle.aps_view.specs.declared.status.Status.{Status}
 use Rattle.aps_view.specs.Cause.{HasCause}
 use Rattle.aps_view.specs.Intake.{Intake}
 use Rattle.aps_view.specs.Outcome.{status_of, text_of}
-use Rattle.aps_view.specs.Printing.{Output, Prints}
+use Rattle.aps_view.specs.Printing.{Output, Says}
 use Rattle.aps_view.specs.Status.{code}
 
 -- the answer of a call that was asked for this, over this source and this sink
@@ -21,4 +21,4 @@ pub record IsAnswer (asked : Option Asked) (intake : Intake) (output : Output) (
   -- it wrote the text of that, and told its status
   pub status : Status
   pub told_is : told ≡ code status
-  pub printed : Prints output (text_of outcome) (status_of outcome) status
+  pub printed : Says output (text_of outcome) (status_of outcome) status

@@ -1,5 +1,5 @@
 -- The status and the text that are due, where neither reading nor writing fails and memory doesn't run out.
-use Rattle.std.specs.Prelude.{◌≡◌, ℕ, ◌<◌, ◌≤◌, ◌⊎◌, ◌++◌, List, codes, drop, length, take, Option, Some, None, Result, Ok, Err}
+use Rattle.std.specs.Prelude.{◌≡◌, ℕ, ◌<◌, ◌≤◌, ◌⊎◌, ◌++◌, List, codes, drop, length, take, Option, Some, None, Result, Ok, Err, ⊤}
 use Rattle.aps_model.specs.declared.entry.End.{End}
 use Rattle.aps_model.specs.declared.entry.Entry.{Entry}
 use Rattle.aps_model.specs.declared.entry.Order.TheVariants.{Free}
@@ -19,37 +19,44 @@ use Rattle.aps_text.specs.Place.{Place}
 use Rattle.aps_text.specs.Refusal.{IsFirstBad}
 use Rattle.aps_text.specs.Separator.{journal_place}
 use Rattle.aps_view_words.specs.declared.asked.Asked.{Asked}
+use Rattle.aps_view_words.specs.declared.asked.Report.{Report}
+use Rattle.aps_view_words.specs.declared.asked.Trace.{Trace}
 use Rattle.aps_view.specs.declared.refusal.InputRefusal.{InputRefusal}
 use Rattle.aps_view.specs.declared.refusal.InputRefusal.TheVariants.{Text, BadJournal, UnknownThread}
 use Rattle.aps_view.specs.declared.status.Status.{Status}
 use Rattle.aps_view.specs.declared.status.Status.TheVariants.{Done, WordsRefused, InputRefused, NoMemory, TooLong, JournalBreaks}
 use Rattle.aps_view.specs.Intake.{most_bytes, most_scenario_bytes}
 use Rattle.aps_view.specs.Refusal.{refusal_text}
-use Rattle.aps_view.specs.Report.{IsReport}
+use Rattle.aps_view.specs.Report.{IsReport, trace_of}
 use Rattle.aps_view.specs.Status.{code, status_of_end}
 
+-- a status, and a text where it is said what is written
 pub record Due : Type 0 where
   pub status : Status
-  pub text : List ℕ
+  pub text : Option (List ℕ)
 
 abbrev pub words_refused : Due
-words_refused = record { status = WordsRefused; text = codes "aps: words refused\n" }
+words_refused = record { status = WordsRefused; text = Some (codes "aps: words refused\n") }
 
 abbrev pub too_long : Due
-too_long = record { status = TooLong; text = codes "aps: input too long\n" }
+too_long = record { status = TooLong; text = Some (codes "aps: input too long\n") }
 
 abbrev pub refused : InputRefusal → Due
-refused refusal = record { status = InputRefused; text = refusal_text refusal }
+refused refusal = record { status = InputRefused; text = Some (refusal_text refusal) }
 
 -- the text of a report under this status; without one it was asked about a thread that the scenario hasn't
 abbrev pub reported : Status → Option (List ℕ) → Due
-reported status (Some text) = record { status = status; text = text }
+reported status (Some text) = record { status = status; text = Some text }
 reported status None = refused UnknownThread
 
--- what is due where a report of a history was asked for, under this status
-abbrev pub IsReported : Asked → Scenario → List Entry → Status → Due → Type 0
-IsReported asked scenario h status due =
-    (text : Option (List ℕ)) × IsReport asked.report scenario h text × (due ≡ reported status text)
+-- what is due where a report of a history was asked for, under this status; of a trace the status alone
+abbrev pub IsReportedBy : Option Trace → Report → Scenario → List Entry → Status → Due → Type 0
+IsReportedBy (Some trace) report scenario h status due = due ≡ record { status = status; text = None }
+IsReportedBy None report scenario h status due =
+    (text : Option (List ℕ)) × IsReport report scenario h text × (due ≡ reported status text)
+
+abbrev pub IsReported : Report → Scenario → List Entry → Status → Due → Type 0
+IsReported report scenario h status due = IsReportedBy (trace_of report) report scenario h status due
 
 -- ---- a scenario alone
 
@@ -62,7 +69,7 @@ status_by None = Done
 abbrev pub IsDueOfRun : Asked → Scenario → Due → Type 0
 IsDueOfRun asked scenario due =
     let h = fixed_run scenario asked.limit in
-    IsReported asked scenario h (status_by (end_of scenario asked.limit h)) due
+    IsReported asked.report scenario h (status_by (end_of scenario asked.limit h)) due
 
 abbrev pub IsDueOfScenario : Asked → Result Scenario Refusal → Due → Type 0
 IsDueOfScenario asked (Ok scenario) due = IsDueOfRun asked scenario due
@@ -81,9 +88,9 @@ judging asked scenario = record { scenario = scenario; order = Free; limit = ask
 
 -- the report of the journal's entries where these are legal, whether their run has ended or not; else the verdict
 abbrev pub IsDueOfVerdict : Asked → Scenario → List Entry → Verdict → Due → Type 0
-IsDueOfVerdict asked scenario h (Legal end) due = IsReported asked scenario h Done due
+IsDueOfVerdict asked scenario h (Legal end) due = IsReported asked.report scenario h Done due
 IsDueOfVerdict asked scenario h (Breaks place rule expected) due =
-    due ≡ record { status = JournalBreaks; text = verdict_text (Breaks place rule expected) }
+    due ≡ record { status = JournalBreaks; text = Some (verdict_text (Breaks place rule expected)) }
 
 abbrev pub IsDueOfEntries : Asked → Scenario → List Entry → Due → Type 0
 IsDueOfEntries asked scenario h due =
@@ -116,7 +123,12 @@ IsDue None input due = due ≡ words_refused
 IsDue (Some asked) input due =
     ((most_bytes < length input) × (due ≡ too_long)) ⊎ ((length input ≤ most_bytes) × IsDueOfInput asked input due)
 
+-- what was written is the text, where there is one
+abbrev pub IsAdded : List ℕ → List ℕ → Option (List ℕ) → Type 0
+IsAdded before after None = ⊤
+IsAdded before after (Some text) = after ≡ before ++ text
+
 -- the status that is due came, and its text was written; or memory ran out
 abbrev pub IsDueTold : Option Asked → List ℕ → List ℕ → List ℕ → ℕ → Type 0
 IsDueTold asked input before after told =
-    ((due : Due) × IsDue asked input due × (told ≡ code due.status) × (after ≡ before ++ due.text)) ⊎ (told ≡ code NoMemory)
+    ((due : Due) × IsDue asked input due × (told ≡ code due.status) × IsAdded before after due.text) ⊎ (told ≡ code NoMemory)

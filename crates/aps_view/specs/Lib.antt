@@ -1,9 +1,9 @@
 pub mod Naming
-pub mod Asked
 pub mod Status
 pub mod Printing
 pub mod Intake
 pub mod Report
+pub mod Traced
 pub mod Refusal
 pub mod Outcome
 pub mod Due

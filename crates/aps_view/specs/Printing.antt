@@ -1,5 +1,5 @@
 -- How a text goes to a sink.
-use Rattle.std.specs.Prelude.{◌≡◌, ℕ, ◌≤◌, ◌⊎◌, List, length, take, Option}
+use Rattle.std.specs.Prelude.{◌≡◌, ℕ, ◌≤◌, ◌⊎◌, List, length, take, Option, Some, None}
 use Rattle.std.specs.Io.KnownBytes.{Appends}
 use Rattle.aps_io.specs.Causes.{Rose}
 use Rattle.aps_view.specs.declared.status.Status.{Status}
@@ -29,3 +29,15 @@ Prints output text wanted status =
     ((status ≡ wanted) × WritesWhole output text)
     ⊎ ((status ≡ or_write_fault wanted) × Rose output.faults_before output.faults × WritesPrefix output text)
     ⊎ ((status ≡ NoMemory) × WritesPrefix output text)
+
+-- something was to be written under a status, of which nothing more is said
+abbrev pub PrintsSome : Output → Status → Status → Type 0
+PrintsSome output wanted status =
+    (status ≡ wanted)
+    ⊎ ((status ≡ or_write_fault wanted) × Rose output.faults_before output.faults)
+    ⊎ (status ≡ NoMemory)
+
+-- the same, where perhaps it is said what
+abbrev pub Says : Output → Option (List ℕ) → Status → Status → Type 0
+Says output (Some text) wanted status = Prints output text wanted status
+Says output None wanted status = PrintsSome output wanted status

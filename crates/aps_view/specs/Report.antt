@@ -11,6 +11,7 @@ use Rattle.aps_shares.specs.Text.{shares_text}
 use Rattle.aps_view_words.specs.declared.asked.Report.{Report}
 use Rattle.aps_view_words.specs.declared.asked.Report.TheVariants.{Cycles, Csv, Shares, Latency, Explain, Picture, Trace}
 use Rattle.aps_view_words.specs.declared.asked.Ticks.{Ticks}
+use Rattle.aps_view_words.specs.declared.asked.Trace.{Trace as TraceAsked}
 use Rattle.aps_view.specs.Naming.{thread_named}
 
 -- these ticks, for the table of samples
@@ -20,6 +21,11 @@ told ticks = record { from = ticks.from; to = ticks.to }
 -- why the thread of this name runs at a moment, or doesn't; nothing where the scenario has no thread of that name
 abbrev pub explained : Scenario → List Entry → Option (List ℕ) → ℕ → Option (List ℕ)
 explained scenario h thread at = option_map (λ x. explain_text scenario h x at) (thread_named scenario.threads thread)
+
+-- the trace that a report is, if it is one
+abbrev pub trace_of : Report → Option TraceAsked
+trace_of (Trace trace) = Some trace
+trace_of report = None
 
 -- the text is this report of a history, or nothing where the scenario has no thread of the name that it is asked about; of a
 -- picture it is said that there is a text, and not how it is drawn

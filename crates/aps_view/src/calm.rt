@@ -1,6 +1,6 @@
 //! The whole program over bytes in memory.
 ghost use Rattle.std.specs.Prelude.{map, string_bytes};
-ghost use Rattle.aps_view.specs.Asked.{asked};
+ghost use Rattle.aps_view_words.specs.Asked.{asked};
 ghost use Rattle.aps_view.specs.Due.{IsDueTold};
 
 use crate::top::top;

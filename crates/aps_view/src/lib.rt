@@ -2,7 +2,6 @@
 //! definitions.
 #![tactic(auto)]
 
-mod asked;
 pub mod calm;
 mod drawing;
 mod naming;
@@ -13,4 +12,5 @@ mod refusal;
 mod report;
 pub mod status;
 pub mod top;
+mod traced;
 mod viewing;

@@ -1,19 +1,20 @@
 //! The outcome of a call of the program, by its words and its input.
 ghost use Rattle.std.specs.Prelude.{◌≡◌, map, string_bytes};
 ghost use Rattle.aps_check.specs.Text.{verdict_text};
-ghost use Rattle.aps_view.specs.Asked.{asked};
+ghost use Rattle.aps_view_words.specs.Asked.{asked};
 ghost use Rattle.aps_view.specs.Cause.{IsOutcome};
 ghost use Rattle.aps_view.specs.Intake.{intake_of};
 ghost use Rattle.aps_view.specs.Outcome.{status_of, text_of};
-ghost use Rattle.aps_view.specs.Printing.{Prints, output_of};
+ghost use Rattle.aps_view.specs.Printing.{Prints, Says, output_of};
 
-use crate::asked::asked_of;
 use crate::printing::print;
 use crate::reading::outcome_of;
 use crate::refusal::{InputRefusal, print_refusal};
 use crate::status::Status;
+use crate::traced::Traced;
 use aps_check::Verdict;
 use aps_io::{Sink, Source};
+use aps_view_words::asked_of;
 use aps_words::WordsRefusal;
 use std::alloc::Global;
 
@@ -30,6 +31,8 @@ pub enum Outcome {
     InputRefused(InputRefusal),
     /// This is the report of a run, or of a legal journal, under this status.
     Reported { status: Status, text: String },
+    /// This is the history that is told as a trace.
+    Traced(Traced),
     /// The journal breaks a rule, as this verdict says.
     Broken { verdict: Verdict },
     /// There was no memory.
@@ -51,7 +54,7 @@ impl Outcome {
 
     /// Writes the text of the outcome, and gives the status that comes of it.
     pub fn say<K: Sink>(&self, alloc: Global, sink: &mut K) -> Status
-        ensures { Prints (output_of (K.written sink.old) (K.written sink.new) (K.faults sink.old) (K.faults sink.new))
+        ensures { Says (output_of (K.written sink.old) (K.written sink.new) (K.faults sink.old) (K.faults sink.new))
             (text_of self.now) (status_of self.now) result }
     {
         match self {
@@ -60,6 +63,7 @@ impl Outcome {
             Outcome::TooLong => print(sink, b"aps: input too long\n", Status::TooLong),
             Outcome::InputRefused(refusal) => print_refusal(alloc, refusal, sink),
             Outcome::Reported { status, text } => print(sink, text.as_bytes(), *status),
+            Outcome::Traced(traced) => traced.say(alloc, sink),
             Outcome::Broken { verdict } => print_verdict(alloc, verdict, sink),
             Outcome::NoMemory => Status::NoMemory,
         }

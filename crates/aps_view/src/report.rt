@@ -14,11 +14,21 @@ use aps_model::{History, Name, Nanos, NoMemory, Order};
 use aps_samples::table;
 use aps_samples::table::csv;
 use aps_shares::shares_text;
-use aps_view_words::{Report, Ticks};
+use aps_view_words::{Report, Ticks, Trace};
 use std::alloc::Global;
 
-/// This report of what the core has recorded, or none where it is asked for a thread that the scenario hasn't.
-pub fn report(alloc: Global, report: Report, core: &Core) -> Result<Option<String>, NoMemory>
+/// The trace that the report is, if it is one.
+pub fn trace_of(report: Report) -> Option<Trace>
+    ensures { result ≡ spec.trace_of report }
+{
+    match report {
+        Report::Trace { trace } => Some(trace),
+        _ => None,
+    }
+}
+
+/// This report of what the core has recorded, or none where it is asked for a thread that the scenario hasn't, or for a trace.
+pub fn report_of(alloc: Global, report: Report, core: &Core) -> Result<Option<String>, NoMemory>
     requires few { core.now.setup.limit ≤ 4000000 }
     ensures { IfOk result (λ text. IsReport report core.now.setup.scenario core.now.entries (option_map string_bytes text)) }
 {

@@ -1,7 +1,7 @@
 //! The whole program as one call: the words, the reading, the run and the printing.
 ghost use Rattle.std.specs.Prelude.{map, string_bytes};
 ghost use Rattle.aps_view.specs.Answer.{IsAnswer};
-ghost use Rattle.aps_view.specs.Asked.{asked};
+ghost use Rattle.aps_view_words.specs.Asked.{asked};
 ghost use Rattle.aps_view.specs.Intake.{intake_of};
 ghost use Rattle.aps_view.specs.Printing.{output_of};
 

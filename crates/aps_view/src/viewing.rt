@@ -1,19 +1,21 @@
 //! What comes of a scenario that is run, and of one with the entries of a journal.
-ghost use Rattle.std.specs.Prelude.{◌≡◌, ◌<◌, ◌≤◌, [], option_map, string_bytes, IfOk};
+ghost use Rattle.std.specs.Prelude.{◌≡◌, ℕ, ◌<◌, ◌≤◌, List, [], Option, option_map, string_bytes, IfOk};
 ghost use Rattle.aps_check.specs.Verdict.{IsRunSoFar};
 ghost use Rattle.aps_core.specs.Turn.{IsTaken, with_entry};
 ghost use Rattle.aps_view.specs.declared.status.Status.TheVariants.{Done};
 ghost use Rattle.aps_view.specs.Cause.{told_by};
 ghost use Rattle.aps_view.specs.Due.{IsDueOfEntries, IsDueOfRun, IsReported, judging, reported};
+ghost use Rattle.aps_view.specs.Report.{IsReport};
 
 use crate::outcome::Outcome;
 use crate::refusal::InputRefusal;
-use crate::report::report;
+use crate::report::{report_of, trace_of};
 use crate::status::Status;
+use crate::traced::Traced;
 use aps_check::{Verdict, check};
 use aps_core::Core;
 use aps_model::{Entry, NoMemory, Order, Scenario};
-use aps_view_words::Asked;
+use aps_view_words::{Asked, Report};
 use std::alloc::Global;
 
 /// Runs the scenario in fixed order, and makes the report that was asked for.
@@ -24,8 +26,36 @@ pub fn ran(alloc: Global, asked: Asked, scenario: Scenario) -> Result<Outcome, N
 {
     let mut core = Core::boot(alloc, scenario, Order::Fixed, asked.limit)?;
     let end = core.finish();
-    let text = report(alloc, asked.report, &core)?;
-    Ok(of_text(Status::of_end(&end), text))
+    let outcome = told(alloc, asked.report, core, Status::of_end(&end))?;
+    Ok(outcome)
+}
+
+/// What comes of what the core has recorded, under this status.
+fn told(alloc: Global, report: Report, core: Core, status: Status) -> Result<Outcome, NoMemory>
+    requires few { core.setup.limit ≤ 4000000 }
+    ensures { IfOk result (λ outcome. IsReported report core.setup.scenario core.entries status (told_by outcome)) }
+{
+    // the check wants a copy for each call
+    let same = report;
+    match trace_of(report) {
+        Some(trace) => Ok(Outcome::Traced(Traced::of(status, trace, core))),
+        None => told_as_text(alloc, same, core, status),
+    }
+}
+
+/// The same, of a report that is a text.
+fn told_as_text(
+    alloc: Global,
+    report: Report,
+    core: Core,
+    status: Status,
+) -> Result<Outcome, NoMemory>
+    requires few { core.setup.limit ≤ 4000000 }
+    ensures { IfOk result (λ outcome. (text : Option (List ℕ)) × IsReport report core.setup.scenario core.entries text
+        × (told_by outcome ≡ reported status text)) }
+{
+    let text = report_of(alloc, report, &core)?;
+    Ok(of_text(status, text))
 }
 
 /// What comes of a history with this report, under this status.
@@ -66,12 +96,11 @@ fn viewed(
     requires some { 1 ≤ asked.limit }
     requires few { asked.limit ≤ 4000000 }
     requires sound { IsRunSoFar (judging asked scenario) entries.now }
-    ensures { IfOk result (λ outcome. IsReported asked scenario entries.now Done (told_by outcome)) }
+    ensures { IfOk result (λ outcome. IsReported asked.report scenario entries.now Done (told_by outcome)) }
 {
     let mut core = Core::boot(alloc, scenario, Order::Free, asked.limit)?;
     retrace(&mut core, entries);
-    let text = report(alloc, asked.report, &core)?;
-    Ok(of_text(Status::Done, text))
+    told(alloc, asked.report, core, Status::Done)
 }
 
 /// The core, which has no entries yet, makes the steps of which these are the entries.

@@ -3,7 +3,7 @@ use Rattle.aps_model.specs.History.{History}
 use Rattle.aps_shares.specs.Text.{shares_text}
 use Rattle.aps_view_words.specs.declared.asked.Report.{Report}
 use Rattle.aps_view.specs.Report.{IsReport}
-use Rattle.aps_view.proofs.report.report.Goals as goal
+use Rattle.aps_view.proofs.report.report_of.Goals as goal
 
 pub cycles_text-requires-clause-few : goal.cycles_text-requires-clause-few
 cycles_text-requires-clause-few c =

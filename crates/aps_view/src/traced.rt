@@ -1,0 +1,86 @@
+//! A history that is told as a trace, for a viewer.
+ghost use Rattle.std.specs.Prelude.{◌≡◌, ◌≤◌, IsErrOf};
+ghost use Rattle.aps_io.specs.Causes.{Rose};
+ghost use Rattle.aps_view.specs.Printing.{PrintsSome, output_of};
+
+use crate::status::Status;
+use aps_core::Core;
+use aps_io::{Sink, write_all};
+use aps_shares::all_overspent;
+use aps_traces::{TraceFault, trace};
+use aps_view_words::Trace;
+use aps_waves::{gtkw, vcd};
+use std::alloc::Global;
+use std::marker::Model;
+
+/// A recorded history of up to 4,000,000 entries that is to be told as a trace, and the status of its run.
+#[derive(Drop)]
+pub struct Traced {
+    status: Status,
+    trace: Trace,
+    core: Core,
+}
+
+impl Model for Traced {
+    ghost use Rattle.std.specs.Prelude.{◌≤◌};
+    ghost use Rattle.aps_view.specs.Traced.{Traced as Plain};
+
+    ghost Value = { Plain };
+
+    ghost view = { λ traced. record { status = traced.status; trace = traced.trace; run = traced.core } };
+
+    ghost invariant = { λ traced. traced.core.setup.limit ≤ 4000000 };
+}
+
+impl Traced {
+    /// What the core has recorded, told as this trace under this status.
+    pub fn of(status: Status, trace: Trace, core: Core) -> Traced
+        requires few { core.setup.limit ≤ 4000000 }
+        ensures { result ≡ record { status = status; trace = trace; run = core } }
+    {
+        Traced {
+            status,
+            trace,
+            core,
+        }
+    }
+
+    /// Writes the trace, and gives the status for which it was written. A fault of the sink takes the place of `Done` alone,
+    /// and want of memory that of any status; a prefix was written then.
+    pub fn say<K: Sink>(&self, alloc: Global, sink: &mut K) -> Status
+        ensures { PrintsSome (output_of (K.written sink.old) (K.written sink.new) (K.faults sink.old) (K.faults sink.new))
+            self.now.status result }
+    {
+        match self.write(alloc, sink) {
+            Ok(()) => self.status,
+            Err(TraceFault::WriteFault) => self.status.or_write_fault(),
+            Err(TraceFault::NoMemory) => Status::NoMemory,
+        }
+    }
+
+    /// Writes the trace, piece by piece.
+    fn write<K: Sink>(&self, alloc: Global, sink: &mut K) -> Result<(), TraceFault>
+        ensures fault { IsErrOf result TraceFault.WriteFault → Rose (K.faults sink.old) (K.faults sink.new) }
+        ensures later { K.faults sink.old ≤ K.faults sink.new }
+    {
+        let history = self.core.history();
+        let order = self.core.order();
+        // the check wants to see here that the entries are no more than there is room for
+        let _entries = history.entries();
+        match self.trace {
+            Trace::Vcd => {
+                let overspent = all_overspent(alloc, history, order)?;
+                vcd(alloc, history, order, &overspent, sink)
+            }
+            Trace::Gtkw => {
+                let text = gtkw(alloc, history, order)?;
+                write_all(sink, text.as_bytes())?;
+                Ok(())
+            }
+            Trace::Events => {
+                let overspent = all_overspent(alloc, history, order)?;
+                trace(alloc, history, order, &overspent, sink)
+            }
+        }
+    }
+}
