@@ -2,9 +2,9 @@
 """The pictures of docs/pictures/, each a report of ./apsview on a scenario of scenarios/.
 
     tools/pictures.py            fails where ./apsview draws another picture than stands there
-    tools/pictures.py --write    draws them anew
+    tools/pictures.py --write    draws them anew, there and for the test of crates/aps_viewed
 
-It is no part of the gate. Whoever changes how pictures are drawn looks at them, for example with
+The gate makes them too: crates/aps_viewed compares them with its copies. Whoever changes how pictures are drawn looks at them, for example with
 `rsvg-convert docs/pictures/NAME.svg -o NAME.png` of the Debian package librsvg2-bin: nothing may overlap or be cut.
 """
 import pathlib
@@ -13,6 +13,7 @@ import sys
 
 ROOT = pathlib.Path(__file__).resolve().parent.parent
 FOLDER = ROOT / "docs" / "pictures"
+COPIES = ROOT / "crates" / "aps_viewed" / "data"
 PICTURES = [
     ("cockpit-timeline", "cockpit", ["timeline", "--from", "0", "--to", "40"]),
     ("cockpit-usage", "cockpit", ["usage"]),
@@ -43,10 +44,12 @@ def main():
         path, picture = FOLDER / f"{name}.svg", drawn(scenario, words)
         if writes:
             path.write_bytes(picture)
-        elif not path.exists() or path.read_bytes() != picture:
+            (COPIES / path.name).write_bytes(picture)
+        elif any(not it.exists() or it.read_bytes() != picture for it in (path, COPIES / path.name)):
             others.append(name)
     print(f"{len(PICTURES)} pictures, {len(others)} differ{': ' if others else ''}{', '.join(others)}")
     return 1 if others else 0
 
 
-sys.exit(main())
+if __name__ == "__main__":
+    sys.exit(main())

@@ -20,7 +20,10 @@ INPUT is a scenario, or a scenario, the line `--- journal` and a journal of it; 
   cycles [--limit ENTRIES]
   timeline [--from TICK] [--to TICK] [--limit ENTRIES]
   threads [--from TICK] [--to TICK] [--limit ENTRIES]
-  usage [--from TICK] [--to TICK] [--limit ENTRIES]";
+  usage [--from TICK] [--to TICK] [--limit ENTRIES]
+  vcd [--limit ENTRIES]
+  gtkw [--limit ENTRIES]
+  trace [--limit ENTRIES]";
 
 /// The words after the program's name, or none where one of them isn't UTF-8: no report has such a word.
 fn words_of(rt: &HostRuntime) -> Result<Vec<String>, AllocError> {
