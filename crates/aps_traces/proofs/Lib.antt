@@ -1,0 +1,4 @@
+pub mod Pieces
+pub mod Told
+pub mod Numbered
+pub mod ArrowCounts

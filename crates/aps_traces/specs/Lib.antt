@@ -1,0 +1,12 @@
+pub mod Arrows
+pub mod Counters
+pub mod Faults
+pub mod Instants
+pub mod Names
+pub mod Piece
+pub mod Place
+pub mod Slices
+pub mod Time
+pub mod Trace
+pub mod Track
+pub mod Words
