@@ -11,7 +11,7 @@ use Rattle.aps_view.specs.Cause.{HasCause, HasCauseIn, IsOfWhole, told_by}
 use Rattle.aps_view.specs.Due.{Due, IsAdded, IsDue, IsDueOfInput, IsDueTold}
 use Rattle.aps_view.specs.Intake.{Intake, intake_of, most_bytes}
 use Rattle.aps_view.specs.Outcome.{status_of, text_of}
-use Rattle.aps_view.specs.Printing.{Says, output_of}
+use Rattle.aps_view.specs.Printing.{Says, Told, Told.at_once, Told.in_pieces, Told.unsaid, output_of}
 use Rattle.aps_view.specs.Status.{code}
 
 -- want of memory is a cause of its own, whatever was asked for
@@ -53,14 +53,17 @@ outcome_due (Some asked) input bytes rest outcome taken h = is_due asked input b
 
 -- the text was told under the status that is due, or memory ran out
 module _ (before after : List ℕ) (told : ℕ) (came : Status) (is : told ≡ code came) where
-  said_due : (text : Option (List ℕ)) (wanted : Status) → Says (output_of (Some before) (Some after) 0 0) text wanted came
+  said_due : (text : Told) (wanted : Status) → Says (output_of (Some before) (Some after) 0 0) text wanted came
       → ((told ≡ code wanted) × IsAdded before after text) ⊎ (told ≡ code status.NoMemory)
-  said_due (Some text) wanted (inl whole) = inl (is ∙ ap code whole.0, whole.1)
-  said_due (Some text) wanted (inr (inl fault)) = absurd (omega (arith, fault.1))
-  said_due (Some text) wanted (inr (inr lack)) = inr (is ∙ ap code lack.0)
-  said_due None wanted (inl same) = inl (is ∙ ap code same, tt)
-  said_due None wanted (inr (inl fault)) = absurd (omega (arith, fault.1))
-  said_due None wanted (inr (inr lack)) = inr (is ∙ ap code lack)
+  said_due (at_once text) wanted (inl whole) = inl (is ∙ ap code whole.0, whole.1)
+  said_due (at_once text) wanted (inr (inl fault)) = absurd (omega (arith, fault.1))
+  said_due (at_once text) wanted (inr (inr lack)) = inr (is ∙ ap code lack.0)
+  said_due (in_pieces text) wanted (inl whole) = inl (is ∙ ap code whole.0, whole.1)
+  said_due (in_pieces text) wanted (inr (inl fault)) = absurd (omega (arith, fault.1))
+  said_due (in_pieces text) wanted (inr (inr lack)) = inr (is ∙ ap code lack)
+  said_due unsaid wanted (inl same) = inl (is ∙ ap code same, tt)
+  said_due unsaid wanted (inr (inl fault)) = absurd (omega (arith, fault.1))
+  said_due unsaid wanted (inr (inr lack)) = inr (is ∙ ap code lack)
 
   printed_due : (asked : Option Asked) (input : List ℕ) (due : Due) → IsDue asked input due
       → Says (output_of (Some before) (Some after) 0 0) due.text due.status came → IsDueTold asked input before after told
@@ -69,7 +72,7 @@ module _ (before after : List ℕ) (told : ℕ) (came : Status) (is : told ≡ c
     | inr lack ↦ inr lack
   ]
 
-  nothing_due : (text : Option (List ℕ)) → Says (output_of (Some before) (Some after) 0 0) text status.NoMemory came → told ≡ code status.NoMemory
+  nothing_due : (text : Told) → Says (output_of (Some before) (Some after) 0 0) text status.NoMemory came → told ≡ code status.NoMemory
   nothing_due text said = elim (said_due text status.NoMemory said) [
     | inl came ↦ came.0
     | inr lack ↦ lack

@@ -26,32 +26,34 @@ use Rattle.aps_view.specs.declared.refusal.InputRefusal.TheVariants.{Text, BadJo
 use Rattle.aps_view.specs.declared.status.Status.{Status}
 use Rattle.aps_view.specs.declared.status.Status.TheVariants.{Done, WordsRefused, InputRefused, NoMemory, TooLong, JournalBreaks}
 use Rattle.aps_view.specs.Intake.{most_bytes, most_scenario_bytes}
+use Rattle.aps_view.specs.Printing.{Told, Told.at_once, Told.in_pieces, Told.unsaid}
 use Rattle.aps_view.specs.Refusal.{refusal_text}
 use Rattle.aps_view.specs.Report.{IsReport, trace_of}
 use Rattle.aps_view.specs.Status.{code, status_of_end}
+use Rattle.aps_view.specs.Traced.{trace_told}
 
--- a status, and a text where it is said what is written
+-- a status, and what is written
 pub record Due : Type 0 where
   pub status : Status
-  pub text : Option (List ℕ)
+  pub text : Told
 
 abbrev pub words_refused : Due
-words_refused = record { status = WordsRefused; text = Some (codes "aps: words refused\n") }
+words_refused = record { status = WordsRefused; text = at_once (codes "aps: words refused\n") }
 
 abbrev pub too_long : Due
-too_long = record { status = TooLong; text = Some (codes "aps: input too long\n") }
+too_long = record { status = TooLong; text = at_once (codes "aps: input too long\n") }
 
 abbrev pub refused : InputRefusal → Due
-refused refusal = record { status = InputRefused; text = Some (refusal_text refusal) }
+refused refusal = record { status = InputRefused; text = at_once (refusal_text refusal) }
 
 -- the text of a report under this status; without one it was asked about a thread that the scenario hasn't
 abbrev pub reported : Status → Option (List ℕ) → Due
-reported status (Some text) = record { status = status; text = Some text }
+reported status (Some text) = record { status = status; text = at_once text }
 reported status None = refused UnknownThread
 
--- what is due where a report of a history was asked for, under this status; of a trace the status alone
+-- what is due where a report of a history was asked for, under this status
 abbrev pub IsReportedBy : Option Trace → Report → Scenario → List Entry → Status → Due → Type 0
-IsReportedBy (Some trace) report scenario h status due = due ≡ record { status = status; text = None }
+IsReportedBy (Some trace) report scenario h status due = due ≡ record { status = status; text = trace_told trace scenario h }
 IsReportedBy None report scenario h status due =
     (text : Option (List ℕ)) × IsReport report scenario h text × (due ≡ reported status text)
 
@@ -90,7 +92,7 @@ judging asked scenario = record { scenario = scenario; order = Free; limit = ask
 abbrev pub IsDueOfVerdict : Asked → Scenario → List Entry → Verdict → Due → Type 0
 IsDueOfVerdict asked scenario h (Legal end) due = IsReported asked.report scenario h Done due
 IsDueOfVerdict asked scenario h (Breaks place rule expected) due =
-    due ≡ record { status = JournalBreaks; text = Some (verdict_text (Breaks place rule expected)) }
+    due ≡ record { status = JournalBreaks; text = at_once (verdict_text (Breaks place rule expected)) }
 
 abbrev pub IsDueOfEntries : Asked → Scenario → List Entry → Due → Type 0
 IsDueOfEntries asked scenario h due =
@@ -123,10 +125,11 @@ IsDue None input due = due ≡ words_refused
 IsDue (Some asked) input due =
     ((most_bytes < length input) × (due ≡ too_long)) ⊎ ((length input ≤ most_bytes) × IsDueOfInput asked input due)
 
--- what was written is the text, where there is one
-abbrev pub IsAdded : List ℕ → List ℕ → Option (List ℕ) → Type 0
-IsAdded before after None = ⊤
-IsAdded before after (Some text) = after ≡ before ++ text
+-- what was written is the text, where it is said what
+abbrev pub IsAdded : List ℕ → List ℕ → Told → Type 0
+IsAdded before after (at_once text) = after ≡ before ++ text
+IsAdded before after (in_pieces text) = after ≡ before ++ text
+IsAdded before after unsaid = ⊤
 
 -- the status that is due came, and its text was written; or memory ran out
 abbrev pub IsDueTold : Option Asked → List ℕ → List ℕ → List ℕ → ℕ → Type 0

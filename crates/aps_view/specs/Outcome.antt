@@ -1,11 +1,13 @@
 -- The outcome of a call: its status and its text.
-use Rattle.std.specs.Prelude.{ℕ, List, [], Option, Some, None, codes, string_bytes}
+use Rattle.std.specs.Prelude.{[], codes, string_bytes}
 use Rattle.aps_check.specs.Text.{verdict_text}
 use Rattle.aps_view.specs.declared.outcome.Outcome.{Outcome}
 use Rattle.aps_view.specs.declared.outcome.Outcome.TheVariants.{WordsRefused, ReadFault, TooLong, InputRefused, Reported, Traced, Broken, NoMemory}
 use Rattle.aps_view.specs.declared.status.Status.{Status}
 use Rattle.aps_view.specs.declared.status.Status.TheVariants as status
+use Rattle.aps_view.specs.Printing.{Told, Told.at_once}
 use Rattle.aps_view.specs.Refusal.{refusal_text}
+use Rattle.aps_view.specs.Traced.{trace_told}
 
 abbrev pub status_of : Outcome → Status
 status_of WordsRefused = status.WordsRefused
@@ -17,13 +19,13 @@ status_of (Traced traced) = traced.status
 status_of (Broken verdict) = status.JournalBreaks
 status_of NoMemory = status.NoMemory
 
--- what is written, where that is said
-abbrev pub text_of : Outcome → Option (List ℕ)
-text_of WordsRefused = Some (codes "aps: words refused\n")
-text_of ReadFault = Some (codes "aps: read fault\n")
-text_of TooLong = Some (codes "aps: input too long\n")
-text_of (InputRefused refusal) = Some (refusal_text refusal)
-text_of (Reported status text) = Some (string_bytes text)
-text_of (Traced traced) = None
-text_of (Broken verdict) = Some (verdict_text verdict)
-text_of NoMemory = Some []
+-- what is written
+abbrev pub text_of : Outcome → Told
+text_of WordsRefused = at_once (codes "aps: words refused\n")
+text_of ReadFault = at_once (codes "aps: read fault\n")
+text_of TooLong = at_once (codes "aps: input too long\n")
+text_of (InputRefused refusal) = at_once (refusal_text refusal)
+text_of (Reported status text) = at_once (string_bytes text)
+text_of (Traced traced) = trace_told traced.trace traced.run.setup.scenario traced.run.entries
+text_of (Broken verdict) = at_once (verdict_text verdict)
+text_of NoMemory = at_once []

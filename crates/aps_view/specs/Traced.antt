@@ -1,10 +1,23 @@
 -- A history that is told as a trace.
+use Rattle.std.specs.Prelude.{List}
+use Rattle.aps_model.specs.declared.entry.Entry.{Entry}
+use Rattle.aps_model.specs.Scenario.{Scenario}
 use Rattle.aps_core.specs.Run.{Run}
+use Rattle.aps_shares.specs.Spent.{overspent_of}
+use Rattle.aps_traces.specs.Trace.{trace_text}
 use Rattle.aps_view_words.specs.declared.asked.Trace.{Trace}
+use Rattle.aps_view_words.specs.declared.asked.Trace.TheVariants.{Vcd, Gtkw, Events}
 use Rattle.aps_view.specs.declared.status.Status.{Status}
+use Rattle.aps_view.specs.Printing.{Told, Told.in_pieces, Told.unsaid}
 
 -- which trace, of which history, under which status
 pub record Traced : Type 0 where
   pub status : Status
   pub trace : Trace
   pub run : Run
+
+-- what is written: the events of the history; of the other traces nothing is said
+abbrev pub trace_told : Trace → Scenario → List Entry → Told
+trace_told Vcd scenario h = unsaid
+trace_told Gtkw scenario h = unsaid
+trace_told Events scenario h = in_pieces (trace_text scenario h (overspent_of scenario h))

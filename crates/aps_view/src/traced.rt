@@ -1,7 +1,8 @@
 //! A history that is told as a trace, for a viewer.
-ghost use Rattle.std.specs.Prelude.{◌≡◌, ◌≤◌, IsErrOf};
+ghost use Rattle.std.specs.Prelude.{◌≡◌, ◌≤◌, IsErrOf, OnOk};
 ghost use Rattle.aps_io.specs.Causes.{Rose};
-ghost use Rattle.aps_view.specs.Printing.{PrintsSome, output_of};
+ghost use Rattle.aps_view.specs.Printing.{Says, SaysAll, output_of};
+ghost use Rattle.aps_view.specs.Traced.{trace_told};
 
 use crate::status::Status;
 use aps_core::Core;
@@ -46,10 +47,10 @@ impl Traced {
     }
 
     /// Writes the trace, and gives the status for which it was written. A fault of the sink takes the place of `Done` alone,
-    /// and want of memory that of any status; a prefix was written then.
+    /// and want of memory that of any status; a part was written then.
     pub fn say<K: Sink>(&self, alloc: Global, sink: &mut K) -> Status
-        ensures { PrintsSome (output_of (K.written sink.old) (K.written sink.new) (K.faults sink.old) (K.faults sink.new))
-            self.now.status result }
+        ensures { Says (output_of (K.written sink.old) (K.written sink.new) (K.faults sink.old) (K.faults sink.new))
+            (trace_told self.now.trace self.now.run.setup.scenario self.now.run.entries) self.now.status result }
     {
         match self.write(alloc, sink) {
             Ok(()) => self.status,
@@ -60,6 +61,8 @@ impl Traced {
 
     /// Writes the trace, piece by piece.
     fn write<K: Sink>(&self, alloc: Global, sink: &mut K) -> Result<(), TraceFault>
+        ensures whole { OnOk result (SaysAll (output_of (K.written sink.old) (K.written sink.new) (K.faults sink.old) (K.faults sink.new))
+            (trace_told self.now.trace self.now.run.setup.scenario self.now.run.entries)) }
         ensures fault { IsErrOf result TraceFault.WriteFault → Rose (K.faults sink.old) (K.faults sink.new) }
         ensures later { K.faults sink.old ≤ K.faults sink.new }
     {

@@ -1,6 +1,7 @@
-use Rattle.std.proofs.Common.{Some, sym, ap, ◌∙◌}
+use Rattle.std.proofs.Common.{sym, ap, ◌∙◌}
 use Rattle.aps_view.specs.Outcome.{status_of, text_of}
-use Rattle.aps_view.proofs.Said.{says_as, says_some_as}
+use Rattle.aps_view.specs.Printing.{Told.at_once}
+use Rattle.aps_view.proofs.Said.{says_as}
 use Rattle.aps_view.proofs.outcome.Outcome.say.Goals as goal
 
 pub returns-in-WordsRefused : goal.returns-in-WordsRefused
@@ -26,7 +27,7 @@ returns-in-InputRefused g c =
 pub returns-in-Reported : goal.returns-in-Reported
 returns-in-Reported g c =
     let is = c.in-Reported.is in
-    says_as _ _ _ _ _ _ (ap (λ t. Some t) c.as_bytes.ensures.value ∙ sym (ap text_of is)) (sym (ap status_of is)) c.print-in-Reported.ensures.prints
+    says_as _ _ _ _ _ _ (ap (λ t. at_once t) c.as_bytes.ensures.value ∙ sym (ap text_of is)) (sym (ap status_of is)) c.print-in-Reported.ensures.prints
 
 pub returns-in-Broken : goal.returns-in-Broken
 returns-in-Broken g c =
@@ -36,4 +37,4 @@ returns-in-Broken g c =
 pub returns-in-Traced : goal.returns-in-Traced
 returns-in-Traced g c =
     let is = c.in-Traced.is in
-    says_some_as _ _ _ _ _ (sym (ap text_of is)) (sym (ap status_of is)) c.say.ensures
+    says_as _ _ _ _ _ _ (sym (ap text_of is)) (sym (ap status_of is)) c.say.ensures
