@@ -1,0 +1,10 @@
+pub mod Alongs
+pub mod Amounts
+pub mod Had
+pub mod HadWork
+pub mod InOne
+pub mod KeptRuns
+pub mod Picked
+pub mod Printed
+pub mod Ticks
+pub mod Told
