@@ -6,5 +6,7 @@ pub mod InOne
 pub mod KeptRuns
 pub mod Picked
 pub mod Printed
+pub mod SaidSo
+pub mod ServedTimes
 pub mod Ticks
 pub mod Told

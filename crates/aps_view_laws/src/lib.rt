@@ -2,5 +2,6 @@
 //! is the contract of a function with an empty body.
 #![tactic(auto)]
 
+pub mod latency;
 pub mod lives;
 pub mod shares;

@@ -1,0 +1,16 @@
+//! What `latency` counts as served is what servers ran.
+ghost use Rattle.std.specs.Prelude.{◌≡◌, ℕ, ◌+◌, List, length};
+ghost use Rattle.std.specs.List.{range_with_len, sum_by};
+ghost use Rattle.aps_model.specs.declared.entry.Entry.{Entry};
+ghost use Rattle.aps_model.specs.declared.entry.Order.{Order};
+ghost use Rattle.aps_model.specs.Legal.{IsLegal};
+ghost use Rattle.aps_model.specs.Scenario.{Scenario};
+ghost use Rattle.aps_model.specs.Valid.{IsScenario};
+ghost use Rattle.aps_view_laws.specs.Served.{own_time, run_time, served_time};
+
+/// A server's time is that which counts for the calls of all threads, and its own: what it ran while it held no client. Nothing
+/// counts for two calls, and nothing is left out.
+pub fn servers_run_for_clients()
+    ensures { (scenario : Scenario) (order : Order) (h : List Entry) (server : ℕ) → IsScenario scenario → IsLegal scenario order h
+        → sum_by (served_time scenario h server) (range_with_len 0 (length scenario.threads)) + own_time scenario h server ≡ run_time h server }
+{}
