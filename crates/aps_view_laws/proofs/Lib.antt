@@ -1,9 +1,11 @@
 pub mod Alongs
 pub mod Amounts
+pub mod CallTimes
 pub mod Had
 pub mod HadWork
 pub mod InOne
 pub mod KeptRuns
+pub mod OpenTies
 pub mod Picked
 pub mod Printed
 pub mod SaidSo

@@ -124,7 +124,7 @@ unpaired z x (t ∷ ts) none = by_test (nat_eq t.server z) none (unpaired z x ts
   where
     by_test : (b : Bool) → cond b (Some t.client) (client_of ts z) ≡ None → (client_of ts z ≡ None → times_paired z x ts ≡ 0) → one_if (b && nat_eq t.client x) + times_paired z x ts ≡ 0
     by_test true e rest = absurd cc
-    by_test false e rest = rest e
+    by_test false e rest = let none_there = rest e in omega (arith, none_there)
 
 -- ---- other messages at one channel
 
@@ -157,10 +157,10 @@ to_set l x c d new one kept = elim (cases_eq d c) [
 -- ---- an operation
 
 module _ (ties : Ties) (x y c priority : ℕ) where
-  message : Message
+  abbrev message : Message
   message = record { sender = y; priority = priority }
 
-  old : List Message
+  abbrev old : List Message
   old = messages_at ties c
 
   unmatched : (a : Bool) (k : ℕ) → k ≢ x → one_if (a && nat_eq k x) ≡ 0
@@ -209,7 +209,7 @@ module _ (ties : Ties) (x y c priority : ℕ) where
   was_open (ReplyFreed w) got (inr found) = let less = less_paired found.0 x y ties.triples in let one = found.1 in inl (inr (found.0, omega (arith, one, less)))
   was_open Exit got (inl found) = inl (inl found)
   was_open Exit got (inr found) = let less = less_paired found.0 x y ties.triples in let one = found.1 in inl (inr (found.0, omega (arith, one, less)))
-  was_open done got open = inl open
+  was_open done got goes = inl goes
 
   -- whoever has sent is open
   pub opens : (done : Done) → y ≡ x → is_send done ≡ true → c < length ties.messages → IsOpen (after_done ties y c priority done) x
@@ -288,4 +288,4 @@ module _ (ties : Ties) (x y c priority : ℕ) where
           let same = only z (omega (arith, one, less)) in
           let zero' : times_paired z x (without_server ties.triples y) ≡ 0 = ap (λ k. times_paired k x (without_server ties.triples y)) same ∙ unpaired y x (without_server ties.triples y) none in
           omega (arith, one, zero')
-  freed done is none silent only open = absurd cc
+  freed done is none silent only goes = absurd cc

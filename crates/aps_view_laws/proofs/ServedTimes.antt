@@ -37,7 +37,7 @@ some_same a b same = cc
 clash_gone : (y : ℕ) → ◌≡◌ {A = State} (Replying y) Gone → ⊥
 clash_gone y same = cc
 
-none_from : (n : ℕ) → (0 < n → ⊥) → n ≡ 0
+pub none_from : (n : ℕ) → (0 < n → ⊥) → n ≡ 0
 none_from zero never = refl
 none_from (suc n) never = absurd (never (omega arith))
 

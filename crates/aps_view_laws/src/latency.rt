@@ -6,11 +6,18 @@ ghost use Rattle.aps_model.specs.declared.entry.Order.{Order};
 ghost use Rattle.aps_model.specs.Legal.{IsLegal};
 ghost use Rattle.aps_model.specs.Scenario.{Scenario};
 ghost use Rattle.aps_model.specs.Valid.{IsScenario};
-ghost use Rattle.aps_view_laws.specs.Served.{own_time, run_time, served_time};
+ghost use Rattle.aps_latency.specs.Calls.{calls_of};
+ghost use Rattle.aps_view_laws.specs.Served.{own_time, run_time, served_in_all, served_time};
 
 /// A server's time is that which counts for the calls of all threads, and its own: what it ran while it held no client. Nothing
 /// counts for two calls, and nothing is left out.
 pub fn servers_run_for_clients()
     ensures { (scenario : Scenario) (order : Order) (h : List Entry) (server : ℕ) → IsScenario scenario → IsLegal scenario order h
         → sum_by (served_time scenario h server) (range_with_len 0 (length scenario.threads)) + own_time scenario h server ≡ run_time h server }
+{}
+
+/// The time that counts for the calls of a thread, those that were answered and the one that goes on, is what servers ran on them.
+pub fn calls_count_what_servers_run()
+    ensures { (scenario : Scenario) (order : Order) (h : List Entry) (x : ℕ) → IsScenario scenario → IsLegal scenario order h
+        → served_in_all (calls_of scenario h x) ≡ sum_by (λ server. served_time scenario h server x) (range_with_len 0 (length scenario.threads)) }
 {}

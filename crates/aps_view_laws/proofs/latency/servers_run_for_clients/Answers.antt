@@ -1,5 +1,4 @@
 use Rattle.aps_view_laws.proofs.ServedTimes.{served_and_own}
-use Rattle.aps_view_laws.proofs.SaidSo.{said_so}
 use Rattle.aps_view_laws.proofs.latency.servers_run_for_clients.Goals as goal
 
 pub returns : goal.returns
