@@ -1,5 +1,6 @@
 pub mod Alongs
 pub mod Amounts
+pub mod Bankrupts
 pub mod CallTimes
 pub mod Had
 pub mod HadWork

@@ -40,7 +40,7 @@ fold_kept P f a (suc n) x start each =
 
 -- ---- the numbers of a sample
 
-at_each : (f : ℕ → ℕ) (p : ℕ) → p < 32 → slice_index (of_each f) p ≡ f p
+pub at_each : (f : ℕ → ℕ) (p : ℕ) → p < 32 → slice_index (of_each f) p ≡ f p
 at_each f p less = get_or-map-range_with_len f 0 32 p p 0 less (omega arith)
 
 pub so_each : (f : ℕ → Bool) (p : ℕ) → p < 32 → slice_index_or (of_each f) p false ≡ f p

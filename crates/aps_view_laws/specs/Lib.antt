@@ -1,3 +1,4 @@
+pub mod Bankrupt
 pub mod Billed
 pub mod Served
 pub mod Shares

@@ -4,4 +4,5 @@
 
 pub mod latency;
 pub mod lives;
+pub mod samples;
 pub mod shares;
