@@ -10,6 +10,7 @@ pub mod OpenTies
 pub mod Picked
 pub mod Printed
 pub mod SaidSo
+pub mod ServedLines
 pub mod ServedTimes
 pub mod Ticks
 pub mod Told
