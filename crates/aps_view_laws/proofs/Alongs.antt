@@ -1,6 +1,6 @@
 -- Tests of the entries of some ticks, each with all entries before it.
 use Rattle.std.proofs.Common.{◌≡◌, ℕ, ◌*◌, ◌/◌, ◌<◌, ◌≤◌, List, [], ◌∷◌, ◌++◌, refl, sym, ◌∙◌, ap, subst, append-nil, append_assoc, Bool, true, false, ◌&&◌, arith}
-use Rattle.std.proofs.lemmas.Bool.{and_parts, or_parts}
+use Rattle.std.proofs.lemmas.Bool.{or_parts}
 use Rattle.aps_model.specs.declared.entry.Entry.{Entry}
 use Rattle.aps_model.specs.Loaded.{is_among}
 use Rattle.aps_samples.specs.Along.{any_along, any_of, in_ticks}

@@ -1,7 +1,6 @@
 -- Overspending is told of exactly the entries whose step finds a partition bankrupt.
-use Rattle.std.proofs.Common.{◌≡◌, ℕ, ◌+◌, ◌-◌, ◌/◌, List, [], ◌∷◌, ◌++◌, refl, sym, ◌∙◌, ap, subst, Bool, true, false, ◌&&◌, cond, nat_eq, nat_lt, Option, Some, None, arith}
+use Rattle.std.proofs.Common.{◌≡◌, ℕ, ◌+◌, ◌-◌, ◌/◌, List, [], ◌∷◌, ◌++◌, refl, sym, ◌∙◌, ap, Bool, true, false, ◌&&◌, cond, nat_lt, Option, Some, None}
 use Rattle.std.specs.Prelude.{option_and_then}
-use Rattle.std.specs.List.{sum_by}
 use Rattle.std.proofs.lemmas.List.{append-nil}
 use Rattle.std.proofs.lemmas.List.Sums.{sum_by_push}
 use Rattle.aps_model.specs.declared.entry.Entry.{Entry}
@@ -20,7 +19,6 @@ use Rattle.aps_laws.specs.Between.{bill_in}
 use Rattle.aps_laws.specs.Untouched.{mark_kept, partition_kept}
 use Rattle.aps_laws.proofs.Sound.{step_law}
 use Rattle.aps_laws.proofs.WaitFacts.{test_eq}
-use Rattle.aps_bars.specs.declared.overspent.Overspent.{Overspent}
 use Rattle.aps_shares.specs.Spent.{excess_of, listed, overspent_as, overspent_by, overspent_of, state_tested}
 use Rattle.aps_shares.proofs.Overspent.{overspent_more}
 use Rattle.aps_view_laws.specs.Bankrupt.{bankrupt_in, overspent_at}

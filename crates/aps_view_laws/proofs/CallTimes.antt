@@ -1,5 +1,5 @@
 -- For how long the calls of a thread were served, by what servers ran.
-use Rattle.std.proofs.Common.{◌≡◌, ◌≢◌, ℕ, zero, suc, ◌+◌, ◌<◌, ◌≤◌, List, [], ◌∷◌, ◌++◌, length, map, replicate, get_or, Bool, true, false, not, ◌&&◌, cond, if◌then◌else◌, nat_eq, Option, Some, None, inl, inr, refl, sym, ap, subst, ◌∙◌, append_assoc, arith}
+use Rattle.std.proofs.Common.{◌≡◌, ◌≢◌, ℕ, ◌+◌, ◌≤◌, List, [], ◌∷◌, ◌++◌, length, replicate, get_or, Bool, true, false, not, ◌&&◌, cond, if◌then◌else◌, nat_eq, Option, Some, None, inl, inr, refl, sym, ap, subst, ◌∙◌, append_assoc, arith}
 use Rattle.std.specs.Prelude.{is_some, ⊤}
 use Rattle.std.specs.List.{range_with_len, sum_by}
 use Rattle.std.proofs.lemmas.Bool.{and_from, and_parts, cases_lt, false_from_ne_true}
@@ -19,7 +19,7 @@ use Rattle.aps_model.specs.Inherit.{facts_of}
 use Rattle.aps_model.specs.Legal.{IsLegal}
 use Rattle.aps_model.specs.Report.{length_of}
 use Rattle.aps_model.specs.Scenario.{Scenario, op_at}
-use Rattle.aps_model.specs.SchedulerState.{ChannelNow, Message, SchedulerState, channel_at, cpu_at, thread_at}
+use Rattle.aps_model.specs.SchedulerState.{ChannelNow, SchedulerState, channel_at, cpu_at, thread_at}
 use Rattle.aps_model.specs.Usage.{names}
 use Rattle.aps_model.specs.Valid.{IsScenario}
 use Rattle.aps_laws.specs.Untouched.{thread_kept}
@@ -31,7 +31,7 @@ use Rattle.aps_laws.proofs.ThreadFacts.{within}
 use Rattle.aps_laws.proofs.WaitFacts.{replying_from, served_none, test_eq}
 use Rattle.aps_laws.proofs.Words.{prefix_legal}
 use Rattle.aps_bound_laws.specs.Sums.{sum_below}
-use Rattle.aps_bound_laws.proofs.Sums.{single_full, sum_below_add, sum_below_same, sum_below_zero, sum_range}
+use Rattle.aps_bound_laws.proofs.Sums.{single_full, sum_below_add, sum_below_zero, sum_range}
 use Rattle.aps_load_laws.specs.FreeTime.{sum_along}
 use Rattle.aps_latency.specs.declared.call.Asked.{Asked}
 use Rattle.aps_latency.specs.declared.call.Call.{Call}

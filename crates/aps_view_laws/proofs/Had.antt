@@ -1,5 +1,5 @@
 -- Whom some pick of a window found out of budget had had its whole share.
-use Rattle.std.proofs.Common.{◌≡◌, ℕ, ◌+◌, ◌-◌, ◌*◌, ◌/◌, ◌<◌, ◌≤◌, List, [], ◌∷◌, ◌++◌, length, refl, sym, ◌∙◌, ap, subst, append-nil, append_assoc, Bool, true, false, ◌||◌, ◌&&◌, nat_lt, arith, inl, inr}
+use Rattle.std.proofs.Common.{◌≡◌, ℕ, ◌+◌, ◌-◌, ◌*◌, ◌/◌, ◌<◌, ◌≤◌, List, [], ◌∷◌, ◌++◌, refl, sym, ◌∙◌, subst, append_assoc, Bool, true, false, ◌&&◌, nat_lt, arith, inl, inr}
 use Rattle.std.proofs.Math.Nat.{le_of_mul-le-mul_left, mul-le-mul_left}
 use Rattle.std.proofs.lemmas.Bool.{and_parts, leb-true, ltb-true, not-true, or_cases}
 use Rattle.std.proofs.lemmas.Bool.Decides.{nat_tests}
@@ -10,7 +10,7 @@ use Rattle.aps_model.specs.declared.shape.Shape.{Shape}
 use Rattle.aps_model.specs.After.{state_after}
 use Rattle.aps_model.specs.Budget.{part_facts}
 use Rattle.aps_model.specs.Legal.{IsLegal}
-use Rattle.aps_model.specs.Loaded.{finished_ticks, is_among, state_of_tick}
+use Rattle.aps_model.specs.Loaded.{finished_ticks, is_among}
 use Rattle.aps_model.specs.Partition.{row_or_none}
 use Rattle.aps_model.specs.Scenario.{Scenario}
 use Rattle.aps_model.specs.SchedulerState.{SchedulerState}
@@ -19,16 +19,15 @@ use Rattle.aps_model.specs.Usage.{window_used}
 use Rattle.aps_model.specs.Valid.{IsScenario}
 use Rattle.aps_laws.specs.Moments.{moment}
 use Rattle.aps_bound_laws.specs.Lanes.{in_window}
-use Rattle.aps_bound_laws.proofs.Inside.{in_ticks}
 use Rattle.aps_load_laws.specs.Kinds.{is_funded}
 use Rattle.aps_load_laws.proofs.Classes.{funded_is}
 use Rattle.aps_load_laws.proofs.OwnShares.{used_longer}
 use Rattle.aps_load_laws.proofs.Spans.{funded_there, inside_window}
-use Rattle.aps_samples.specs.Along.{any_along, any_of}
+use Rattle.aps_samples.specs.Along.{any_along}
 use Rattle.aps_samples.specs.Picks.{out_test, was_out}
 use Rattle.aps_samples.specs.Sample.{allowance_at, had_share, is_full, is_unchanged}
 use Rattle.aps_view_laws.specs.Shares.{HadItsShare}
-use Rattle.aps_view_laws.proofs.Told.{a, exact, in_order, positive, s, same, span}
+use Rattle.aps_view_laws.proofs.Told.{a, exact, positive, s, same, span}
 
 -- ---- some entry passes
 

@@ -1,5 +1,5 @@
 -- Who had a candidate at a pick had work at it.
-use Rattle.std.proofs.Common.{◌≡◌, ℕ, ◌<◌, List, [], ◌∷◌, ◌++◌, length, map, refl, sym, ◌∙◌, ap, subst, Bool, true, false, cond, ◌||◌, nat_eq, Option, Some, None, inl, inr}
+use Rattle.std.proofs.Common.{◌≡◌, ℕ, ◌<◌, List, [], ◌∷◌, length, map, refl, sym, ◌∙◌, ap, subst, Bool, true, false, cond, ◌||◌, nat_eq, Option, Some, None, inl, inr}
 use Rattle.std.specs.List.{filter, list_any, range_with_len}
 use Rattle.std.proofs.lemmas.Bool.{cases_eq, eqb-true, or_cases}
 use Rattle.aps_model.specs.declared.entry.Entry.{Entry}
@@ -7,7 +7,6 @@ use Rattle.aps_model.specs.declared.merit.Contender.{Contender}
 use Rattle.aps_model.specs.declared.merit.PartFacts.{PartFacts}
 use Rattle.aps_model.specs.declared.state.CpuNow.{CpuNow}
 use Rattle.aps_model.specs.declared.state.Facts.{Facts}
-use Rattle.aps_model.specs.declared.state.Pick.{Pick}
 use Rattle.aps_model.specs.declared.state.State.{State}
 use Rattle.aps_model.specs.declared.state.State.TheVariants.{Gone, Ready, Receiving, Replying, Running, Sending, Sleeping}
 use Rattle.aps_model.specs.declared.state.ThreadNow.{ThreadNow}
@@ -15,12 +14,12 @@ use Rattle.aps_model.specs.Budget.{part_at}
 use Rattle.aps_model.specs.Flag.{with_flag}
 use Rattle.aps_model.specs.Inherit.{facts_of}
 use Rattle.aps_model.specs.Merit.{is_candidate}
-use Rattle.aps_model.specs.Pick.{candidates, contender_of, contenders, greatest, is_ready}
+use Rattle.aps_model.specs.Pick.{contender_of, contenders, greatest, is_ready}
 use Rattle.aps_model.specs.Scenario.{Scenario}
 use Rattle.aps_model.specs.SchedulerState.{SchedulerState, cpu_at, thread_at}
 use Rattle.aps_model.specs.Step.{chosen}
 use Rattle.aps_laws.specs.Waits.{state_at}
-use Rattle.aps_laws.proofs.Picked.{cpu_same, flag_running, flag_threads, greatest_ready}
+use Rattle.aps_laws.proofs.Picked.{cpu_same, flag_running, greatest_ready}
 use Rattle.aps_laws.proofs.PickSays.{facts_picked}
 use Rattle.aps_laws.proofs.ThreadFacts.{set_other, set_same, within}
 use Rattle.aps_load_laws.specs.Work.{HasWork, chosen_from}

@@ -13,7 +13,7 @@ use Rattle.aps_model.specs.After.{state_after}
 use Rattle.aps_model.specs.Due.{last_end}
 use Rattle.aps_model.specs.Legal.{IsLegal}
 use Rattle.aps_model.specs.Scenario.{Scenario}
-use Rattle.aps_model.specs.SchedulerState.{SchedulerState, cpu_at, thread_at}
+use Rattle.aps_model.specs.SchedulerState.{SchedulerState, cpu_at}
 use Rattle.aps_model.specs.Valid.{IsScenario}
 use Rattle.aps_laws.specs.Untouched.{IsKept, mark_kept, partition_kept, thread_kept}
 use Rattle.aps_laws.specs.Waits.{state_at}
@@ -22,7 +22,6 @@ use Rattle.aps_laws.proofs.MomentLaws.{last_other, last_own, moment-append}
 use Rattle.aps_laws.proofs.Prefixes.{by_entries}
 use Rattle.aps_laws.proofs.Sound.{legal_last, sound, step_law}
 use Rattle.aps_laws.proofs.Words.{prefix_legal, up_to}
-use Rattle.aps_lives.specs.declared.doing.Doing.{Doing}
 use Rattle.aps_lives.specs.declared.doing.Doing.TheVariants.{Running}
 use Rattle.aps_lives.specs.Doing.{doing_by, doing_of, running_by}
 use Rattle.aps_lives.specs.Whole.{doing_at, until}

@@ -1,5 +1,5 @@
 -- Who waits for an answer, by what ties threads.
-use Rattle.std.proofs.Common.{◌≡◌, ◌≢◌, ℕ, zero, suc, ◌+◌, ◌<◌, ◌≤◌, List, [], ◌∷◌, ◌++◌, length, map, get_or, set, Bool, true, false, ◌&&◌, cond, nat_eq, ◌⊎◌, Option, Some, None, inl, inr, refl, sym, ap, subst, ◌∙◌, arith}
+use Rattle.std.proofs.Common.{◌≡◌, ◌≢◌, ℕ, zero, suc, ◌+◌, ◌<◌, ◌≤◌, List, [], ◌∷◌, ◌++◌, length, map, get_or, set, Bool, true, false, ◌&&◌, cond, nat_eq, ◌⊎◌, Some, None, inl, inr, refl, sym, ap, subst, ◌∙◌, arith}
 use Rattle.std.specs.Prelude.{slice_index_or}
 use Rattle.std.proofs.lemmas.Bool.{cases_eq, cases_lt, eqb-true}
 use Rattle.std.proofs.lemmas.List.{get_or-set_other, get_or-set_same, get_or_past, length-set}
@@ -10,11 +10,11 @@ use Rattle.aps_model.specs.declared.state.State.TheVariants.{Ready, Running, Sle
 use Rattle.aps_model.specs.Inherit.{client_of, without_server}
 use Rattle.aps_model.specs.Messages.{without_sender}
 use Rattle.aps_model.specs.SchedulerState.{ChannelNow, Message, SchedulerState, Triple, channel_at, no_channel}
-use Rattle.aps_laws.specs.Waits.{IsPlaced, IsWaiting, is_replying, is_sending, one_if, state_at, times_paired, times_sent}
+use Rattle.aps_laws.specs.Waits.{IsPlaced, IsWaiting, one_if, state_at, times_paired, times_sent}
 use Rattle.aps_laws.proofs.WaitFacts.{replying_from, sending_from, test_eq, test_ne}
 use Rattle.aps_laws.proofs.WaitMoves.{times_sent-append}
 use Rattle.aps_latency.specs.News.{is_send}
-use Rattle.aps_explain.specs.Ties.{Ties, after_done, after_ran, messages_at, ties_of}
+use Rattle.aps_explain.specs.Ties.{Ties, after_done, messages_at, ties_of}
 
 -- ---- who waits for an answer
 

@@ -1,5 +1,5 @@
 -- What is told of a partition over all windows.
-use Rattle.std.proofs.Common.{◌≡◌, ℕ, zero, suc, ◌+◌, ◌-◌, ◌*◌, ◌<◌, ◌≤◌, List, map, sym, ◌∙◌, ap, subst, Bool, true, false, cond, not, ◌&&◌, nat_eq, Option, Some, None, arith, refl}
+use Rattle.std.proofs.Common.{◌≡◌, ℕ, zero, suc, ◌+◌, ◌-◌, ◌<◌, ◌≤◌, List, sym, ◌∙◌, ap, Bool, true, false, cond, not, ◌&&◌, nat_eq, Option, Some, None, arith, refl}
 use Rattle.std.specs.Prelude.{IfSome, slice_index, slice_index_or}
 use Rattle.std.specs.List.{fold, range_with_len}
 use Rattle.std.proofs.lemmas.Bool.{and_parts, not-true}
@@ -11,7 +11,7 @@ use Rattle.aps_model.specs.Loaded.{finished_ticks}
 use Rattle.aps_model.specs.Scenario.{Scenario}
 use Rattle.aps_model.specs.Valid.{IsScenario}
 use Rattle.aps_samples.specs.declared.sample.Sample.{Sample}
-use Rattle.aps_samples.specs.Sample.{allowance_at, critical_at, free_at, had_share, has_work, is_full, is_unchanged, of_each, sample_of, used_at}
+use Rattle.aps_samples.specs.Sample.{allowance_at, critical_at, free_at, had_share, has_work, is_full, of_each, sample_of, used_at}
 use Rattle.aps_shares.specs.declared.share.Amount.{Amount}
 use Rattle.aps_shares.specs.declared.share.Share.{Share}
 use Rattle.aps_shares.specs.declared.share.Shortfall.{Shortfall}

@@ -1,5 +1,5 @@
 -- Where no change stands in some ticks, the rows and the shape of the last of them are those of the first.
-use Rattle.std.proofs.Common.{◌≡◌, ℕ, ◌+◌, ◌*◌, ◌<◌, ◌≤◌, List, [], ◌∷◌, ◌++◌, refl, sym, ◌∙◌, ap, subst, append_assoc, Bool, true, false, cond, ◌||◌, ◌&&◌, nat_eq, nat_le, Option, Some, None, arith}
+use Rattle.std.proofs.Common.{◌≡◌, ℕ, ◌+◌, ◌*◌, ◌<◌, ◌≤◌, List, [], ◌∷◌, ◌++◌, refl, sym, ◌∙◌, ap, subst, Bool, true, false, cond, ◌||◌, ◌&&◌, nat_eq, nat_le, Option, Some, None, arith}
 use Rattle.std.specs.Prelude.{unwrap_or}
 use Rattle.std.proofs.Math.Nat.{mul-le-mul_right}
 use Rattle.std.specs.List.{AllByRecursion}
@@ -15,7 +15,6 @@ use Rattle.aps_model.specs.Scenario.{Scenario}
 use Rattle.aps_model.specs.SchedulerState.{SchedulerState}
 use Rattle.aps_model.specs.Valid.{IsScenario}
 use Rattle.aps_laws.specs.Boundaries.{steps_at}
-use Rattle.aps_laws.specs.Moments.{moment}
 use Rattle.aps_laws.proofs.BoundaryLaws.{boundaries, latest}
 use Rattle.aps_laws.proofs.HeldRows.{rows_held}
 use Rattle.aps_laws.proofs.Sound.{legal_last, next_law, sound}

@@ -1,5 +1,5 @@
 -- What the window that ends with a finished tick has of a partition, by the laws of windows.
-use Rattle.std.proofs.Common.{◌≡◌, ℕ, zero, suc, ◌+◌, ◌-◌, ◌*◌, ◌<◌, ◌≤◌, List, length, sym, ◌∙◌, ap, subst, Bool, true, false, cond, if◌then◌else◌, ◌&&◌, nat_eq, arith, refl, inl, inr}
+use Rattle.std.proofs.Common.{◌≡◌, ℕ, ◌+◌, ◌-◌, ◌*◌, ◌<◌, ◌≤◌, List, length, sym, ◌∙◌, ap, subst, Bool, true, false, if◌then◌else◌, ◌&&◌, nat_eq, arith, refl, inl, inr}
 use Rattle.std.specs.List.{range_with_len, sum_by}
 use Rattle.std.proofs.Math.Nat.{mul-pos, zero-mul}
 use Rattle.std.proofs.lemmas.Bool.{and_parts, cases_lt, leb-true, not-true}
