@@ -1,0 +1,16 @@
+pub mod Alongs
+pub mod Amounts
+pub mod Bankrupts
+pub mod CallTimes
+pub mod Had
+pub mod HadWork
+pub mod InOne
+pub mod KeptRuns
+pub mod OpenTies
+pub mod Picked
+pub mod Printed
+pub mod SaidSo
+pub mod ServedLines
+pub mod ServedTimes
+pub mod Ticks
+pub mod Told

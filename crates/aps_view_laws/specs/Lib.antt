@@ -1,0 +1,4 @@
+pub mod Bankrupt
+pub mod Billed
+pub mod Served
+pub mod Shares
