@@ -1,5 +1,5 @@
 -- Which partitions had a candidate at the pick of an entry that tells of nobody who is starved.
-use Rattle.std.proofs.Common.{◌≡◌, ◌≢◌, ℕ, ◌/◌, ◌+◌, ◌<◌, ◌≤◌, List, [], ◌∷◌, ◌++◌, length, Bool, true, false, not, ◌||◌, nat_eq, nat_le, nat_lt, Option, Some, None, inl, inr, refl, sym, ap, subst, ◌∙◌, arith, length-set}
+use Rattle.std.proofs.Common.{◌≡◌, ℕ, ◌/◌, ◌<◌, ◌≤◌, List, [], ◌∷◌, ◌++◌, length, Bool, true, false, not, ◌||◌, nat_eq, nat_le, nat_lt, Option, Some, None, inl, inr, refl, sym, ap, subst, ◌∙◌, arith, length-set}
 use Rattle.std.specs.Option.{option_map}
 use Rattle.std.proofs.lemmas.Bool.{cases_lt}
 use Rattle.std.proofs.lemmas.Bool.Decides.{nat_tests}
@@ -18,8 +18,7 @@ use Rattle.aps_model.specs.Budget.{all_parts, no_part, part_at}
 use Rattle.aps_model.specs.Flag.{flag_for, with_flag}
 use Rattle.aps_model.specs.Inherit.{facts_of}
 use Rattle.aps_model.specs.Legal.{IsLegal}
-use Rattle.aps_model.specs.Merit.{is_critical_pick}
-use Rattle.aps_model.specs.Pick.{contender_of, contenders, greatest, missing}
+use Rattle.aps_model.specs.Pick.{contenders, greatest, missing}
 use Rattle.aps_model.specs.Scenario.{Scenario}
 use Rattle.aps_model.specs.SchedulerState.{SchedulerState, cpu_at, thread_at}
 use Rattle.aps_model.specs.Step.{chosen}
@@ -97,23 +96,23 @@ module _ (scenario : Scenario) (order : Order) (h : List Entry) (e : Entry) (val
   r = state_to_pick scenario (state_after scenario h) h e.cpu
 
   parts_same : IsOpenPick r h e.cpu e t → all_parts r.shape r.rows g (e.to / r.shape.tick) ≡ parts_now t g
-  parts_same open =
-      ap (λ (z : Shape). all_parts z r.rows g (e.to / z.tick)) (sym open.shape)
-      ∙ ap (λ rows. all_parts t.shape rows g (e.to / t.shape.tick)) (sym open.rows)
+  parts_same opened =
+      ap (λ (z : Shape). all_parts z r.rows g (e.to / z.tick)) (sym opened.shape)
+      ∙ ap (λ rows. all_parts t.shape rows g (e.to / t.shape.tick)) (sym opened.rows)
       ∙ ap (λ n. all_parts t.shape t.rows g (n / t.shape.tick)) (sym (moment-append h e))
 
-  by_best : (open : IsOpenPick r h e.cpu e t) (p x : ℕ) → e.picked ≡ Some x → has_candidate (parts_now t g) p (contenders r) ≡ true → had_candidate t g e.cpu p ≡ true
-  by_best open p x picked had = by_greatest (greatest r.shape.free open.parts (contenders r)) refl
+  by_best : (opened : IsOpenPick r h e.cpu e t) (p x : ℕ) → e.picked ≡ Some x → has_candidate (parts_now t g) p (contenders r) ≡ true → had_candidate t g e.cpu p ≡ true
+  by_best opened p x picked had = by_greatest (greatest r.shape.free opened.parts (contenders r)) refl
     where
-      by_greatest : (best : Option Contender) → greatest r.shape.free open.parts (contenders r) ≡ best → had_candidate t g e.cpu p ≡ true
-      by_greatest None is = absurd (clash (sym picked ∙ open.picked ∙ ap (option_map (λ (b : Contender). b.thread)) is))
+      by_greatest : (best : Option Contender) → greatest r.shape.free opened.parts (contenders r) ≡ best → had_candidate t g e.cpu p ≡ true
+      by_greatest None is = absurd (clash (sym picked ∙ opened.picked ∙ ap (option_map (λ (b : Contender). b.thread)) is))
         where
           clash : Some x ≡ None → ⊥
           clash same = cc
       by_greatest (Some b) is =
-          picked_or_left r (parts_now t g) open.parts e.cpu b e.to _ p t
-          (open.leaves ∙ ap (λ (k : Option Contender). with_flag (chosen r open.parts e.cpu k) e.to (flag_for (chosen r open.parts e.cpu k) h open.parts e.cpu e.to (greatest r.shape.free open.parts (contenders (chosen r open.parts e.cpu k))))) is)
-          open.below (greatest_ready r r.shape.free open.parts b is) had
+          picked_or_left r (parts_now t g) opened.parts e.cpu b e.to _ p t
+          (opened.leaves ∙ ap (λ (k : Option Contender). with_flag (chosen r opened.parts e.cpu k) e.to (flag_for (chosen r opened.parts e.cpu k) h opened.parts e.cpu e.to (greatest r.shape.free opened.parts (contenders (chosen r opened.parts e.cpu k))))) is)
+          opened.below (greatest_ready r r.shape.free opened.parts b is) had
 
   none_is : (x : ℕ) → e.picked ≡ Some x → e.picked ≡ None → ⊥
   none_is x some none = clash (sym some ∙ none)
@@ -126,11 +125,11 @@ module _ (scenario : Scenario) (order : Order) (h : List Entry) (e : Entry) (val
   had_by_pick p x picked starved inside some =
       elim (open_pick scenario order h e valid legal) [
         | inl none ↦ absurd (none_is x picked none.none)
-        | inr open ↦ elim (picks_law scenario order g valid legal h [] e refl) [
-            | inr none ↦ absurd (none_is x picked none.none)
-            | inl says ↦
-                by_best open p x picked
-                (none_missing (parts_now t g) (contenders r) (ap (λ l. missing l (contenders r)) (sym (parts_same open)) ∙ sym says.starved ∙ starved) p inside some)
+        | inr opened ↦ elim (picks_law scenario order g valid legal h [] e refl) [
+          | inr none ↦ absurd (none_is x picked none.none)
+          | inl says ↦
+              by_best opened p x picked
+              (none_missing (parts_now t g) (contenders r) (ap (λ l. missing l (contenders r)) (sym (parts_same opened)) ∙ sym says.starved ∙ starved) p inside some)
         ]
       ]
 

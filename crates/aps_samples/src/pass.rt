@@ -102,11 +102,7 @@ impl Samples {
     }
 
     /// The partition rows that all entries of the history leave; the pass ends with that. `NoMemory` comes where memory runs out.
-    pub fn last_rows(
-        self,
-        alloc: Global,
-        history: &History,
-    ) -> Result<Vec<PartitionRow>, NoMemory>
+    pub fn last_rows(self, alloc: Global, history: &History) -> Result<Vec<PartitionRow>, NoMemory>
         requires at { IsAt history.now.entries self }
         requires of { scenario_of self.cursor ≡ history.now.scenario }
         ensures same { IfOk result (λ rows. rows.items ≡ (state_after history.now.scenario history.now.entries).rows) }

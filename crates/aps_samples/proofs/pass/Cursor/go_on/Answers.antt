@@ -26,7 +26,7 @@ retrace-requires-clause-taken c =
     (next_taken (scenario_of self) (order_of self) self.core.setup.limit c.args.entries.now self.next c.index-entries-self.result c.requires.legal c.requires.some (sym c.index-entries-self.is) c.requires.up.room)
 
 pub at-look-requires : goal.at-look-requires
-at-look-requires c = (c.args.self.now.core.entries, ap (λ (r : Run). r.entries) c.retrace.ensures)
+at-look-requires c = record { last = (c.args.self.now.core.entries, ap (λ (r : Run). r.entries) c.retrace.ensures) }
 
 pub add-requires-clause-entry : goal.add-requires-clause-entry
 add-requires-clause-entry c =
