@@ -9,9 +9,12 @@ abbrev pub is_send_op : Op → Bool
 is_send_op (Send c) = true
 is_send_op op = false
 
+abbrev pub has_send : List Op → Bool
+has_send ops = list_any is_send_op ops
+
 -- the program of thread x has a send
 abbrev pub may_call : Scenario → ℕ → Bool
-may_call scenario x = list_any is_send_op (thread_row scenario x).program
+may_call scenario x = has_send (thread_row scenario x).program
 
 -- the number at this place
 abbrev pub caller_at : List ℕ → ℕ → ℕ

@@ -25,6 +25,13 @@ fn may_call(scenario: &Scenario, x: usize) -> bool
     ensures { result ≡ spec.may_call scenario.now x }
 {
     let ops = scenario.threads()[x].program.ops();
+    has_send(ops)
+}
+
+/// Whether one of these is a send.
+fn has_send(ops: &[Op]) -> bool
+    ensures { result ≡ spec.has_send ops.now }
+{
     ops.iter().any(|op| is_send_op(op))
 }
 
