@@ -4,3 +4,4 @@ pub mod CallsSmall
 pub mod Pieces
 pub mod KnownLines
 pub mod Holding
+pub mod Quiet

@@ -4,3 +4,5 @@ pub mod Answered
 pub mod Bills
 pub mod Text
 pub mod Held
+pub mod Callers
+pub mod Followed

@@ -7,9 +7,9 @@ ghost use Rattle.aps_latency.specs.Text as spec;
 
 use crate::billing::bills;
 use crate::call::Calls;
-use crate::calling::calls;
+use crate::following::follow_all;
 use crate::lines::{add_bills, add_calls, add_head, add_waits};
-use aps_lives::{Life, lives};
+use aps_lives::Life;
 use aps_model::{Entry, History, Name, Nanos, NoMemory, Order, ThreadRow, Usage};
 use std::alloc::Global;
 use std::marker::Model;
@@ -56,11 +56,12 @@ fn known_of(alloc: Global, history: &History, order: Order) -> Result<Known, NoM
     ensures { IfOk result (spec.IsKnown history.now.scenario history.now.entries) }
 {
     let entries = history.entries();
+    let followed = follow_all(alloc, history, order)?;
     Ok(Known {
         end: end_of(entries),
         bills: bills(alloc, entries)?,
-        lives: lives(alloc, history, order)?,
-        calls: calls(alloc, history, order)?,
+        lives: followed.lives,
+        calls: followed.calls,
     })
 }
 

@@ -4,7 +4,9 @@
 mod answered;
 mod billing;
 mod call;
+mod callers;
 mod calling;
+mod following;
 mod latency;
 pub mod laws;
 mod lines;
@@ -13,6 +15,6 @@ mod news;
 pub use answered::Answered;
 pub use billing::bills;
 pub use call::{Asked, Call, Calls};
-pub use calling::calls;
+pub use following::{Followed, calls, follow_all};
 pub use latency::latency_text;
 pub use news::{News, news_of};

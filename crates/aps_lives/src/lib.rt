@@ -13,6 +13,6 @@ mod waits;
 pub use cycle::{Begun, Cycle, Cycles, Times};
 pub use doing::{Doing, doing_of};
 pub use life::{Life, Segment};
-pub use retracing::lives;
+pub use retracing::{lengthen, lives, unborn};
 pub use tally::{Longest, Tally};
 pub use waits::{Wait, Waits, tally_cycles};

@@ -32,8 +32,8 @@ pub fn lives(alloc: Global, history: &History, order: Order) -> Result<Vec<Life>
     Ok(lives)
 }
 
-/// So many lives that have not begun.
-fn unborn(alloc: Global, count: usize) -> Result<Vec<Life>, NoMemory>
+/// So many lives that have not begun. `NoMemory` comes where memory runs out.
+pub fn unborn(alloc: Global, count: usize) -> Result<Vec<Life>, NoMemory>
     ensures { IfOk result (λ lives. lives.items ≡ replicate count []) }
 {
     let mut lives = Vec::with_capacity(alloc, count)?;
@@ -43,11 +43,20 @@ fn unborn(alloc: Global, count: usize) -> Result<Vec<Life>, NoMemory>
     Ok(lives)
 }
 
-/// Each life goes on with what its thread does after the entries of the core, from one moment to another.
-fn lengthen(lives: &mut Vec<Life>, core: &Core, from: Nanos, to: Nanos) -> Result<(), NoMemory>
+/// Each life goes on with what its thread does after the entries of the core, from one moment (ns) to another. Where no time
+/// passes between them nothing changes, whatever the threads do. `NoMemory` comes where memory runs out.
+pub fn lengthen(
+    lives: &mut Vec<Life>,
+    core: &Core,
+    from: Nanos,
+    to: Nanos,
+) -> Result<(), NoMemory>
     requires { length lives.old.items ≤ 1024 }
     ensures { OnOk result (AreLonger (state_of core.now) from to lives.old.items lives.new.items) }
 {
+    if from >= to {
+        return Ok(());
+    }
     for x in 0..lives.len() {
         let doing = doing_of(core, ThreadId::at(x));
         lives[x].add(Segment { from, to, doing })?;

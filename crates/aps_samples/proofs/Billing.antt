@@ -31,10 +31,10 @@ use Rattle.aps_samples.proofs.Freed.{BeginLater, critical_longer, free_longer, f
 
 -- ---- at the start
 
-pub sums_none : (scenario : Scenario) (window : ℕ) → window ≤ 400 → AreSums scenario [] 0 window (record { all = opened window; free = opened window })
+pub sums_none : (scenario : Scenario) (window : ℕ) → window ≤ 400 → AreSums scenario [] 0 window (record { all = opened window; free = opened window; span = window })
 sums_none scenario window short =
     let none = counts_none (shape_with scenario window) short in
-    record { all = none; free = subst (λ h. Counts (shape_with scenario window) h 0 (opened window)) (sym (freed_none scenario)) none }
+    record { all = none; free = subst (λ h. Counts (shape_with scenario window) h 0 (opened window)) (sym (freed_none scenario)) none; span = refl }
 
 -- ---- one entry more
 
@@ -95,19 +95,21 @@ room_free scenario order h j window sums e valid legal are whole at short =
 
 pub sums_more : (scenario : Scenario) (h : List Entry) (j window : ℕ) (before after : Sums) (e : Entry) (mark : Bool) → AreSums scenario h j window before
     → IsInOneTick scenario.shape.tick e → (e.from < e.to → e.from / scenario.shape.tick ≡ j) → mark ≡ is_free (last_kind scenario h e.cpu)
-    → GoesOnBy before.all j e e.critical after.all → GoesOnBy before.free j e mark after.free → AreSums scenario (h ++ e ∷ []) j window after
-sums_more scenario h j window before after e mark are whole at is all free = record {
+    → GoesOnBy before.all j e e.critical after.all → GoesOnBy before.free j e mark after.free → after.span ≡ before.span → AreSums scenario (h ++ e ∷ []) j window after
+sums_more scenario h j window before after e mark are whole at is all free span = record {
   all = all (shape_with scenario window) h are.all whole at;
   free = subst (λ l. Counts (shape_with scenario window) l j after.free) (ap (λ m. freed scenario h ++ marked e m ∷ []) is ∙ sym (freed_more scenario h e)) (free (shape_with scenario window) (freed scenario h) are.free whole at);
+  span = span ∙ are.span;
 }
 
 -- ---- another window, and a tick more
 
 pub sums_resized : (scenario : Scenario) (h : List Entry) (j window other : ℕ) (sums : Sums) → AreSums scenario h j window sums → other ≤ 400
-    → AreSums scenario h j other (record { all = resized other sums.all; free = resized other sums.free })
+    → AreSums scenario h j other (record { all = resized other sums.all; free = resized other sums.free; span = other })
 sums_resized scenario h j window other sums are short = record {
   all = counts_resized (shape_with scenario window) (shape_with scenario other) h j sums.all are.all refl short;
   free = counts_resized (shape_with scenario window) (shape_with scenario other) (freed scenario h) j sums.free are.free refl short;
+  span = refl;
 }
 
 one_later : (shape : Shape) (h : List Entry) (j : ℕ) (w : Window) → Counts shape h j w → Counts shape h (j + 1) (advanced 1 w)
@@ -116,10 +118,11 @@ one_later shape h j w counts =
     subst (λ n. Counts shape h (j + 1) (advanced n w)) one (counts_later shape h j (j + 1) w counts (omega arith))
 
 pub sums_later : (scenario : Scenario) (h : List Entry) (j window : ℕ) (sums : Sums) → AreSums scenario h j window sums
-    → AreSums scenario h (j + 1) window (record { all = advanced 1 sums.all; free = advanced 1 sums.free })
+    → AreSums scenario h (j + 1) window (record { all = advanced 1 sums.all; free = advanced 1 sums.free; span = sums.span })
 sums_later scenario h j window sums are = record {
   all = one_later (shape_with scenario window) h j sums.all are.all;
   free = one_later (shape_with scenario window) (freed scenario h) j sums.free are.free;
+  span = are.span;
 }
 
 -- ---- what is read

@@ -15,3 +15,5 @@ pub mod Steps
 pub mod Ticked
 pub mod Begun
 pub mod Fields
+pub mod Candidates
+pub mod Served

@@ -61,9 +61,9 @@ pub up_more : (scenario : Scenario) (order : Order) (h : List Entry) (j : ℕ) (
     → core ≡ with_entry cursor.core (entry_at h cursor.next)
     → (entry_at h cursor.next).cpu < 16 → length cursor.free ≡ 16 → mark ≡ is_free (kind_of scenario (take cursor.next h) (entry_at h cursor.next))
     → GoesOnBy cursor.sums.all j (entry_at h cursor.next) (entry_at h cursor.next).critical sums.all
-    → GoesOnBy cursor.sums.free j (entry_at h cursor.next) (slice_index_or cursor.free (entry_at h cursor.next).cpu false) sums.free
+    → GoesOnBy cursor.sums.free j (entry_at h cursor.next) (slice_index_or cursor.free (entry_at h cursor.next).cpu false) sums.free → sums.span ≡ cursor.sums.span
     → IsUpTo scenario order h j (record { core = core; next = cursor.next + 1; free = set cursor.free (entry_at h cursor.next).cpu mark; sums = sums })
-up_more scenario order h j cursor core sums mark valid legal up less at goes_on few places is all free =
+up_more scenario order h j cursor core sums mark valid legal up less at goes_on few places is all free span =
     let e = entry_at h cursor.next in
     let limit : core.setup.limit ≡ cursor.core.setup.limit = ap (λ (run : Run). run.setup.limit) goes_on in
     let room = up.room in
@@ -75,7 +75,7 @@ up_more scenario order h j cursor core sums mark valid legal up less at goes_on 
       room = omega (arith, limit, room);
       free = subst (λ g. AreFree scenario g (set cursor.free e.cpu mark)) (sym longer) (free_more scenario (take cursor.next h) e cursor.free mark up.free (omega (arith, few, places)) is);
       sums = subst (λ g. AreSums scenario g j up.window sums) (sym longer)
-          (sums_more scenario (take cursor.next h) j up.window cursor.sums sums e (slice_index_or cursor.free e.cpu false) up.sums (in_one_tick scenario order h cursor.next valid legal less) at (up.free e.cpu few) all free);
+          (sums_more scenario (take cursor.next h) j up.window cursor.sums sums e (slice_index_or cursor.free e.cpu false) up.sums (in_one_tick scenario order h cursor.next valid legal less) at (up.free e.cpu few) all free span);
     }
 
 pub look_of : (scenario : Scenario) (order : Order) (limit : ℕ) (h : List Entry) (i changes : ℕ) (core : Run) (look : Look) → i < length h → core ≡ front scenario order limit h (i + 1)

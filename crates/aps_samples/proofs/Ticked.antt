@@ -30,10 +30,10 @@ abbrev pub with_lasts : Samples → Lasts → Samples
 with_lasts s lasts = record { cursor = s.cursor; note = s.note; lasts = lasts; tick = s.tick }
 
 abbrev pub resized_by : ℕ → Sums → Sums
-resized_by window sums = record { all = resized window sums.all; free = resized window sums.free }
+resized_by window sums = record { all = resized window sums.all; free = resized window sums.free; span = window }
 
 abbrev pub later_by : Sums → Sums
-later_by sums = record { all = advanced 1 sums.all; free = advanced 1 sums.free }
+later_by sums = record { all = advanced 1 sums.all; free = advanced 1 sums.free; span = sums.span }
 
 -- and at the next tick, with these windows
 abbrev pub one_on : Samples → Sums → Samples

@@ -1,6 +1,8 @@
 -- What is seen at a pick.
-use Rattle.std.specs.Prelude.{◌≡◌, ℕ, ◌<◌, List, length, is_some, nat_lt, false, not, slice_index_or}
+use Rattle.std.specs.Prelude.{◌≡◌, ℕ, ◌<◌, List, length, is_some, nat_lt, Bool, true, false, not, slice_index_or, Some, None}
+use Rattle.std.specs.List.{list_all}
 use Rattle.aps_model.specs.declared.entry.Entry.{Entry}
+use Rattle.aps_model.specs.declared.merit.PartFacts.{PartFacts}
 use Rattle.aps_model.specs.Scenario.{Scenario}
 use Rattle.aps_model.specs.SchedulerState.{SchedulerState, cpu_at}
 use Rattle.aps_load_laws.specs.Kinds.{is_free, kind_of}
@@ -23,3 +25,19 @@ pub record IsLook (scenario : Scenario) (before : List Entry) (e : Entry) (look 
   pub starved : look.starved ≡ is_some e.starved
   pub changed : look.changed ≡ changes_by scenario before e
   pub free : look.free ≡ is_free (kind_of scenario before e)
+
+-- ---- what an entry tells of candidates
+
+-- somebody was picked, and nobody is starved
+pub record TellsOfNobody (e : Entry) : Type 0 where
+  pub thread : ℕ
+  pub picked : e.picked ≡ Some thread
+  pub starved : e.starved ≡ None
+
+abbrev pub have_budgets : List PartFacts → Bool
+have_budgets parts = list_all (λ (part : PartFacts). nat_lt 0 part.budget) parts
+
+-- and each partition has a budget
+pub record EachHad (parts : List PartFacts) (e : Entry) : Type 0 where
+  pub tells : TellsOfNobody e
+  pub budgets : have_budgets parts ≡ true

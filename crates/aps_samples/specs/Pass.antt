@@ -140,7 +140,11 @@ at_start history order = record {
     core = start_of history order;
     next = 0;
     free = replicate 16 false;
-    sums = record { all = opened history.scenario.shape.window; free = opened history.scenario.shape.window };
+    sums = record {
+      all = opened history.scenario.shape.window;
+      free = opened history.scenario.shape.window;
+      span = history.scenario.shape.window;
+    };
   };
   note = no_note;
   lasts = no_lasts;

@@ -39,3 +39,4 @@ shape_with scenario window = record scenario.shape { window = window }
 pub record AreSums (scenario : Scenario) (h : List Entry) (j window : ℕ) (sums : Sums) : Type 0 where
   pub all : Counts (shape_with scenario window) h j sums.all
   pub free : Counts (shape_with scenario window) (freed scenario h) j sums.free
+  pub span : sums.span ≡ window

@@ -1,12 +1,14 @@
 //! What is seen at a pick.
-ghost use Rattle.std.specs.Prelude.{◌≡◌, ℕ, ◌<◌, ◌||◌, length, slice_index_or, false, not};
+ghost use Rattle.std.specs.Prelude.{◌≡◌, ℕ, ◌<◌, ◌++◌, List, [], ◌∷◌, ◌||◌, length, slice_index_or, false, true, not, nat_le};
+ghost use Rattle.aps_model.specs.declared.entry.Entry.{Entry};
 ghost use Rattle.aps_model.specs.Budget.{no_part, part_at};
 ghost use Rattle.aps_model.specs.Pick.{contenders};
 ghost use Rattle.aps_model.specs.SchedulerState.{cpu_at};
 ghost use Rattle.aps_core.specs.Run.{state_of};
 ghost use Rattle.aps_core.specs.Scan.{has_candidate};
-ghost use Rattle.aps_samples.specs.Look.{IsSeen};
-ghost use Rattle.aps_samples.specs.Picks.{bills, is_unfunded};
+ghost use Rattle.aps_load_laws.specs.Passing.{parts_now};
+ghost use Rattle.aps_samples.specs.Look.{EachHad, IsSeen, TellsOfNobody, have_budgets};
+ghost use Rattle.aps_samples.specs.Picks.{bills, had_candidate, is_unfunded};
 
 use crate::truth::nor;
 use aps_core::Core;
@@ -28,7 +30,7 @@ pub struct Look {
 impl Look {
     /// The look at the pick that the core made last, which is this entry's. So many changes stood before the step.
     pub fn at(core: &Core, e: &Entry, changes: usize) -> Look
-        requires { 0 < length core.now.entries }
+        requires last { (before : List Entry) × (core.now.entries ≡ before ++ e.now ∷ []) }
         ensures { IsSeen (state_of core.now) core.now.entries changes e.now result }
     {
         let history = core.history();
@@ -37,7 +39,7 @@ impl Look {
         core.stand(&mut room[..count]);
         let parts = &room[..count];
         Look {
-            lacking: lacking(core, parts, e.cpu),
+            lacking: lacking(core, parts, e),
             out: unfunded(parts),
             starved: e.starved.is_some(),
             changed: changes < history.changes().len(),
@@ -59,8 +61,58 @@ fn no_part() -> PartFacts
     }
 }
 
-/// Which partitions had no candidate at the last pick, which was the processor's, where they stand so.
-fn lacking(core: &Core, parts: &[PartFacts], c: CpuId) -> [bool; 32]
+/// Which partitions had no candidate at the last pick, which was this entry's, where they stand so. Where each has a budget,
+/// somebody was picked and nobody is starved, each had one.
+fn lacking(core: &Core, parts: &[PartFacts], e: &Entry) -> [bool; 32]
+    requires last { (before : List Entry) × (core.now.entries ≡ before ++ e.now ∷ []) }
+    requires parts { parts.now ≡ parts_now (state_of core.now) core.now.entries }
+    ensures { (p : ℕ) → p < 32 → slice_index_or result p false ≡ not (had_candidate (state_of core.now) core.now.entries e.now.cpu p) }
+{
+    // the check wants to see here that the entries of the core are legal
+    let _history = core.history();
+    if each_had(parts, e) {
+        return from_on(parts.len());
+    }
+    found_lacking(core, parts, e.cpu)
+}
+
+/// Whether each partition had a candidate at the pick of this entry, as far as the entry tells it.
+fn each_had(parts: &[PartFacts], e: &Entry) -> bool
+    ensures { result ≡ true → EachHad parts.now e.now }
+{
+    is_pick_without_starved(e) && have_budgets(parts)
+}
+
+/// Whether somebody was picked and nobody is starved.
+fn is_pick_without_starved(e: &Entry) -> bool
+    ensures { result ≡ true → TellsOfNobody e.now }
+{
+    match (e.picked, e.starved) {
+        (Some(_), None) => true,
+        _ => false,
+    }
+}
+
+/// Whether each partition has a budget.
+fn have_budgets(parts: &[PartFacts]) -> bool
+    ensures { result ≡ have_budgets parts.now }
+{
+    parts.iter().all(|part| part.budget > 0)
+}
+
+/// The partitions with this number and later ones.
+fn from_on(first: usize) -> [bool; 32]
+    ensures { (p : ℕ) → p < 32 → slice_index_or result p false ≡ nat_le first p }
+{
+    let mut all = [false; PARTITIONS];
+    for p in 0..PARTITIONS {
+        all[p] = first <= p;
+    }
+    all
+}
+
+/// Which partitions had no candidate at the last pick, which was the processor's, where they stand so: in one pass over the threads.
+fn found_lacking(core: &Core, parts: &[PartFacts], c: CpuId) -> [bool; 32]
     ensures { (p : ℕ) → p < 32 → slice_index_or result p false ≡ not (bills (cpu_at (state_of core.now) c).running p || has_candidate parts.now p (contenders (state_of core.now))) }
 {
     let ready = core.candidates(parts);

@@ -1,6 +1,7 @@
 //! One pass over the entries of a recorded history, which gives the sample of one finished tick after the other. It keeps what
 //! it needs of the last 400 ticks, however long the history is.
 ghost use Rattle.std.specs.Prelude.{◌≡◌, ◌+◌, ◌/◌, ◌<◌, ◌≤◌, length, take, IfOk};
+ghost use Rattle.aps_model.specs.After.{state_after};
 ghost use Rattle.aps_model.specs.Legal.{IsLegal};
 ghost use Rattle.aps_model.specs.Loaded.{finished_ticks};
 ghost use Rattle.aps_model.specs.Valid.{IsScenario};
@@ -11,11 +12,11 @@ ghost use Rattle.aps_samples.specs.Sample.{sample_of};
 use crate::lasts::Lasts;
 use crate::look::Look;
 use crate::note::Note;
-use crate::retracing::{boot, retrace};
+use crate::retracing::{boot, retrace, retrace_rest, rows_of};
 use crate::sample::{Sample, sample_at};
 use crate::sums::Sums;
 use aps_core::Core;
-use aps_model::{Entry, History, NoMemory, Order};
+use aps_model::{Entry, History, NoMemory, Order, PartitionRow};
 use std::alloc::Global;
 
 const CPUS: usize = 16;
@@ -98,6 +99,18 @@ impl Samples {
         self.cursor.sums.go_on();
         self.tick += 1;
         sample
+    }
+
+    /// The partition rows that all entries of the history leave; the pass ends with that. `NoMemory` comes where memory runs out.
+    pub fn last_rows(self, alloc: Global, history: &History) -> Result<Vec<PartitionRow>, NoMemory>
+        requires at { IsAt history.now.entries self }
+        requires of { scenario_of self.cursor ≡ history.now.scenario }
+        ensures same { IfOk result (λ rows. rows.items ≡ (state_after history.now.scenario history.now.entries).rows) }
+        ensures few { IfOk result (λ rows. length rows.items ≤ 32) }
+    {
+        let Cursor { mut core, next, .. } = self.cursor;
+        retrace_rest(&mut core, history.entries(), next);
+        rows_of(alloc, &core)
     }
 
     /// Makes the steps of the entries that end before a moment, and notes their picks. Their time lies in the next tick.

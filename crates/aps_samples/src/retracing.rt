@@ -1,5 +1,5 @@
 //! A core that makes the steps of a recorded history again.
-ghost use Rattle.std.specs.Prelude.{◌≡◌, ◌<◌, ◌≤◌, [], max, All, IfOk, length};
+ghost use Rattle.std.specs.Prelude.{◌≡◌, ◌<◌, ◌≤◌, [], max, All, IfOk, length, take};
 ghost use Rattle.aps_model.specs.After.{state_after};
 ghost use Rattle.aps_model.specs.Legal.{IsLegal};
 ghost use Rattle.aps_model.specs.Valid.{IsScenario};
@@ -41,7 +41,7 @@ pub fn boot(alloc: Global, history: &History, order: Order) -> Result<Core, NoMe
 }
 
 /// A copy of the rows that stand.
-fn rows_of(alloc: Global, core: &Core) -> Result<Vec<PartitionRow>, NoMemory>
+pub fn rows_of(alloc: Global, core: &Core) -> Result<Vec<PartitionRow>, NoMemory>
     ensures same { IfOk result (λ rows. rows.items ≡ (state_after core.now.setup.scenario core.now.entries).rows) }
     ensures few { IfOk result (λ rows. length rows.items ≤ 32) }
 {
@@ -60,6 +60,20 @@ fn retrace_all(core: &mut Core, entries: &[Entry])
 {
     for e in entries {
         retrace(core, e);
+    }
+}
+
+/// The core, which has made the steps of so many entries, makes those of the others.
+pub fn retrace_rest(core: &mut Core, entries: &[Entry], done: usize)
+    requires valid { IsScenario core.old.setup.scenario }
+    requires done { core.old.entries ≡ take done entries.now }
+    requires place { done ≤ length entries.now }
+    requires legal { IsLegal core.old.setup.scenario core.old.setup.order entries.now }
+    requires few { length entries.now ≤ core.old.setup.limit }
+    ensures { core.new ≡ record core.old { entries = entries.now } }
+{
+    for i in done..entries.len() {
+        retrace(core, &entries[i]);
     }
 }
 

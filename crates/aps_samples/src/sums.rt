@@ -11,12 +11,13 @@ use std::alloc::Global;
 
 const PARTITIONS: usize = 32;
 
-/// Two windows of ticks with the same bills. In the first a bill is critical where its entry is, in the second where its
-/// entry ran in free time.
+/// Two windows of ticks with the same bills, and how many ticks count in them. In the first a bill is critical where its entry
+/// is, in the second where its entry ran in free time.
 #[derive(Drop)]
 pub struct Sums {
     pub all: Window,
     pub free: Window,
+    pub span: u16,
 }
 
 impl Sums {
@@ -24,11 +25,15 @@ impl Sums {
     pub fn new(alloc: Global, window: u16) -> Result<Sums, NoMemory>
         requires least { 8 ≤ window }
         requires most { window ≤ 400 }
-        ensures { IfOk result (λ sums. sums ≡ record { all = opened window; free = opened window }) }
+        ensures { IfOk result (λ sums. sums ≡ record { all = opened window; free = opened window; span = window }) }
     {
         let all = Window::new(alloc, window)?;
         let free = Window::new(alloc, window)?;
-        Ok(Sums { all, free })
+        Ok(Sums {
+            all,
+            free,
+            span: window,
+        })
     }
 
     /// Adds the time of an entry, which ran in the tick at which the windows stand, in free time or not.
@@ -38,6 +43,7 @@ impl Sums {
         requires free { HasRoom self.old.free tick e.now }
         ensures all { GoesOnBy self.old.all tick e.now e.now.critical self.new.all }
         ensures free { GoesOnBy self.old.free tick e.now is_free self.new.free }
+        ensures span { self.new.span ≡ self.old.span }
     {
         add_time(&mut self.all, e, tick, e.critical);
         add_time(&mut self.free, e, tick, is_free);
@@ -47,17 +53,22 @@ impl Sums {
     pub fn resize(&mut self, window: u16)
         requires least { 8 ≤ window }
         requires most { window ≤ 400 }
-        ensures { self.new ≡ record { all = resized window self.old.all; free = resized window self.old.free } }
+        requires all { self.old.all.span ≡ self.old.span }
+        requires free { self.old.free.span ≡ self.old.span }
+        ensures { self.new ≡ record { all = resized window self.old.all; free = resized window self.old.free; span = window } }
     {
-        self.all.resize(window);
-        self.free.resize(window);
+        if window != self.span {
+            self.all.resize(window);
+            self.free.resize(window);
+            self.span = window;
+        }
     }
 
     /// Goes on to the next tick.
     pub fn go_on(&mut self)
         requires all { self.old.all.tick < 100000000 }
         requires free { self.old.free.tick < 100000000 }
-        ensures { self.new ≡ record { all = advanced 1 self.old.all; free = advanced 1 self.old.free } }
+        ensures { self.new ≡ record { all = advanced 1 self.old.all; free = advanced 1 self.old.free; span = self.old.span } }
     {
         self.all.advance(1);
         self.free.advance(1);

@@ -25,6 +25,9 @@ retrace-requires-clause-taken c =
     subst (λ (run : Run). IsTaken run c.index-entries-self.result.cpu c.index-entries-self.result) (sym c.requires.up.run)
     (next_taken (scenario_of self) (order_of self) self.core.setup.limit c.args.entries.now self.next c.index-entries-self.result c.requires.legal c.requires.some (sym c.index-entries-self.is) c.requires.up.room)
 
+pub at-look-requires : goal.at-look-requires
+at-look-requires c = record { last = (c.args.self.now.core.entries, ap (λ (r : Run). r.entries) c.retrace.ensures) }
+
 pub add-requires-clause-entry : goal.add-requires-clause-entry
 add-requires-clause-entry c =
     let self = c.args.self.now in
@@ -79,4 +82,4 @@ returns-clause-up c =
     let free : GoesOnBy self.sums.free c.args.tick e (slice_index_or self.free e.cpu false) sums.free =
     subst (λ (d : Entry). GoesOnBy self.sums.free c.args.tick d (slice_index_or self.free e.cpu false) sums.free) is free_there in
     subst (λ k. IsUpTo scenario (order_of self) h c.args.tick (record { core = c.retrace.new.core; next = self.next + 1; free = set self.free k c.at-look.result.free; sums = sums })) (sym cpu)
-    (up_more scenario (order_of self) h c.args.tick self c.retrace.new.core sums c.at-look.result.free c.requires.valid c.requires.legal c.requires.up c.requires.some c.requires.runs goes_on few places look.free all free)
+    (up_more scenario (order_of self) h c.args.tick self c.retrace.new.core sums c.at-look.result.free c.requires.valid c.requires.legal c.requires.up c.requires.some c.requires.runs goes_on few places look.free all free c.add.ensures.span)

@@ -38,6 +38,12 @@ resize-requires-clause-most c =
     c.entries-entries.ensures.same ticks c.requires.of c.requires.at c.requires.finished c.go_through.ensures.up c.go_through.ensures.notes in
     (wide_at c.args.history.now.entries c.args.self.now c.go_through.new.self c.requires.at note).short
 
+pub resize-requires-clause-all : goal.resize-requires-clause-all
+resize-requires-clause-all c = let sums = c.begin_tick.ensures.up.ready.up.sums in sums.all.span ∙ sym sums.span
+
+pub resize-requires-clause-free : goal.resize-requires-clause-free
+resize-requires-clause-free c = let sums = c.begin_tick.ensures.up.ready.up.sums in sums.free.span ∙ sym sums.span
+
 pub sample_at-sample-requires-clause-note : goal.sample_at-sample-requires-clause-note
 sample_at-sample-requires-clause-note c =
     let ticks : c.shape.result.now.tick ≡ (scenario_of c.args.self.now.cursor).shape.tick =
