@@ -1,5 +1,5 @@
 -- How a text goes to a sink, under other names of the text and of its status.
-use Rattle.std.proofs.Common.{◌≡◌, ℕ, List, refl, inl, inr, subst, tt}
+use Rattle.std.proofs.Common.{◌≡◌, ℕ, List, refl, inl, inr, subst}
 use Rattle.aps_io.specs.Causes.{Rose}
 use Rattle.aps_model.specs.declared.entry.Entry.{Entry}
 use Rattle.aps_model.specs.Scenario.{Scenario}
