@@ -8,7 +8,7 @@ use Rattle.std.proofs.lemmas.List.Sums.{sum_by-cons}
 use Rattle.aps_model.specs.declared.entry.Entry.{Entry}
 use Rattle.aps_model.specs.declared.entry.Order.{Order}
 use Rattle.aps_model.specs.After.{after, state_after}
-use Rattle.aps_model.specs.Bound.{others_slack, slack}
+use Rattle.aps_model.specs.Bound.{KeepsWindowBound, others_slack, slack}
 use Rattle.aps_model.specs.Due.{last_end, last_to}
 use Rattle.aps_model.specs.Legal.{IsLegal}
 use Rattle.aps_model.specs.Loaded.{finished_ticks, is_among, state_of_tick}
@@ -304,3 +304,10 @@ steady_is_served scenario order h r legal a b finished steady before later e sam
       | inl no_pick ↦ absurd (makes_pick scenario order h before later e b r legal same finished high no_pick)
       | inr pick ↦ funded_served scenario before e pick
     ]
+
+-- the window bound, of steady ticks
+pub steady_window_bound : (scenario : Scenario) (order : Order) (h : List Entry) → IsScenario scenario → IsLegal scenario order h → KeepsWindowBound scenario h
+steady_window_bound scenario order h r legal a p finished steady inside =
+    let b : ℕ = a + (state_of_tick scenario h a).shape.window in
+    let parts = steady_parts scenario.shape.tick h (state_after scenario h).changes a b steady in
+    served_window_bound scenario order h r legal a p finished parts.0 (steady_is_served scenario order h r legal a b finished steady) inside

@@ -3,6 +3,7 @@ ghost use Rattle.std.specs.Prelude.{List, [], ◌∷◌, ◌++◌, ◌⊎◌, �
 ghost use Rattle.aps_model.specs.declared.entry.Entry.{Entry};
 ghost use Rattle.aps_model.specs.declared.entry.Order.{Order};
 ghost use Rattle.aps_model.specs.After.{after, state_after};
+ghost use Rattle.aps_model.specs.Bound.{KeepsWindowBound};
 ghost use Rattle.aps_model.specs.Scenario.{Scenario};
 ghost use Rattle.aps_model.specs.Valid.{IsScenario};
 ghost use Rattle.aps_model.specs.Legal.{IsLegal};
@@ -43,6 +44,14 @@ pub fn steady_is_served()
         → IsScenario scenario
         → IsLegal scenario order h
         → ServesSteady scenario h }
+{}
+
+/// So the window bound is a corollary, word for word: a finished window of steady ticks has no change, and is served.
+pub fn served_windows_give_the_bound()
+    ensures { (scenario : Scenario) (order : Order) (h : List Entry)
+        → IsScenario scenario
+        → IsLegal scenario order h
+        → KeepsWindowBound scenario h }
 {}
 
 /// A pick is of class 1 exactly where some ready thread is, and so it is wherever a partition that is in budget has work,
