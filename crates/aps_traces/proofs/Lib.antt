@@ -1,4 +1,5 @@
-pub mod Pieces
-pub mod Told
-pub mod Numbered
 pub mod ArrowCounts
+pub mod Numbered
+pub mod Pieces
+pub mod Times
+pub mod Told

@@ -1,5 +1,5 @@
 //! Laws of traces. Each function states one, and does nothing.
-ghost use Rattle.std.specs.Prelude.{◌≡◌, ◌≢◌, ℕ, ◌<◌, ◌≤◌, ◌+◌, List};
+ghost use Rattle.std.specs.Prelude.{◌≡◌, ◌≢◌, ℕ, ◌<◌, ◌^◌, List};
 ghost use Rattle.aps_model.specs.declared.scenario.ThreadRow.{ThreadRow};
 ghost use Rattle.aps_traces.specs.Time.{us_text};
 ghost use Rattle.aps_traces.specs.Track.{IsOwner, track_of};
@@ -26,4 +26,9 @@ pub fn tracks_are_apart()
 /// No process has the number of a thread.
 pub fn processes_are_no_threads()
     ensures { (threads : List ThreadRow) (a b : Owner) → IsOwner a → IsOwner b → (track_of threads a).process ≢ (track_of threads b).thread }
+{}
+
+/// No two times of up to 64 bits have the same text: no nanosecond is lost.
+pub fn times_are_told_exactly()
+    ensures { (a b : ℕ) → a < 2 ^ 64 → b < 2 ^ 64 → us_text a ≡ us_text b → a ≡ b }
 {}

@@ -1,5 +1,5 @@
 //! The events that last: bars of processors, and what threads do.
-ghost use Rattle.std.specs.Prelude.{◌≡◌, ◌≤◌, ◌-◌, ◌++◌, length, string_bytes, IsErrOf, OnOk};
+ghost use Rattle.std.specs.Prelude.{◌≡◌, ◌≤◌, ◌++◌, length, string_bytes, IsErrOf, OnOk};
 ghost use Rattle.std.specs.List.{flat_map, enumerate_from};
 ghost use Rattle.aps_io.specs.Causes.{Rose};
 ghost use Rattle.aps_traces.specs.Piece.{IsTold};

@@ -6,7 +6,6 @@ ghost use Rattle.aps_io.specs.Causes.{Rose};
 ghost use Rattle.aps_model.specs.After.{state_after};
 ghost use Rattle.aps_model.specs.Legal.{IsLegal};
 ghost use Rattle.aps_bars.specs.Alteration.{alterations_of};
-ghost use Rattle.aps_bars.specs.Drawn.{IsDrawn};
 ghost use Rattle.aps_traces.specs.Instants.{alteration_event, overspent_event};
 ghost use Rattle.aps_traces.specs.Piece.{IsTold};
 ghost use Rattle.aps_traces.specs.Trace as spec;
