@@ -1,0 +1,8 @@
+//! Laws of the codes of signals. Each function states one, and does nothing.
+ghost use Rattle.std.specs.Prelude.{◌≡◌, ℕ, ◌<◌};
+ghost use Rattle.aps_waves.specs.Code.{code};
+
+/// Different signals have different codes.
+pub fn codes_differ()
+    ensures { (i j : ℕ) → i < 8930 → j < 8930 → code i ≡ code j → i ≡ j }
+{}
