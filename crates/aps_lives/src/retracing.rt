@@ -45,12 +45,7 @@ pub fn unborn(alloc: Global, count: usize) -> Result<Vec<Life>, NoMemory>
 
 /// Each life goes on with what its thread does after the entries of the core, from one moment (ns) to another. Where no time
 /// passes between them nothing changes, whatever the threads do. `NoMemory` comes where memory runs out.
-pub fn lengthen(
-    lives: &mut Vec<Life>,
-    core: &Core,
-    from: Nanos,
-    to: Nanos,
-) -> Result<(), NoMemory>
+pub fn lengthen(lives: &mut Vec<Life>, core: &Core, from: Nanos, to: Nanos) -> Result<(), NoMemory>
     requires { length lives.old.items ≤ 1024 }
     ensures { OnOk result (AreLonger (state_of core.now) from to lives.old.items lives.new.items) }
 {
