@@ -4,3 +4,4 @@ pub mod Overspent
 pub mod Room
 pub mod Rows
 pub mod Tested
+pub mod Untested

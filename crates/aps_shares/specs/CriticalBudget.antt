@@ -1,11 +1,12 @@
 -- The critical budget by which a partition is tested for bankruptcy. Times are ns.
-use Rattle.std.specs.Prelude.{ℕ, ◌%◌, List, Bool, ◌&&◌, nat_eq, nat_lt, if◌then◌else◌, Option, None}
+use Rattle.std.specs.Prelude.{◌≡◌, ℕ, ◌%◌, ◌<◌, ◌≤◌, List, length, Bool, ◌&&◌, nat_eq, nat_lt, if◌then◌else◌, Option, None}
 use Rattle.std.specs.Option.{option_map}
 use Rattle.aps_model.specs.declared.entry.Entry.{Entry}
 use Rattle.aps_model.specs.declared.shape.Shape.{Shape}
 use Rattle.aps_model.specs.Partition.{row_or_none}
 use Rattle.aps_model.specs.Scenario.{Scenario}
 use Rattle.aps_model.specs.Shape.{horizon}
+use Rattle.aps_samples.specs.Pass.{entry_at}
 use Rattle.aps_shares.specs.declared.critical_budget.CriticalBudget.{CriticalBudget}
 use Rattle.aps_shares.specs.Spent.{state_tested}
 use Rattle.aps_shares.specs.Standing.{Standing, standing_of}
@@ -17,6 +18,10 @@ budget_by s p = record { partition = p; ns = (row_or_none s.rows p).critical; wi
 -- the partition that is tested after an entry: the one that it bills, where it bills critical time
 abbrev pub tested_by : Entry → Option ℕ
 tested_by e = if e.critical && nat_lt e.from e.to then e.billed else None
+
+-- no entry from this place on is tested
+abbrev pub AreUntestedFrom : ℕ → List Entry → Type 0
+AreUntestedFrom n h = (i : ℕ) → n ≤ i → i < length h → tested_by (entry_at h i) ≡ None
 
 -- its critical budget at the test, where the entry follows on these
 abbrev pub budget_at : Scenario → List Entry → Entry → Option CriticalBudget

@@ -47,7 +47,7 @@ pub fn budget_at(
 }
 
 /// The partition that is tested after the entry: the one that it bills, where it bills critical time.
-fn tested(e: &Entry) -> Option<PartitionId>
+pub fn tested(e: &Entry) -> Option<PartitionId>
     ensures { result ≡ spec.tested_by e.now }
 {
     if e.critical && e.from < e.to {

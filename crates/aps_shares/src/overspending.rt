@@ -1,13 +1,14 @@
 //! By how much each partition overspends its critical budget: one pass over the entries of a recorded history.
-ghost use Rattle.std.specs.Prelude.{◌≡◌, ℕ, ◌<◌, ◌≤◌, ◌++◌, [], ◌∷◌, length, slice_index_or, None, IfOk, OnOk};
+ghost use Rattle.std.specs.Prelude.{◌≡◌, ℕ, ◌<◌, ◌≤◌, ◌++◌, [], ◌∷◌, length, slice_index_or, is_some, None, IfOk, OnOk};
 ghost use Rattle.aps_model.specs.Legal.{IsLegal};
 ghost use Rattle.aps_core.specs.Turn.{with_entry};
 ghost use Rattle.aps_shares.specs.Overspending.{AreFew, IsAt, excess_by, order_of, scenario_of, used_by};
 ghost use Rattle.aps_samples.specs.Retraced.{start_of};
+ghost use Rattle.aps_shares.specs.CriticalBudget.{AreUntestedFrom, tested_by};
 ghost use Rattle.aps_shares.specs.CriticalTime.{for_span};
 ghost use Rattle.aps_shares.specs.Spent.{AreSpent, listed, overspent_as, overspent_by, overspent_of, spent_with};
 
-use crate::critical_budget::{CriticalBudget, budget_at};
+use crate::critical_budget::{CriticalBudget, budget_at, tested};
 use crate::critical_time::CriticalTime;
 use crate::retracing::{boot, retrace};
 use crate::spent::Spent;
@@ -39,9 +40,32 @@ pub fn all_spent(
     requires few { length history.now.entries ≤ 4000000 }
     ensures { IfOk result (λ spent. AreSpent history.now.scenario history.now.entries spent) }
 {
+    let entries = history.entries();
+    let count = tested_count(entries);
     let mut pass = Pass::begin(alloc, history, order)?;
-    pass.go_through(alloc, history.entries())?;
+    pass.go_through(alloc, &entries[..count])?;
     Ok(pass.spent)
+}
+
+/// How many entries there are up to the last one that is tested for bankruptcy: no later one overspends.
+fn tested_count(entries: &[Entry]) -> usize
+    ensures within { result ≤ length entries.now }
+    ensures later { AreUntestedFrom result entries.now }
+{
+    let mut count = 0;
+    for i in 0..entries.len() {
+        if is_tested(&entries[i]) {
+            count = i + 1;
+        }
+    }
+    count
+}
+
+/// Whether the entry is tested for bankruptcy.
+fn is_tested(e: &Entry) -> bool
+    ensures { result ≡ is_some (tested_by e.now) }
+{
+    tested(e).is_some()
 }
 
 /// Each entry of a history that made its partition bankrupt, whatever the policy: its end, its partition, and the excess of

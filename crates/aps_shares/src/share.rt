@@ -122,11 +122,7 @@ impl Share {
             demand: counted(self.demand, asked),
             had: counted(self.had, both(asked, sample.had[p])),
             least: least_with(self.least, used_in(sample, p), asked),
-            short: shortest_with(
-                self.short,
-                shortfall_in(sample, p, turn),
-                but_not(asked, sample.had[p]),
-            ),
+            short: short_with(self.short, sample, p, turn, but_not(asked, sample.had[p])),
         }
     }
 }
@@ -215,6 +211,25 @@ fn shortfall_in(sample: &Sample, p: usize, turn: Nanos) -> Shortfall
         others: others(sample, p, turn),
         window: first_tick(sample),
     }
+}
+
+/// The first of the greatest shortfalls, with that of partition `p` in this window where it counts.
+fn short_with(
+    best: Option<Shortfall>,
+    sample: &Sample,
+    p: usize,
+    turn: Nanos,
+    counts: bool,
+) -> Option<Shortfall>
+    requires p { p < 32 }
+    requires tick { sample.now.tick ≤ 100000000 }
+    ensures { result ≡ spec.with_one spec.is_shorter best (spec.shortfall_in turn p sample.now) counts }
+{
+    // most windows count for nobody, and what the others may take is told of a window that counts alone
+    if !counts {
+        return best;
+    }
+    shortest_with(best, shortfall_in(sample, p, turn), counts)
 }
 
 /// What partitions other than `p` may take in the window.

@@ -1,5 +1,6 @@
 //! What is told of all partitions over the windows of a recorded history: one pass over its samples.
 ghost use Rattle.std.specs.Prelude.{◌≡◌, ℕ, ◌<◌, ◌≤◌, length, slice_index_or, IfOk};
+ghost use Rattle.aps_model.specs.After.{state_after};
 ghost use Rattle.aps_model.specs.Legal.{IsLegal};
 ghost use Rattle.aps_model.specs.Loaded.{finished_ticks};
 ghost use Rattle.aps_model.specs.Shape.{IsShape};
@@ -8,7 +9,7 @@ ghost use Rattle.aps_shares.specs.Share.{counts_with, no_counts, no_share, share
 ghost use Rattle.aps_shares.specs.Shares.{AreFew, AreUpTo, IsFew, tick_of_all};
 
 use crate::share::{Counts, Share};
-use aps_model::{History, Nanos, NoMemory, Order, Shape, finished_ticks};
+use aps_model::{History, Nanos, NoMemory, Order, PartitionRow, Shape, finished_ticks};
 use aps_samples::{Sample, Samples};
 use std::alloc::Global;
 
@@ -21,15 +22,26 @@ pub struct Shares {
     pub each: [Share; PARTITIONS],
 }
 
-/// The shares of all partitions over the finished ticks of a history that is legal in this order of turns. `NoMemory` comes
-/// where memory runs out.
-pub fn all_shares(alloc: Global, history: &History, order: Order) -> Result<Shares, NoMemory>
+/// The shares of all partitions over the finished ticks of a history, and the rows that it leaves.
+#[derive(Drop)]
+pub struct AllShares {
+    pub shares: Shares,
+    pub rows: Vec<PartitionRow>,
+}
+
+/// The shares of all partitions over the finished ticks of a history that is legal in this order of turns, and the rows that it
+/// leaves, in one pass. `NoMemory` comes where memory runs out.
+pub fn all_shares(alloc: Global, history: &History, order: Order) -> Result<AllShares, NoMemory>
     requires legal { IsLegal history.now.scenario order history.now.entries }
     requires few { length history.now.entries ≤ 4000000 }
-    ensures { IfOk result (AreUpTo history.now.scenario history.now.entries (finished_ticks history.now.scenario.shape history.now.entries)) }
+    ensures told { IfOk result (λ all. AreUpTo history.now.scenario history.now.entries (finished_ticks history.now.scenario.shape history.now.entries) all.shares) }
+    ensures rows { IfOk result (λ all. all.rows.items ≡ (state_after history.now.scenario history.now.entries).rows) }
+    ensures few { IfOk result (λ all. length all.rows.items ≤ 32) }
 {
     let mut samples = Samples::begin(alloc, history, order)?;
-    Ok(shares_of(history, &mut samples))
+    let shares = shares_of(history, &mut samples);
+    let rows = samples.last_rows(alloc, history)?;
+    Ok(AllShares { shares, rows })
 }
 
 /// The same, by a pass that begins.
@@ -37,7 +49,9 @@ fn shares_of(history: &History, samples: &mut Samples) -> Shares
     requires at { IsAt history.now.entries samples.old }
     requires of { scenario_of samples.old.cursor ≡ history.now.scenario }
     requires first { samples.old.tick ≡ 0 }
-    ensures { AreUpTo history.now.scenario history.now.entries (finished_ticks history.now.scenario.shape history.now.entries) result }
+    ensures told { AreUpTo history.now.scenario history.now.entries (finished_ticks history.now.scenario.shape history.now.entries) result }
+    ensures at { IsAt history.now.entries samples.new }
+    ensures of { scenario_of samples.new.cursor ≡ history.now.scenario }
 {
     let shape = history.scenario().shape();
     let finished = finished_ticks(shape, history.entries());

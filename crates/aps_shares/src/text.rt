@@ -13,7 +13,6 @@ use crate::share::Share;
 use crate::shares::{all_shares, tick_of_all};
 use crate::spent::Spent;
 use aps_model::{History, NoMemory, Order, PartitionRow};
-use aps_samples::rows_after;
 use std::alloc::Global;
 
 /// What each partition gets of the time that its budget allows, over all windows that are full, and how often it overspent
@@ -41,12 +40,11 @@ pub fn shares_text_with(
     requires spent { AreSpent history.now.scenario history.now.entries spent.now }
     ensures { IfOk result (λ text. string_bytes text ≡ spec.shares_text history.now.scenario history.now.entries) }
 {
-    let rows = rows_after(alloc, history, order)?;
-    let shares = all_shares(alloc, history, order)?;
+    let all = all_shares(alloc, history, order)?;
     let turn = tick_of_all(history.scenario().shape());
     let mut out = String::new(alloc);
-    add_head(&mut out, &shares.counts, turn)?;
-    add_partitions(&mut out, rows.as_slice(), &shares.each, spent)?;
+    add_head(&mut out, &all.shares.counts, turn)?;
+    add_partitions(&mut out, all.rows.as_slice(), &all.shares.each, spent)?;
     Ok(out)
 }
 

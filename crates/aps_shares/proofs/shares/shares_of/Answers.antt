@@ -69,8 +69,8 @@ loop-preserved c =
       tick = omega (arith, next, tick);
     }
 
-pub returns : goal.returns
-returns c =
+pub returns-clause-told : goal.returns-clause-told
+returns-clause-told c =
     let all : c.finished_ticks-finished.result ≡ finished_ticks c.args.history.now.scenario.shape c.args.history.now.entries =
     c.finished_ticks-finished.ensures.same
     ∙ (λ i. finished_ticks (c.shape-shape.ensures.same i) c.entries.result.now)

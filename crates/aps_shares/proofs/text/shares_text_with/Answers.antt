@@ -16,17 +16,17 @@ pub returns : goal.returns
 returns c =
     let scenario = c.args.history.now.scenario in
     let h = c.args.history.now.entries in
-    let told = c.in_ok-shares.ensures in
-    let f : ℕ → Share = λ p. get_or c.in_ok-shares.shares.each p no_share in
+    let told = c.in_ok-all.ensures.told in
+    let f : ℕ → Share = λ p. get_or c.in_ok-all.all.shares.each p no_share in
     let a : ℕ → Option Spent = λ p. get_or c.args.spent.now p None in
     let head : List ℕ = head_lines (counts_of scenario h) (tick_of_all scenario.shape) in
     let turn : c.tick_of_all-turn.result ≡ tick_of_all scenario.shape =
     c.tick_of_all-turn.ensures ∙ ap tick_of_all (c.shape.ensures.same ∙ ap (λ (s : Scenario). s.shape) c.scenario.ensures) in
-    let rows : c.as_slice.result.now ≡ (state_after scenario h).rows = c.as_slice.ensures.value ∙ c.in_ok-rows.ensures.same in
-    let few : length (state_after scenario h).rows ≤ 32 = subst (λ (r : List PartitionRow). length r ≤ 32) c.in_ok-rows.ensures.same c.in_ok-rows.ensures.few in
+    let rows : c.as_slice.result.now ≡ (state_after scenario h).rows = c.as_slice.ensures.value ∙ c.in_ok-all.ensures.rows in
+    let few : length (state_after scenario h).rows ≤ 32 = subst (λ (r : List PartitionRow). length r ≤ 32) c.in_ok-all.ensures.rows c.in_ok-all.ensures.few in
     c.in_ok-add_partitions.ensures
     ∙ ap (λ t. t ++ flat_map (partition_text f a) (enumerate_from 0 c.as_slice.result.now))
-    (c.in_ok-add_head.ensures ∙ ap (λ (t : List ℕ). t ++ head_lines c.in_ok-shares.shares.counts c.tick_of_all-turn.result) c.new-out.ensures.bytes
+    (c.in_ok-add_head.ensures ∙ ap (λ (t : List ℕ). t ++ head_lines c.in_ok-all.all.shares.counts c.tick_of_all-turn.result) c.new-out.ensures.bytes
     ∙ (λ i. head_lines (told.counts i) (turn i)))
     ∙ ap (λ (r : List PartitionRow). head ++ flat_map (partition_text f a) (enumerate_from 0 r)) rows
     ∙ ap (λ (t : List ℕ). head ++ t) (same_texts f (share_of scenario h) a (spent_of scenario h) told.each c.requires.spent 0 (state_after scenario h).rows (omega (arith, few)))
