@@ -6,3 +6,4 @@ mod HalfItsShare
 mod ShortByTheSlack
 mod PassedOver
 mod ResponseLost
+mod Rooms
