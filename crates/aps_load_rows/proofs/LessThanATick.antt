@@ -1,7 +1,7 @@
 -- "Who has a budget and work at all times gets some time in the long run." A has 12 parts of 100, which allow 96,000 ns of a window
 -- of 8 ticks: less than a tick. System is in budget at each pick, for 7 ticks are less than its 704,000 ns. So A gets nothing
--- in 32 ticks, all of them steady, and falls short of its budget by all of it, where the other's slack is a tick. Of what
--- the law of the supply leaves to it nothing is left, but for 4,000 ns of 800,000.
+-- in 32 ticks, all of them steady, and falls short of its budget by all of it, where the other's slack is a tick. The law of
+-- the supply promises it nothing: the other may have 804,000 of the 800,000 ns of a window.
 use Rattle.std.proofs.Common.{◌≡◌, ◌+◌, ◌-◌, ◌*◌, [], refl, true}
 use Rattle.aps_model.specs.After.{after}
 use Rattle.aps_model.specs.Bound.{others_slack}
