@@ -103,10 +103,10 @@ fill_room() {
 
 # Builds a library in a room of its own, and hands over what came of it, also where the build was stopped.
 build_library() {
-    local name=$1 share=$2 room=$first_start_folder/$1.room status
+    local name=$1 share=$2 yields=$3 room=$first_start_folder/$1.room status
     fill_room "$name" "$room" || return 1
     trap 'take_over "$name" "$room"; exit 1' TERM
-    (cd "$room/crates/$name" && exec rt lib --jobs "$share") &
+    (cd "$room/crates/$name" && exec nice -n "$yields" rt lib --jobs "$share") &
     wait $!
     status=$?
     take_over "$name" "$room"
@@ -123,18 +123,42 @@ take_over() {
     rm -rf "$2"
 }
 
-# Begins the build of a crate in the background, in a process group of its own.
-begin_build() {
-    local name=$1 log=$first_start_folder/$1.log share
-    share=$(($(cores) / (${#build_of[@]} + 1)))
+# Whether the start can hardly end sooner than what stands on this crate.
+is_pressing() {
+    local name longest=0
+    for name in "${left[@]}" "${!build_of[@]}" "$1"; do
+        ((chain_seconds[$name] <= longest)) || longest=${chain_seconds[$name]}
+    done
+    ((chain_seconds[$1] * 5 >= longest * 4))
+}
+
+# How many processes a build gets: those that press share the processors, each other has one.
+share_of() {
+    local name pressing=1 share
+    if ! is_pressing "$1"; then
+        echo 1
+        return
+    fi
+    for name in "${!build_of[@]}"; do
+        ! is_pressing "$name" || pressing=$((pressing + 1))
+    done
+    share=$((builds / pressing))
     [ "$share" -ge 1 ] || share=1
+    echo "$share"
+}
+
+# Begins the build of a crate in the background, in a process group of its own. One that doesn't press yields to the others.
+begin_build() {
+    local name=$1 log=$first_start_folder/$1.log share yields=0
+    share=$(share_of "$name")
+    is_pressing "$name" || yields=10
     rm -f "$first_start_folder/$name.status"
     set -m
     (
         if [ "$name" = "$first_start_program" ]; then
             cd "$root/crates/$name" && "${first_start_command[@]}"
         else
-            build_library "$name" "$share"
+            build_library "$name" "$share" "$yields"
         fi >"$log" 2>&1 </dev/null
         echo $? >"$first_start_folder/$name.status"
     ) &

@@ -3,7 +3,6 @@
 #![tactic(auto)]
 
 mod append;
-mod carried;
 mod due;
 mod dues;
 mod ends;

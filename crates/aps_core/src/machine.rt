@@ -40,7 +40,7 @@ pub mod wake;
 use crate::dues::Dues;
 use crate::ends::Ends;
 use crate::standing::Standing;
-use crate::{carried, due, usage};
+use crate::{due, usage};
 use aps_ctl::Ctl;
 use aps_model::{
     Change, Contender, CpuId, CpuNow, Entry, Nanos, PartitionId, PartitionRow, Reply, Scenario,
@@ -126,12 +126,12 @@ impl Machine {
         ensures { result ≡ is_at_horizon self.now entries.now }
     {
         let horizon = self.horizon();
-        let mut all = true;
         for c in 0..self.cpus.len() {
-            let stands = due::stands_at(horizon, ends.last_to(entries, CpuId::at(c)));
-            all = carried::both(all, stands);
+            if !due::stands_at(horizon, ends.last_to(entries, CpuId::at(c))) {
+                return false;
+            }
         }
-        all
+        true
     }
 
     /// The pick of the processor after this entry, which has its operation, and then the flag. The answer is the

@@ -7,13 +7,12 @@ use super::Machine;
 use crate::dues::Dues;
 use crate::merit;
 use aps_merit::{is_below, merit_of};
-use aps_model::{Contender, CpuId, CpuNow, Entry, Nanos, PartFacts, Pick, Rank};
+use aps_model::{Contender, CpuId, CpuNow, Entry, Merit, Nanos, PartFacts, Pick, Rank};
 
 impl Machine {
-    /// The rank of a processor that keeps this, if it is idle or its thread is below the greatest candidate left.
-    fn rank_of(&self, parts: &[PartFacts], left: &Contender, running: &Option<Pick>) -> Option<Rank>
-        requires { All IsSmall parts.now }
-        ensures { result ≡ rank_of self.now parts.now (merit_among parts.now left.now) running.now }
+    /// The rank of a processor that keeps this, if it is idle or its thread is below a candidate of this merit.
+    fn rank_of(&self, parts: &[PartFacts], left: &Merit, running: &Option<Pick>) -> Option<Rank>
+        ensures { result ≡ rank_of self.now parts.now left.now running.now }
     {
         let Some(pick) = running else {
             return Some(Rank::Idle);
@@ -21,7 +20,7 @@ impl Machine {
         let facts = self.facts_of(pick.thread);
         let stamp = self.thread(pick.thread).stamp;
         let merit = merit_of(facts, stamp, &merit::part_at(parts, facts.partition));
-        if is_below(&merit, &merit::merit_among(parts, left), self.shape.free) {
+        if is_below(&merit, left, self.shape.free) {
             Some(Rank::Running {
                 class: merit.class,
                 priority: merit.priority,
@@ -31,23 +30,20 @@ impl Machine {
         }
     }
 
-    ghost use Rattle.aps_model.specs.Pick.{merit_among};
-
     /// The rank of another processor that isn't due yet.
     fn looked_at(
         &self,
         entries: &[Entry],
         dues: &Dues,
         parts: &[PartFacts],
-        left: &Contender,
+        left: &Merit,
         c: CpuId,
         now: Nanos,
         d: CpuId,
     ) -> Option<Rank>
-        requires small { All IsSmall parts.now }
         requires dues { AreOthersDues self.now entries.now c dues.now }
         requires d { d < length self.now.cpus }
-        ensures { result ≡ looked_at self.now entries.now parts.now (merit_among parts.now left.now) c now d }
+        ensures { result ≡ looked_at self.now entries.now parts.now left.now c now d }
     {
         if d != c && now < dues.of(d) {
             self.rank_of(parts, left, &self.cpus[d.index()].running)
@@ -74,10 +70,11 @@ impl Machine {
         let Some(left) = left else {
             return None;
         };
+        let merit = merit::merit_among(parts, left);
         let mut best = None;
         for d in 0..self.cpus.len() {
             let other = CpuId::at(d);
-            let rank = self.looked_at(entries, dues, parts, left, c, now, other);
+            let rank = self.looked_at(entries, dues, parts, &merit, c, now, other);
             best = merit::lower_ranked(other, rank, best);
         }
         match best {

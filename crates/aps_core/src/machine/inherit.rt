@@ -21,6 +21,9 @@ impl Machine {
     pub fn facts_of(&self, x: ThreadId) -> Facts
         ensures { result ≡ facts_of self.now x }
     {
+        if !self.triples.may_serve(x) {
+            return self.thread(x).own;
+        }
         let mut last = x;
         let mut priority = 0;
         for t in self.triples.as_slice() {

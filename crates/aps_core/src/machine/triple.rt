@@ -1,4 +1,4 @@
-ghost use Rattle.std.specs.Prelude.{◌≡◌, ◌<◌, ◌≤◌, [], ◌∷◌, length, IfOk, vec_capacity};
+ghost use Rattle.std.specs.Prelude.{◌≡◌, ◌<◌, ◌≤◌, [], ◌∷◌, length, IfOk, None, false, vec_capacity};
 ghost use Rattle.aps_model.specs.Inherit.{client_of, without_server};
 
 use super::channel::MOST_THREADS;
@@ -59,6 +59,8 @@ impl Triple {
 #[derive(Drop)]
 pub struct Triples {
     list: Vec<Triple>,
+    /// for each thread whether it may serve a client, so that who serves nobody is known without a look at the list
+    marks: Vec<bool>,
 }
 
 impl Model for Triples {
@@ -70,8 +72,9 @@ impl Model for Triples {
     ghost view = { λ t. t.list.items };
 
     ghost use Rattle.std.specs.Prelude.{◌≤◌, vec_capacity};
+    ghost use Rattle.aps_core.specs.Serving.{AreMarked};
 
-    ghost invariant = { λ t. 1024 ≤ vec_capacity t.list };
+    ghost invariant = { λ t. (1024 ≤ vec_capacity t.list) × AreMarked t.marks.items t.list.items };
 }
 
 impl Triples {
@@ -79,9 +82,22 @@ impl Triples {
     pub fn new(alloc: Global) -> Result<Self, NoMemory>
         ensures { IfOk result (λ t. t ≡ []) }
     {
+        let mut marks = Vec::with_capacity(alloc, MOST_THREADS)?;
+        for _ in 0..MOST_THREADS {
+            marks.push(false)?;
+        }
         Ok(Triples {
             list: Vec::with_capacity(alloc, MOST_THREADS)?,
+            marks,
         })
+    }
+
+    /// Whether the thread may hold a client. One that may not holds none.
+    #[inline(always)]
+    pub fn may_serve(&self, x: ThreadId) -> bool
+        ensures { result ≡ false → client_of self.now x ≡ None }
+    {
+        self.marks[x.index()]
     }
 
     /// The triples, the newest first.
@@ -108,6 +124,7 @@ impl Triples {
         requires { length self.old < 1024 }
         ensures { self.new ≡ t ∷ self.old }
     {
+        self.marks[t.server.index()] = true;
         insert_at(&mut self.list, 0, t);
     }
 
@@ -122,5 +139,6 @@ impl Triples {
         if place < self.list.len() {
             self.list.remove(place);
         }
+        self.marks[x.index()] = self.client_of(x).is_some();
     }
 }
