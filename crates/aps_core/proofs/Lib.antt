@@ -1,5 +1,6 @@
 pub mod Ranges
 pub mod Seats
+pub mod Unserved
 pub mod Touched
 pub mod SeatsStay
 pub mod PickStep

@@ -9,6 +9,7 @@ pub mod Small
 pub mod Part
 pub mod Seats
 pub mod Serving
+pub mod Lowest
 pub mod Touched
 pub mod Counts
 pub mod Standing

@@ -1,4 +1,4 @@
--- Marks of the threads that may serve.
+-- Marks of the threads that ever held a client.
 use Rattle.std.specs.Prelude.{◌≡◌, ℕ, Bool, true, false, List, length, slice_index_or, None}
 use Rattle.aps_model.specs.Inherit.{client_of}
 use Rattle.aps_model.specs.SchedulerState.{Triple}

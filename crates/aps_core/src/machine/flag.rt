@@ -1,5 +1,7 @@
-ghost use Rattle.std.specs.Prelude.{◌≡◌, ◌<◌, ◌≤◌, length, All, IfSome};
+ghost use Rattle.std.specs.Prelude.{◌≡◌, ℕ, ◌<◌, ◌≤◌, length, All, IfSome};
+ghost use Rattle.std.specs.Option.{option_map};
 ghost use Rattle.aps_model.specs.Flag.{rank_of, looked_at, flag_for, with_flag};
+ghost use Rattle.aps_core.specs.Lowest.{lowest};
 ghost use Rattle.aps_core.specs.NextDues.{AreOthersDues};
 ghost use Rattle.aps_core.specs.Small.{IsSmall};
 
@@ -52,6 +54,29 @@ impl Machine {
         }
     }
 
+    /// Of the other processors that aren't due yet and may be flagged for a candidate of this merit, the one of least rank.
+    fn lowest(
+        &self,
+        entries: &[Entry],
+        dues: &Dues,
+        parts: &[PartFacts],
+        c: CpuId,
+        now: Nanos,
+        left: &Merit,
+    ) -> Option<(CpuId, Rank)>
+        requires dues { AreOthersDues self.now entries.now c dues.now }
+        ensures same { result ≡ lowest self.now entries.now parts.now left.now c now self.now.shape.cpus }
+        ensures within { IfSome result (λ best. best.0 < length self.now.cpus) }
+    {
+        let mut best = None;
+        for d in 0..self.cpus.len() {
+            let other = CpuId::at(d);
+            let rank = self.looked_at(entries, dues, parts, left, c, now, other);
+            best = merit::lower_ranked(other, rank, best);
+        }
+        best
+    }
+
     /// The processor that is flagged for the greatest candidate left.
     pub fn flag_for(
         &self,
@@ -71,16 +96,7 @@ impl Machine {
             return None;
         };
         let merit = merit::merit_among(parts, left);
-        let mut best = None;
-        for d in 0..self.cpus.len() {
-            let other = CpuId::at(d);
-            let rank = self.looked_at(entries, dues, parts, &merit, c, now, other);
-            best = merit::lower_ranked(other, rank, best);
-        }
-        match best {
-            Some((d, _)) => Some(d),
-            None => None,
-        }
+        cpu_of(self.lowest(entries, dues, parts, c, now, &merit))
     }
 
     /// The processor, if there is one, is flagged at this moment.
@@ -95,5 +111,16 @@ impl Machine {
                 ..cpu
             };
         }
+    }
+}
+
+/// The processor of a rank.
+fn cpu_of(lowest: Option<(CpuId, Rank)>) -> Option<CpuId>
+    ensures same { result ≡ option_map (λ best. best.0) lowest }
+    ensures kept { (n : ℕ) → IfSome lowest (λ best. best.0 < n) → IfSome result (λ d. d < n) }
+{
+    match lowest {
+        Some((d, _)) => Some(d),
+        None => None,
     }
 }

@@ -21,7 +21,7 @@ impl Machine {
     pub fn facts_of(&self, x: ThreadId) -> Facts
         ensures { result ≡ facts_of self.now x }
     {
-        if !self.triples.may_serve(x) {
+        if !self.triples.ever_served(x) {
             return self.thread(x).own;
         }
         let mut last = x;

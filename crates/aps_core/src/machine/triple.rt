@@ -1,4 +1,4 @@
-ghost use Rattle.std.specs.Prelude.{◌≡◌, ◌<◌, ◌≤◌, [], ◌∷◌, length, IfOk, None, false, vec_capacity};
+ghost use Rattle.std.specs.Prelude.{◌≡◌, ◌<◌, ◌≤◌, [], ◌∷◌, length, replicate, IfOk, None, false, vec_capacity};
 ghost use Rattle.aps_model.specs.Inherit.{client_of, without_server};
 
 use super::channel::MOST_THREADS;
@@ -59,7 +59,7 @@ impl Triple {
 #[derive(Drop)]
 pub struct Triples {
     list: Vec<Triple>,
-    /// for each thread whether it may serve a client, so that who serves nobody is known without a look at the list
+    /// for each thread whether it ever held a client, so that of most it is known without a look at the list that they hold none
     marks: Vec<bool>,
 }
 
@@ -77,24 +77,31 @@ impl Model for Triples {
     ghost invariant = { λ t. (1024 ≤ vec_capacity t.list) × AreMarked t.marks.items t.list.items };
 }
 
+/// Marks of all threads, of which nobody has one.
+fn no_marks(alloc: Global) -> Result<Vec<bool>, NoMemory>
+    ensures { IfOk result (λ marks. marks.items ≡ replicate 1024 false) }
+{
+    let mut marks = Vec::with_capacity(alloc, MOST_THREADS)?;
+    for _ in 0..MOST_THREADS {
+        marks.push(false)?;
+    }
+    Ok(marks)
+}
+
 impl Triples {
     /// No triples.
     pub fn new(alloc: Global) -> Result<Self, NoMemory>
         ensures { IfOk result (λ t. t ≡ []) }
     {
-        let mut marks = Vec::with_capacity(alloc, MOST_THREADS)?;
-        for _ in 0..MOST_THREADS {
-            marks.push(false)?;
-        }
         Ok(Triples {
             list: Vec::with_capacity(alloc, MOST_THREADS)?,
-            marks,
+            marks: no_marks(alloc)?,
         })
     }
 
-    /// Whether the thread may hold a client. One that may not holds none.
+    /// Whether the thread ever held a client. One that never did holds none.
     #[inline(always)]
-    pub fn may_serve(&self, x: ThreadId) -> bool
+    pub fn ever_served(&self, x: ThreadId) -> bool
         ensures { result ≡ false → client_of self.now x ≡ None }
     {
         self.marks[x.index()]
@@ -132,13 +139,20 @@ impl Triples {
     pub fn remove_server(&mut self, x: ThreadId)
         ensures { self.new ≡ without_server self.old x }
     {
-        let mut place = 0;
-        while place < self.list.len() && self.list[place].server != x {
-            place += 1;
-        }
-        if place < self.list.len() {
-            self.list.remove(place);
-        }
-        self.marks[x.index()] = self.client_of(x).is_some();
+        remove_server(&mut self.list, x);
+    }
+}
+
+/// The first triple of the server is taken out of the list.
+fn remove_server(list: &mut Vec<Triple>, x: ThreadId)
+    ensures items { list.new.items ≡ without_server list.old.items x }
+    ensures room { vec_capacity list.new ≡ vec_capacity list.old }
+{
+    let mut place = 0;
+    while place < list.len() && list[place].server != x {
+        place += 1;
+    }
+    if place < list.len() {
+        list.remove(place);
     }
 }

@@ -1,17 +1,5 @@
-use Rattle.std.proofs.Common.{◌<◌, ℕ, Option, arith, sym, length, ap}
-use Rattle.aps_model.specs.declared.merit.Rank.{Rank}
-use Rattle.aps_model.specs.Flag.{lower_ranked, looked_at}
-use Rattle.aps_model.specs.Pick.{merit_among}
-use Rattle.aps_model.specs.SchedulerState.{SchedulerState}
-use Rattle.aps_model.proofs.Ranges.{fold_more}
+use Rattle.std.proofs.Common.{refl}
 use Rattle.aps_core.proofs.machine.Machine.flag_for.Goals as goal
 
-pub loop-d-preserved : goal.loop-d-preserved
-loop-d-preserved c = record {
-  same =
-      rw (c.lower_ranked-best.ensures.same, c.looked_at-rank.ensures, c.at-other.ensures, c.loop-d.invariant.same)
-      (sym (fold_more (λ (best : Option (ℕ × Rank)) d. lower_ranked d (looked_at c.args.self.now c.args.entries.now c.args.parts.now (merit_among c.args.parts.now c.in-Some.left) c.args.c c.args.now d) best) _ 0 c.loop-d.d c.loop-d.d (omega arith)));
-  within =
-      let small : c.at-other.result < length c.args.self.now.cpus = omega (arith, ap (λ (s : SchedulerState). length s.cpus) c.self.view_is) in
-      c.lower_ranked-best.ensures.below (length c.args.self.now.cpus) small c.loop-d.invariant.within;
-}
+pub returns-clause-same : goal.returns-clause-same
+returns-clause-same c = rw (c.cpu_of.ensures.same, c.lowest.ensures.same, c.merit_among-merit.ensures.same, c.in-Some.is) refl
