@@ -11,6 +11,7 @@ pub mod Rows
 pub mod StepParts
 pub mod StepCounts
 mod StandsStay
+mod GatesStay
 pub mod Boot
 pub mod Waking
 pub mod Turns

@@ -24,7 +24,7 @@ pub neither : (a b : Bool) → (a || b) ≡ false → (a ≡ false) × (b ≡ fa
 neither true b e = absurd cc
 neither false b e = (refl, e)
 
-own_or_other : (q p : ℕ) → (q ≡ p) ⊎ (q ≢ p)
+pub own_or_other : (q p : ℕ) → (q ≡ p) ⊎ (q ≢ p)
 own_or_other q p = elim (cases_lt q p) [
   | inl below ↦ inr (λ e. omega (arith, e, below))
   | inr past ↦ elim (cases_lt p q) [

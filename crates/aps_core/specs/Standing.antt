@@ -21,3 +21,10 @@ pub record IsStanding (parts : List PartFacts) (gates : Gates) (space : ℕ) : T
 pub record DoOthersStand (billed : Option ℕ) (shape : Shape) (rows : List PartitionRow) (window : Window) (parts : List PartFacts) : Type 0 where
   pub count : length parts ≡ length rows
   pub each : (p : ℕ) → billed ≢ Some p → p < length rows → part_at parts p ≡ part_in shape rows window p
+
+-- what opens the gates of a partition is the same for both
+pub record OpensAlike (a b : PartFacts) : Type 0 where
+  pub funded : a.funded ≡ b.funded
+  pub standing : a.standing ≡ b.standing
+  pub shut : a.shut ≡ b.shut
+  pub budget : a.budget ≡ b.budget

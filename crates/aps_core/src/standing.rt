@@ -1,11 +1,13 @@
 //! How the partitions stand in the window, and the gates of that, kept from step to step.
-ghost use Rattle.std.specs.Prelude.{◌≡◌, ◌<◌, ◌≤◌, ◌++◌, [], ◌∷◌, length, slice_set, All, IfOk, Some};
+ghost use Rattle.std.specs.Prelude.{◌≡◌, List, ◌<◌, ◌≤◌, ◌++◌, [], ◌∷◌, length, slice_set, All, IfOk, Some, true};
+ghost use Rattle.aps_model.specs.Budget.{part_at};
 ghost use Rattle.aps_model.specs.Partition.{IsRow};
+ghost use Rattle.aps_model.specs.declared.merit.PartFacts.{PartFacts as PartFactsOf};
 ghost use Rattle.aps_model.specs.Shape.{IsShape};
 ghost use Rattle.aps_ready.specs.Gates.{AreGates};
 ghost use Rattle.aps_core.specs.Counts.{parts_in};
 ghost use Rattle.aps_core.specs.Small.{IsSmall};
-ghost use Rattle.aps_core.specs.Standing.{DoOthersStand};
+ghost use Rattle.aps_core.specs.Standing.{DoOthersStand, OpensAlike};
 
 use crate::usage::part_by;
 use aps_model::{NoMemory, PartFacts, PartitionId, PartitionRow, Shape};
@@ -91,7 +93,8 @@ impl Standing {
         requires small { IsSmall part }
         ensures { self.new ≡ slice_set self.old p part }
     {
-        self.gates.set(p, &part);
+        let before = self.parts[p.index()];
+        self.gates = gates_after(self.gates, p, &before, &part);
         self.parts[p.index()] = part;
     }
 
@@ -126,4 +129,25 @@ impl Standing {
             self.set(p, part_by(shape, &rows[index], window, p));
         }
     }
+}
+
+/// Whether the gates are the same for both.
+#[inline(always)]
+fn opens_alike(a: &PartFacts, b: &PartFacts) -> bool
+    ensures { result ≡ true → OpensAlike a.now b.now }
+{
+    a.funded == b.funded && a.standing == b.standing && a.shut == b.shut && a.budget == b.budget
+}
+
+/// The gates after one partition stands otherwise. They are as they were where nothing changed that opens one.
+#[inline(always)]
+fn gates_after(gates: Gates, p: PartitionId, before: &PartFacts, part: &PartFacts) -> Gates
+    ensures { (parts : List PartFactsOf) → AreGates parts gates → p < length parts → part_at parts p ≡ before.now → AreGates (slice_set parts p part.now) result }
+{
+    if opens_alike(before, part) {
+        return gates;
+    }
+    let mut after = gates;
+    after.set(p, part);
+    after
 }

@@ -1,4 +1,4 @@
-use Rattle.std.proofs.Common.{◌≡◌, ◌∙◌, ◌<◌, ℕ, Bool, true, false, ◌&&◌, arith, sym, ap, length}
+use Rattle.std.proofs.Common.{◌≡◌, ◌∙◌, ◌<◌, ℕ, Bool, true, false, ◌&&◌, arith, sym, ap}
 use Rattle.aps_model.specs.After.{stands_at}
 use Rattle.aps_model.specs.Due.{last_to}
 use Rattle.aps_model.specs.Shape.{horizon}

@@ -1,4 +1,4 @@
-use Rattle.std.proofs.Common.{◌≡◌, ◌≤◌, subst, sym, vec_capacity}
+use Rattle.std.proofs.Common.{◌≤◌, subst, sym}
 use Rattle.aps_laws.proofs.WaitMoves.{client_without}
 use Rattle.aps_model.specs.Inherit.{without_server}
 use Rattle.aps_core.specs.Serving.{AreMarked}
