@@ -100,7 +100,6 @@ impl Machine {
     }
 
     /// The lowest of the processors that are due least.
-    #[inline(never)]
     pub fn first_due(&self, entries: &[Entry], dues: &Dues) -> CpuId
         requires dues { AreDues self.now entries.now dues.now }
         ensures same { result ≡ first_due self.now entries.now self.now.shape.cpus }

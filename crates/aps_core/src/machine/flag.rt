@@ -55,7 +55,6 @@ impl Machine {
     }
 
     /// Of the other processors that aren't due yet and may be flagged for a candidate of this merit, the one of least rank.
-    #[inline(never)]
     fn lowest(
         &self,
         entries: &[Entry],
