@@ -2,6 +2,8 @@ pub mod Ranges
 pub mod Seats
 pub mod Touched
 pub mod SeatsStay
+pub mod Asleep
+pub mod SleepersStay
 pub mod PickStep
 pub mod Numbers
 pub mod Frame

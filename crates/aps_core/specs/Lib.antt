@@ -8,6 +8,7 @@ pub mod Ready
 pub mod Small
 pub mod Part
 pub mod Seats
+pub mod Sleepers
 pub mod Touched
 pub mod Counts
 pub mod Standing
