@@ -431,29 +431,34 @@ sync-requires-clause-stamped c =
 pub work_tick-commanded-requires-clause-timed : goal.work_tick-commanded-requires-clause-timed
 work_tick-commanded-requires-clause-timed c = c.requires.timed ∙ ap sleepers_of (sym c.begin-running.ensures.same)
 
-timed : (c : goal.After-test-reboot) → c.work_tick-commanded.new.timer ≡ sleepers_of c.test-reboot.new.self
-timed c =
+pub returns-then-is_some-clause-timed : goal.returns-then-is_some-clause-timed
+returns-then-is_some-clause-timed c =
     tested_timer c.work_tick-commanded.new.self c.bill.new.self c.test-reboot.new.self c.args.entries.now c.bill_of-e.result c.begin-running.result c.test-reboot.result c.work_tick-commanded.new.timer
     c.work_tick-commanded.ensures.timed c.bill.ensures c.test-reboot.ensures
 
-pub returns-then-is_some-clause-timed : goal.returns-then-is_some-clause-timed
-returns-then-is_some-clause-timed c = timed c
-
 pub returns-then-now-horizon-clause-timed : goal.returns-then-now-horizon-clause-timed
-returns-then-now-horizon-clause-timed c = timed c
+returns-then-now-horizon-clause-timed c =
+    tested_timer c.work_tick-commanded.new.self c.bill.new.self c.test-reboot.new.self c.args.entries.now c.bill_of-e.result c.begin-running.result c.test-reboot.result c.work_tick-commanded.new.timer
+    c.work_tick-commanded.ensures.timed c.bill.ensures c.test-reboot.ensures
 
 pub time_done-requires-clause-count : goal.time_done-requires-clause-count
 time_done-requires-clause-count c =
     let settled : IsKept c.test-reboot.new.self c.settle-done.new.self =
     subst (λ (x : Effect). IsKept c.test-reboot.new.self x.state) c.settle-done.ensures (settled_kept c.args.scenario.now c.test-reboot.new.self c.of-now.result c.begin-running.result) in
-    ap length (timed c) ∙ sleepers_count c.test-reboot.new.self ∙ sym settled.threads
+    let timed =
+    tested_timer c.work_tick-commanded.new.self c.bill.new.self c.test-reboot.new.self c.args.entries.now c.bill_of-e.result c.begin-running.result c.test-reboot.result c.work_tick-commanded.new.timer
+    c.work_tick-commanded.ensures.timed c.bill.ensures c.test-reboot.ensures in
+    ap length timed ∙ sleepers_count c.test-reboot.new.self ∙ sym settled.threads
 
 pub time_done-requires-clause-tied : goal.time_done-requires-clause-tied
 time_done-requires-clause-tied c calm y own peer =
     let who : c.bill_of-e.result.ran ≡ option_map (λ (p : Pick). p.thread) c.begin-running.result =
     ap (λ (e : Entry). e.ran) c.bill_of-e.ensures.same ∙ ran c.args.cpu c.last_end-from.result c.of-now.result c.begin-running.result in
+    let timed =
+    tested_timer c.work_tick-commanded.new.self c.bill.new.self c.test-reboot.new.self c.args.entries.now c.bill_of-e.result c.begin-running.result c.test-reboot.result c.work_tick-commanded.new.timer
+    c.work_tick-commanded.ensures.timed c.bill.ensures c.test-reboot.ensures in
     settled_timer c.args.scenario.now c.test-reboot.new.self c.of-now.result y c.begin-running.result (record { state = c.settle-done.new.self; done = c.settle-done.result }) c.work_tick-commanded.new.timer
-    (timed c) c.settle-done.ensures calm (subst (λ o. o ≢ Some y) who own) peer
+    timed c.settle-done.ensures calm (subst (λ o. o ≢ Some y) who own) peer
 
 pub returns-clause-timed : goal.returns-clause-timed
 returns-clause-timed c =
