@@ -1,12 +1,12 @@
 -- Who sleeps in the timer, and who should.
-use Rattle.std.proofs.Common.{◌≡◌, ◌≢◌, inl, inr, ℕ, ◌+◌, ◌<◌, ◌≤◌, ◌++◌, Bool, true, false, ◌||◌, nat_eq, List, [], ◌∷◌, drop, length, get_or, set, map, Option, Some, None, refl, sym, ◌∙◌, ap, subst, arith, length-set, get_or-set_same, get_or-set_other}
+use Rattle.std.proofs.Common.{◌≡◌, ◌≢◌, inl, inr, ℕ, ◌+◌, ◌<◌, ◌≤◌, ◌++◌, Bool, true, false, ◌||◌, nat_eq, List, [], ◌∷◌, drop, length, get_or, set, Option, None, refl, sym, ◌∙◌, ap, subst, arith, length-set, get_or-set_same, get_or-set_other}
 use Rattle.std.proofs.lemmas.Bool.{cases_eq, cases_lt}
 use Rattle.std.proofs.lemmas.List.{drop_more, ext_get_or, get_or_past, length-map, map-set, set-get_or}
 use Rattle.std.proofs.Math.ListN.{get_or-map}
 use Rattle.aps_model.specs.declared.state.ThreadNow.{ThreadNow}
 use Rattle.aps_model.specs.Operation.{go_on}
 use Rattle.aps_model.specs.Scenario.{Scenario}
-use Rattle.aps_model.specs.SchedulerState.{SchedulerState, no_thread, thread_at, with_thread}
+use Rattle.aps_model.specs.SchedulerState.{SchedulerState, no_thread, with_thread}
 use Rattle.aps_model.specs.TickWork.{waking}
 use Rattle.aps_laws.proofs.Walk.{go_on_other}
 use Rattle.aps_laws.proofs.WaitFacts.{test_eq, test_ne}

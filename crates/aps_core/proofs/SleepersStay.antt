@@ -22,8 +22,8 @@ use Rattle.aps_model.specs.Operation.{is_slice_over, with_stamped}
 use Rattle.aps_model.specs.Partition.{partition_named}
 use Rattle.aps_model.specs.Pick.{contenders, greatest}
 use Rattle.aps_model.specs.Scenario.{Scenario, op_at, thread_row}
-use Rattle.aps_model.specs.SchedulerState.{Message, SchedulerState, channel_at, thread_at, with_channel, with_cpu, with_state, with_triple}
-use Rattle.aps_model.specs.Step.{Step, billed, chosen, enter_next, finish_op, give_back, pick, settled, tested}
+use Rattle.aps_model.specs.SchedulerState.{Message, SchedulerState, channel_at, thread_at, with_channel, with_state, with_triple}
+use Rattle.aps_model.specs.Step.{billed, chosen, enter_next, finish_op, give_back, pick, settled, tested}
 use Rattle.aps_model.specs.TickWork.{do_command}
 use Rattle.aps_ctl.specs.Pending.{all_at}
 use Rattle.aps_laws.proofs.Commands.{command_by}
@@ -33,7 +33,7 @@ use Rattle.aps_laws.proofs.ThreadFacts.{set_other}
 use Rattle.aps_laws.proofs.Walk.{command_each, go_on_other}
 use Rattle.aps_timer.specs.Waking.{sleeps_until}
 use Rattle.aps_core.specs.Calls.{all_done}
-use Rattle.aps_core.specs.Sleepers.{IsTimed, sleepers_of, until_at}
+use Rattle.aps_core.specs.Sleepers.{IsTimed, sleepers_of}
 use Rattle.aps_core.specs.Touched.{is_exit, peer_of}
 use Rattle.aps_core.proofs.Asleep.{sleep_stays, timed_each}
 

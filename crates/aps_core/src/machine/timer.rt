@@ -1,3 +1,4 @@
+//! The sleeping threads, kept in a timer from step to step.
 ghost use Rattle.std.specs.Prelude.{◌≡◌, ◌≢◌, ℕ, length, IfOk, Some, None, false};
 ghost use Rattle.aps_core.specs.Sleepers.{sleepers_of, until_at, IsTimed};
 ghost use Rattle.aps_core.specs.Touched.{peer_of, is_exit};

@@ -65,7 +65,10 @@ fn a_place_is_set_whatever_it_had(rt: HostRuntime) -> Result<(), Fail> {
     assert_eq!(rt; timer.until(thread(3)), None);
     timer.set(thread(2), None);
     timer.set(thread(0), None);
-    assert_eq!(rt; wake(&mut timer, 1_000), [Some(thread(1)), None, None, None]);
+    assert_eq!(rt;
+        wake(&mut timer, 1_000),
+        [Some(thread(1)), None, None, None]
+    );
     assert_eq!(rt; timer.until(thread(1)), None);
     Ok(())
 }

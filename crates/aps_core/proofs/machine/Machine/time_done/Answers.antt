@@ -1,4 +1,4 @@
-use Rattle.std.proofs.Common.{◌≡◌, ◌≢◌, ◌∙◌, Some, inl, inr, subst, sym}
+use Rattle.std.proofs.Common.{◌≢◌, ◌∙◌, Some, inl, inr, subst, sym}
 use Rattle.aps_core.proofs.Asleep.{sleepers_by}
 use Rattle.aps_core.proofs.Touched.{is_or_not}
 use Rattle.aps_core.proofs.machine.Machine.time_done.Goals as goal

@@ -1,4 +1,4 @@
-use Rattle.std.proofs.Common.{◌≡◌, ◌≢◌, refl, ◌+◌, ◌∙◌, ℕ, List, Option, Some, None, ap, arith, drop, length, subst, sym, inl, inr, take}
+use Rattle.std.proofs.Common.{◌≡◌, ◌≢◌, refl, ◌+◌, ◌∙◌, ℕ, List, ap, arith, length, subst, sym, inl, inr}
 use Rattle.std.proofs.lemmas.Bool.{cases_eq}
 use Rattle.std.proofs.lemmas.Grind.{common_steps}
 use Rattle.std.proofs.Math.ListN.{drop_of_length-le}
