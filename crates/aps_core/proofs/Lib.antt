@@ -3,6 +3,8 @@ pub mod Seats
 pub mod Unserved
 pub mod Touched
 pub mod SeatsStay
+pub mod Asleep
+pub mod SleepersStay
 pub mod PickStep
 pub mod Numbers
 pub mod Frame

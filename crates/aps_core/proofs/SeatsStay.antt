@@ -32,6 +32,7 @@ use Rattle.aps_laws.proofs.Servers.{changes_only}
 use Rattle.aps_laws.proofs.ThreadFacts.{go_on_by, set_other}
 use Rattle.aps_laws.proofs.WaitFacts.{test_eq, test_ne}
 use Rattle.aps_core.specs.Seats.{seat_at}
+use Rattle.aps_core.specs.Sleepers.{numbers_of}
 use Rattle.aps_core.specs.Touched.{IsTouched, is_at_channel, is_exit, peer_of, woke}
 use Rattle.aps_core.proofs.Seats.{seat_stays}
 
@@ -120,7 +121,7 @@ record IsApart (x : ℕ) (done : Done) (triples : List Triple) (y : ℕ) : Type 
   peer : peer_of done ≡ Some y → ⊥
   server : is_at_channel done ≡ true → client_of triples y ≡ None
 
-apart_of : (woken : List (ℕ × ℕ)) (x : ℕ) (done : Done) (triples : List Triple) (y : ℕ) → (IsTouched woken (Some x) (peer_of done) (is_at_channel done) triples y → ⊥) → IsApart x done triples y
+apart_of : (woken : List ℕ) (x : ℕ) (done : Done) (triples : List Triple) (y : ℕ) → (IsTouched woken (Some x) (peer_of done) (is_at_channel done) triples y → ⊥) → IsApart x done triples y
 apart_of woken x done triples y apart = record {
   own = λ e. apart (inr (inl (ap (λ z. Some z) (sym e))));
   peer = λ e. apart (inr (inr (inl e)));
@@ -271,12 +272,12 @@ tested_seat s h e y = tested_by s.shape.bankruptcy s _ _ (λ u. seat_at u y ≡ 
 -- ---- the wakes
 
 -- those who don't wake sit as before
-pub woken_seats : (scenario : Scenario) (now y : ℕ) (sleepers : List (ℕ × ℕ)) (s : SchedulerState) → woke sleepers y ≡ false
+pub woken_seats : (scenario : Scenario) (now y : ℕ) (sleepers : List (ℕ × ℕ)) (s : SchedulerState) → woke (numbers_of sleepers) y ≡ false
     → seat_at (fold (λ state (sleeper : ℕ × ℕ). go_on scenario state sleeper.1 now) s sleepers) y ≡ seat_at s y
 woken_seats scenario now y [] s not = refl
 woken_seats scenario now y (z ∷ zs) s not =
-    woken_seats scenario now y zs (go_on scenario s z.1 now) (parts (nat_eq z.1 y) (woke zs y) not).1
-    ∙ woken_seat scenario s z.1 now y (λ e. clash (sym (test_eq z.1 y (sym e)) ∙ (parts (nat_eq z.1 y) (woke zs y) not).0))
+    woken_seats scenario now y zs (go_on scenario s z.1 now) (parts (nat_eq z.1 y) (woke (numbers_of zs) y) not).1
+    ∙ woken_seat scenario s z.1 now y (λ e. clash (sym (test_eq z.1 y (sym e)) ∙ (parts (nat_eq z.1 y) (woke (numbers_of zs) y) not).0))
   where
     clash : true ≡ false → ⊥
     clash e = cc
@@ -285,13 +286,13 @@ woken_seats scenario now y (z ∷ zs) s not =
     parts true b e = absurd cc
     parts false b e = (refl, e)
 
-pub wakes_seats : (scenario : Scenario) (now y : ℕ) (sleepers : List (ℕ × ℕ)) (s t : SchedulerState) → t ≡ wake_all scenario now s → sleepers ≡ waking s now → woke sleepers y ≡ false → seat_at t y ≡ seat_at s y
-wakes_seats scenario now y sleepers s t wakes are not =
+pub wakes_seats : (scenario : Scenario) (now y : ℕ) (woken : List ℕ) (s t : SchedulerState) → t ≡ wake_all scenario now s → woken ≡ numbers_of (waking s now) → woke woken y ≡ false → seat_at t y ≡ seat_at s y
+wakes_seats scenario now y woken s t wakes are not =
     ap (λ (u : SchedulerState). seat_at u y) wakes ∙ woken_seats scenario now y (waking s now) s (ap (λ l. woke l y) (sym are) ∙ not)
 
 -- ---- the step up to the pick, where no command comes first
 
-pub step_seat : (scenario : Scenario) (s : SchedulerState) (h : List Entry) (c now y : ℕ) (cpu : CpuNow) (running : Option Pick) (e : Entry) (s1 s2 t0 t : SchedulerState) (reboot : Option ℕ) (did : Effect) (woken : List (ℕ × ℕ))
+pub step_seat : (scenario : Scenario) (s : SchedulerState) (h : List Entry) (c now y : ℕ) (cpu : CpuNow) (running : Option Pick) (e : Entry) (s1 s2 t0 t : SchedulerState) (reboot : Option ℕ) (did : Effect) (woken : List ℕ)
     → s1 ≡ with_cpu s c cpu → (woke woken y ≡ false → seat_at s2 y ≡ seat_at s1 y) → t0 ≡ billed s2 e running → tested t0 h e ≡ record { state = t; reboot = reboot } → settled scenario t now running ≡ did
     → ((p : Pick) → running ≡ Some p → IsNobodysClient t.triples p.thread) → is_exit did.done ≡ false
     → (IsTouched woken (option_map (λ (p : Pick). p.thread) running) (peer_of did.done) (is_at_channel did.done) did.state.triples y → ⊥)

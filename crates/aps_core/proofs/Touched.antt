@@ -8,7 +8,7 @@ use Rattle.aps_core.specs.Touched.{IsTouched, woke}
 some_number : (a b : ℕ) → Some a ≡ Some b → a ≡ b
 some_number a b e = cc
 
-is_or_not : (o : Option ℕ) (x : ℕ) → (o ≡ Some x) ⊎ (o ≡ Some x → ⊥)
+pub is_or_not : (o : Option ℕ) (x : ℕ) → (o ≡ Some x) ⊎ (o ≡ Some x → ⊥)
 is_or_not None x = inr (λ e. cc)
 is_or_not (Some y) x = elim (cases_eq y x) [
   | inl same ↦ inl (ap (λ z. Some z) same)
@@ -27,7 +27,7 @@ woke_or_not : (b : Bool) → (b ≡ true) ⊎ (b ≡ true → ⊥)
 woke_or_not true = inl refl
 woke_or_not false = inr (λ e. cc)
 
-pub touched_or_not : (woken : List (ℕ × ℕ)) (own peer : Option ℕ) (servers : Bool) (triples : List Triple) (x : ℕ)
+pub touched_or_not : (woken : List ℕ) (own peer : Option ℕ) (servers : Bool) (triples : List Triple) (x : ℕ)
     → IsTouched woken own peer servers triples x ⊎ (IsTouched woken own peer servers triples x → ⊥)
 touched_or_not woken own peer servers triples x = elim (woke_or_not (woke woken x)) [
   | inl is_woken ↦ inl (inl is_woken)

@@ -1,66 +1,93 @@
--- The sleepers that wake at a moment, found in one pass over the threads and woken one after the other.
-use Rattle.std.proofs.Common.{◌≡◌, ℕ, ◌+◌, ◌<◌, List, [], ◌∷◌, length, take, refl, ◌∙◌, ap, Option, Some, None, Bool, true, false, cond, get_or, arith}
-use Rattle.std.specs.List.{filter_map, fold, range_with_len}
-use Rattle.std.proofs.lemmas.List.{take_more}
-use Rattle.std.proofs.lemmas.List.Elements.{filter_map-append}
+-- The sleepers that wake at a moment, taken out of the timer and woken one after the other.
+use Rattle.std.proofs.Common.{◌≡◌, ℕ, ◌+◌, ◌<◌, ◌≤◌, ◌++◌, List, [], ◌∷◌, length, take, refl, ◌∙◌, ap, Option, Some, None, Bool, true, false, cond, get_or, arith}
+use Rattle.std.specs.List.{cons_option, filter_map, fold, range_with_len}
+use Rattle.std.proofs.lemmas.List.{append_assoc, length-append, length-map, take_more}
+use Rattle.std.proofs.lemmas.List.FromFn.{length-range_with_len}
 use Rattle.std.proofs.lemmas.List.Sums.{fold-append}
 use Rattle.aps_model.specs.Operation.{go_on}
 use Rattle.aps_model.specs.Scenario.{Scenario}
-use Rattle.aps_model.specs.SchedulerState.{SchedulerState, thread_at}
-use Rattle.aps_model.specs.TickWork.{insert_sleeper, is_earlier, wakes_at}
-use Rattle.aps_model.proofs.Ranges.{range_more}
+use Rattle.aps_model.specs.SchedulerState.{SchedulerState}
+use Rattle.aps_model.specs.TickWork.{insert_sleeper, is_earlier, wake_all, waking}
+use Rattle.aps_timer.specs.Sleepers.{all_due, due_by, later_due, next_due}
+use Rattle.aps_core.specs.Sleepers.{numbers_of}
 
 abbrev Sleepers : Type 0
 Sleepers = List (ℕ × ℕ)
 
--- this one more, if there is one
-abbrev with_sleeper : Sleepers → Option (ℕ × ℕ) → Sleepers
-with_sleeper sleepers None = sleepers
-with_sleeper sleepers (Some sleeper) = insert_sleeper sleeper sleepers
+-- ---- how many
 
--- the sleepers that wake among the threads below a number
-abbrev pub waking_below : SchedulerState → ℕ → ℕ → Sleepers
-waking_below s now n =
-    fold (λ sleepers sleeper. insert_sleeper sleeper sleepers) []
-    (filter_map (λ x. wakes_at now x (thread_at s x).state) (range_with_len 0 n))
-
-waking_one : (s : SchedulerState) (now n : ℕ) (o : Option (ℕ × ℕ)) → wakes_at now n (thread_at s n).state ≡ o → waking_below s now (n + 1) ≡ with_sleeper (waking_below s now n) o
-waking_one s now n o is =
-    let f : ℕ → Option (ℕ × ℕ) = λ x. wakes_at now x (thread_at s x).state in
-    let add : Sleepers → ℕ × ℕ → Sleepers = λ sleepers sleeper. insert_sleeper sleeper sleepers in
-    ap (λ xs. fold add [] (filter_map f xs)) (range_more 0 n n (omega arith))
-    ∙ ap (fold add []) (filter_map-append f (range_with_len 0 n) (n ∷ []))
-    ∙ fold-append add [] (filter_map f (range_with_len 0 n)) (filter_map f (n ∷ []))
-    ∙ by_wake f add o is
-  where
-    by_wake : (f : ℕ → Option (ℕ × ℕ)) (add : Sleepers → ℕ × ℕ → Sleepers) (o : Option (ℕ × ℕ)) → wakes_at now n (thread_at s n).state ≡ o
-        → fold (λ sleepers sleeper. insert_sleeper sleeper sleepers) (waking_below s now n) (filter_map (λ x. wakes_at now x (thread_at s x).state) (n ∷ [])) ≡ with_sleeper (waking_below s now n) o
-    by_wake f add None e = rw e refl
-    by_wake f add (Some sleeper) e = rw e refl
-
--- the next thread doesn't wake
-pub waking_none : (s : SchedulerState) (now n : ℕ) → wakes_at now n (thread_at s n).state ≡ None → waking_below s now (n + 1) ≡ waking_below s now n
-waking_none s now n is = waking_one s now n None is
-
--- the next thread wakes
-pub waking_some : (s : SchedulerState) (now n : ℕ) (sleeper : ℕ × ℕ) → wakes_at now n (thread_at s n).state ≡ Some sleeper → waking_below s now (n + 1) ≡ insert_sleeper sleeper (waking_below s now n)
-waking_some s now n sleeper is = waking_one s now n (Some sleeper) is
-
--- ---- the wakes
-
-abbrev pub all_woken : Scenario → ℕ → SchedulerState → Sleepers → SchedulerState
-all_woken scenario now s sleepers = fold (λ state (sleeper : ℕ × ℕ). go_on scenario state sleeper.1 now) s sleepers
-
-pub woken_more : (scenario : Scenario) (now : ℕ) (s : SchedulerState) (sleepers : Sleepers) (i : ℕ) → i < length sleepers
-    → all_woken scenario now s (take (i + 1) sleepers) ≡ go_on scenario (all_woken scenario now s (take i sleepers)) (get_or sleepers i (0, 0)).1 now
-woken_more scenario now s sleepers i lt =
-    ap (all_woken scenario now s) (take_more sleepers i (0, 0) lt)
-    ∙ fold-append (λ state (sleeper : ℕ × ℕ). go_on scenario state sleeper.1 now) s (take i sleepers) (get_or sleepers i (0, 0) ∷ [])
-
-pub insert_length : (sleeper : ℕ × ℕ) (sleepers : Sleepers) → length (insert_sleeper sleeper sleepers) ≡ length sleepers + 1
+insert_length : (sleeper : ℕ × ℕ) (sleepers : Sleepers) → length (insert_sleeper sleeper sleepers) ≡ length sleepers + 1
 insert_length sleeper [] = refl
 insert_length sleeper (first ∷ rest) = by_order (is_earlier sleeper first) (insert_length sleeper rest)
   where
     by_order : (t : Bool) → length (insert_sleeper sleeper rest) ≡ length rest + 1 → length (cond t (sleeper ∷ first ∷ rest) (first ∷ insert_sleeper sleeper rest)) ≡ length (first ∷ rest) + 1
     by_order true more = omega arith
     by_order false more = omega (arith, more)
+
+inserted_length : (sleepers added : Sleepers) → length (fold (λ all sleeper. insert_sleeper sleeper all) sleepers added) ≡ length sleepers + length added
+inserted_length sleepers [] = omega arith
+inserted_length sleepers (z ∷ zs) = omega (arith, inserted_length (insert_sleeper z sleepers) zs, insert_length z sleepers)
+
+kept_length : (f : ℕ → Option (ℕ × ℕ)) (xs : List ℕ) → length (filter_map f xs) ≤ length xs
+kept_length f [] = omega arith
+kept_length f (x ∷ xs) = by_item (f x) (kept_length f xs)
+  where
+    by_item : (o : Option (ℕ × ℕ)) → length (filter_map f xs) ≤ length xs → length (cons_option o (filter_map f xs)) ≤ length (x ∷ xs)
+    by_item None few = omega (arith, few)
+    by_item (Some z) few = omega (arith, few)
+
+-- no more are due than there are threads
+pub few_due : (row : List (Option ℕ)) (now : ℕ) → length (all_due row now) ≤ length row
+few_due row now =
+    let f : ℕ → Option (ℕ × ℕ) = λ x. due_by now x (get_or row x None) in
+    let xs = range_with_len 0 (length row) in
+    omega (arith, inserted_length [] (filter_map f xs), kept_length f xs, length-range_with_len 0 (length row))
+
+-- ---- one after the other
+
+-- the next one is due
+pub record IsNext (sleepers : Sleepers) (x : ℕ) (woken : List ℕ) : Type 0 where
+  pub told : (woken ++ x ∷ []) ++ numbers_of (later_due sleepers) ≡ woken ++ numbers_of sleepers
+  pub fewer : length (later_due sleepers) + 1 ≡ length sleepers
+
+pub next_one : (sleepers : Sleepers) (x : ℕ) (woken : List ℕ) → Some x ≡ next_due sleepers → IsNext sleepers x woken
+next_one [] x woken is = absurd cc
+next_one (z ∷ zs) x woken is =
+    let same : x ≡ z.1 = some_number x z.1 is in
+    record {
+      told = append_assoc woken (x ∷ []) (numbers_of zs) ∙ ap (λ y. woken ++ y ∷ numbers_of zs) same;
+      fewer = omega arith;
+    }
+  where
+    some_number : (a b : ℕ) → Some a ≡ Some b → a ≡ b
+    some_number a b e = cc
+
+pub next_none : (sleepers : Sleepers) → None ≡ next_due sleepers → sleepers ≡ []
+next_none [] is = refl
+next_none (z ∷ zs) is = absurd cc
+
+-- those who woke and those who are left are all
+pub in_all : (woken : List ℕ) (left all : Sleepers) → woken ++ numbers_of left ≡ numbers_of all → length woken + length left ≡ length all
+in_all woken left all told =
+    let of : ℕ × ℕ → ℕ = λ sleeper. sleeper.1 in
+    omega (arith, length-append woken (numbers_of left), length-map left of, length-map all of, ap length told)
+
+-- ---- the wakes
+
+abbrev pub all_woken : Scenario → ℕ → SchedulerState → List ℕ → SchedulerState
+all_woken scenario now s woken = fold (λ state x. go_on scenario state x now) s woken
+
+pub woken_more : (scenario : Scenario) (now : ℕ) (s : SchedulerState) (woken : List ℕ) (i : ℕ) → i < length woken
+    → all_woken scenario now s (take (i + 1) woken) ≡ go_on scenario (all_woken scenario now s (take i woken)) (get_or woken i 0) now
+woken_more scenario now s woken i lt =
+    ap (all_woken scenario now s) (take_more woken i 0 lt)
+    ∙ fold-append (λ state x. go_on scenario state x now) s (take i woken) (get_or woken i 0 ∷ [])
+
+by_numbers : (scenario : Scenario) (now : ℕ) (sleepers : Sleepers) (s : SchedulerState)
+    → all_woken scenario now s (numbers_of sleepers) ≡ fold (λ state (sleeper : ℕ × ℕ). go_on scenario state sleeper.1 now) s sleepers
+by_numbers scenario now [] s = refl
+by_numbers scenario now (z ∷ zs) s = by_numbers scenario now zs (go_on scenario s z.1 now)
+
+-- they are the wakes of the tick
+pub all_wakes : (scenario : Scenario) (now : ℕ) (s : SchedulerState) (woken : List ℕ) → woken ≡ numbers_of (waking s now) → all_woken scenario now s woken ≡ wake_all scenario now s
+all_wakes scenario now s woken are = ap (all_woken scenario now s) are ∙ by_numbers scenario now (waking s now) s

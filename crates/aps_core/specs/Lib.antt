@@ -10,6 +10,7 @@ pub mod Part
 pub mod Seats
 pub mod Serving
 pub mod Lowest
+pub mod Sleepers
 pub mod Touched
 pub mod Counts
 pub mod Standing

@@ -23,12 +23,12 @@ abbrev pub is_exit : Done → Bool
 is_exit Exit = true
 is_exit done = false
 
--- the thread is one of the sleepers that woke
-abbrev pub woke : List (ℕ × ℕ) → ℕ → Bool
+-- the thread is one of those who woke
+abbrev pub woke : List ℕ → ℕ → Bool
 woke [] x = false
-woke (sleeper ∷ sleepers) x = nat_eq sleeper.1 x || woke sleepers x
+woke (y ∷ woken) x = nat_eq y x || woke woken x
 
 -- the thread woke; or it is the own one or the other one; or all servers count, and it is one
-abbrev pub IsTouched : List (ℕ × ℕ) → Option ℕ → Option ℕ → Bool → List Triple → ℕ → Type 0
+abbrev pub IsTouched : List ℕ → Option ℕ → Option ℕ → Bool → List Triple → ℕ → Type 0
 IsTouched woken own peer servers triples x =
     (woke woken x ≡ true) ⊎ (own ≡ Some x) ⊎ (peer ≡ Some x) ⊎ ((servers ≡ true) × (client_of triples x ≢ None))

@@ -16,6 +16,7 @@ ghost use Rattle.aps_core.specs.Pending.{IsPending};
 ghost use Rattle.aps_core.specs.Ready.{IsReady};
 ghost use Rattle.aps_core.specs.Rising.{IsRising};
 ghost use Rattle.aps_core.specs.Seats.{seats_of};
+ghost use Rattle.aps_core.specs.Sleepers.{sleepers_of};
 
 mod asking;
 mod bankruptcy;
@@ -34,6 +35,7 @@ mod settle;
 mod start;
 mod sync;
 mod threads;
+mod timer;
 mod triple;
 pub mod wake;
 
@@ -47,12 +49,13 @@ use aps_model::{
     Shape, ThreadId, ThreadNow,
 };
 use aps_ready::Ready;
+use aps_timer::Timer;
 use aps_tree::Tree;
 use aps_window::Window;
 use channel::Channel;
 use std::marker::Model;
 use triple::Triples;
-use wake::Sleepers;
+use wake::Woken;
 
 /// Everything that stands between two steps, beside the history. Contracts see it as the scheduler state of the
 /// definitions, and each method is the part of the definitions' step that its clause names.
@@ -199,7 +202,8 @@ impl Machine {
         window: &mut Window,
         standing: &mut Standing,
         ready: &mut Ready,
-        sleepers: &mut Sleepers,
+        timer: &mut Timer,
+        woken: &mut Woken,
         ctl: &mut Ctl,
         cpu: CpuId,
     ) -> Stepped
@@ -208,6 +212,7 @@ impl Machine {
         requires pending { IsPending scenario.now self.old.shape.tick entries.now ctl.old }
         requires stands { standing.old ≡ parts_in self.old.shape self.old.rows window.old }
         requires seats { ready.old ≡ seats_of self.old }
+        requires timed { timer.old ≡ sleepers_of self.old }
         requires entries { All IsEntry entries.now }
         requires ends { AreEnds entries.now ends.now }
         requires dues { AreDues self.old entries.now dues.now }
@@ -219,12 +224,13 @@ impl Machine {
         ensures stands { standing.new ≡ parts_in self.new.shape self.new.rows window.new }
         ensures kept { result.is_changed ≡ false → IsKept self.old self.new }
         ensures seats { ready.new ≡ seats_of self.new }
+        ensures timed { timer.new ≡ sleepers_of self.new }
     {
         let now = dues.of(cpu);
         let from = ends.last_end(entries, cpu);
         let is_later = usage::go_on(window, self.tick_of(now));
         let running = self.begin(cpu);
-        let commanded = self.work_tick(scenario, entries, window, sleepers, ctl, now);
+        let commanded = self.work_tick(scenario, entries, window, timer, woken, ctl, now);
         let e = bill::bill_of(cpu, from, now, &running);
         usage::add_time(window, &self.shape, &e);
         self.bill(&e, &running);
@@ -248,7 +254,8 @@ impl Machine {
             };
         }
         let done = self.settle(scenario, now, &running);
-        self.sync(ready, commanded, sleepers, &e.ran, &done);
+        self.sync(ready, commanded, woken, &e.ran, &done);
+        self.time_done(timer, &e.ran, &done);
         let e = Entry { done, ..e };
         let entry = self.pick(entries, dues, standing, ready, cpu, e);
         Stepped {

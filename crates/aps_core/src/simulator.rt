@@ -21,7 +21,7 @@ mod reading;
 use crate::dues::Dues;
 use crate::ends::Ends;
 use crate::machine::Machine;
-use crate::machine::wake::Sleepers;
+use crate::machine::wake::Woken;
 use crate::recording;
 use crate::rooms::Room;
 use crate::standing::Standing;
@@ -29,6 +29,7 @@ use crate::turn::Turn;
 use aps_ctl::Ctl;
 use aps_model::{CpuId, End, Entry, History, Nanos, NoMemory, Order, Scenario};
 use aps_ready::Ready;
+use aps_timer::Timer;
 use aps_window::Window;
 use std::alloc::Global;
 use std::marker::Model;
@@ -46,7 +47,8 @@ pub struct Core {
     window: Window,
     standing: Standing,
     ready: Ready,
-    sleepers: Sleepers,
+    timer: Timer,
+    woken: Woken,
     ctl: Ctl,
 }
 
@@ -81,7 +83,8 @@ impl Core {
         let window = Window::new(alloc, scenario.shape().window)?;
         let standing = machine.start_standing(alloc, &window)?;
         let ready = machine.start_ready(alloc)?;
-        let sleepers = Sleepers::new(alloc)?;
+        let timer = machine.start_timer(alloc)?;
+        let woken = Woken::new(alloc)?;
         let ctl = Ctl::new(alloc, &scenario)?;
         let replies = scenario.commands().len() as u16;
         let changes = most_changes(&scenario);
@@ -96,7 +99,8 @@ impl Core {
             window,
             standing,
             ready,
-            sleepers,
+            timer,
+            woken,
             ctl,
         })
     }
@@ -257,7 +261,8 @@ impl Core {
             &mut self.window,
             &mut self.standing,
             &mut self.ready,
-            &mut self.sleepers,
+            &mut self.timer,
+            &mut self.woken,
             &mut self.ctl,
             cpu,
         );

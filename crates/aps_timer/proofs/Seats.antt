@@ -6,7 +6,7 @@ use Rattle.std.proofs.lemmas.List.{get_or_default, map-set}
 use Rattle.std.proofs.Math.ListN.{get_or-map}
 use Rattle.aps_model.specs.TickWork.{is_earlier}
 use Rattle.aps_timer.specs.Bracket.{goes_before, sleeper_at}
-use Rattle.aps_timer.specs.Seated.{AreSeated, until_of, untils}
+use Rattle.aps_timer.specs.Seated.{AreSeated, sleeper_of, until_of, untils}
 use Rattle.aps_timer.specs.Sleepers.{IsFirstDue, SleepsUntil}
 use Rattle.aps_timer.proofs.Places.{taken_within}
 
@@ -75,3 +75,8 @@ nobody_sleeps (suc n) = ap (λ (row : List (Option ℕ)). None ∷ row) (nobody_
 -- one place is set
 pub moments_set : (row : List (Option (ℕ × ℕ))) (x : ℕ) (o : Option (ℕ × ℕ)) → untils (set row x o) ≡ set (untils row) x (until_of o)
 moments_set row x o = map-set until_of row x o
+
+-- the moment of a thread as it sleeps
+pub moment_of : (x : ℕ) (until : Option ℕ) → until_of (sleeper_of x until) ≡ until
+moment_of x None = refl
+moment_of x (Some until) = refl

@@ -7,6 +7,11 @@ abbrev pub until_of : Option (ℕ × ℕ) → Option ℕ
 until_of None = None
 until_of (Some sleeper) = Some sleeper.0
 
+-- thread x as it sleeps until this moment, if it does
+abbrev pub sleeper_of : ℕ → Option ℕ → Option (ℕ × ℕ)
+sleeper_of x None = None
+sleeper_of x (Some until) = Some (until, x)
+
 -- the moments of the row
 abbrev pub untils : List (Option (ℕ × ℕ)) → List (Option ℕ)
 untils row = map until_of row

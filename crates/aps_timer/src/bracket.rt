@@ -42,6 +42,21 @@ impl Bracket {
         Ok(Bracket { width, nodes })
     }
 
+    /// How many places there are.
+    pub fn len(&self) -> usize
+        ensures { result ≡ length self.now }
+    {
+        self.width
+    }
+
+    /// The sleeper of a place, if somebody sleeps there.
+    pub fn at(&self, place: usize) -> Option<Sleeper>
+        requires { place < length self.now }
+        ensures { result ≡ sleeper_at self.now place }
+    {
+        self.nodes[self.width + place]
+    }
+
     /// Sets one place. It looks at no more nodes than the row's length has binary digits.
     pub fn set(&mut self, place: usize, sleeper: Option<Sleeper>)
         requires { place < length self.old }

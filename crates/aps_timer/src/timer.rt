@@ -1,5 +1,6 @@
 //! The timer of a run.
 ghost use Rattle.std.specs.Prelude.{◌≡◌, ℕ, ◌<◌, [], length, replicate, slice_index_or, slice_set, IfOk, IfSome, None};
+ghost use Rattle.aps_timer.specs.Seated.{sleeper_of, until_of};
 ghost use Rattle.aps_timer.specs.Sleepers.{IsFirstDue, all_due, later_due, next_due, without};
 
 use crate::bracket::Bracket;
@@ -47,6 +48,28 @@ impl Timer {
         self.row.set(x.index(), Some(Sleeper { until, thread: x }));
     }
 
+    /// The moment until which the thread sleeps, in ns; nothing where it doesn't sleep, or isn't one of the row.
+    pub fn until(&self, x: ThreadId) -> Option<Nanos>
+        ensures { result ≡ slice_index_or self.now x None }
+    {
+        let place = x.index();
+        if place >= self.row.len() {
+            return None;
+        }
+        until_of(&self.row.at(place))
+    }
+
+    /// From now on the thread, if it is one of the row, sleeps until this moment, in ns, or doesn't sleep, whatever it did
+    /// before.
+    pub fn set(&mut self, x: ThreadId, until: Option<Nanos>)
+        ensures { self.new ≡ slice_set self.old x until }
+    {
+        if self.until(x) == until || x.index() >= self.row.len() {
+            return;
+        }
+        self.row.set(x.index(), sleeper_of(x, until));
+    }
+
     /// Takes out, and answers, the sleeper with the least moment, then the least number, if that moment is at or
     /// before `now`, in ns. There is none exactly where every sleeper's moment is later. Nothing need rise from call to
     /// call.
@@ -72,5 +95,25 @@ impl Timer {
         } else {
             None
         }
+    }
+}
+
+/// The moment of a sleeper, if there is one.
+fn until_of(sleeper: &Option<Sleeper>) -> Option<Nanos>
+    ensures { result ≡ until_of sleeper.now }
+{
+    match sleeper {
+        Some(sleeper) => Some(sleeper.until),
+        None => None,
+    }
+}
+
+/// The thread as it sleeps until this moment, if it does.
+fn sleeper_of(x: ThreadId, until: Option<Nanos>) -> Option<Sleeper>
+    ensures { result ≡ sleeper_of x until }
+{
+    match until {
+        Some(until) => Some(Sleeper { until, thread: x }),
+        None => None,
     }
 }

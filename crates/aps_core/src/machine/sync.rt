@@ -5,7 +5,7 @@ ghost use Rattle.aps_core.specs.Touched.{peer_of, is_at_channel, is_exit, woke, 
 ghost use Rattle.aps_laws.specs.Stamps.{IsStamped};
 
 use super::Machine;
-use super::wake::Sleepers;
+use super::wake::Woken;
 use aps_model::{Done, ThreadId};
 use aps_ready::Ready;
 
@@ -16,7 +16,7 @@ impl Machine {
         &self,
         ready: &mut Ready,
         is_any: bool,
-        woken: &Sleepers,
+        woken: &Woken,
         own: &Option<ThreadId>,
         done: &Done,
     )
@@ -40,7 +40,7 @@ impl Machine {
     fn sync_some(
         &self,
         ready: &mut Ready,
-        woken: &Sleepers,
+        woken: &Woken,
         own: &Option<ThreadId>,
         peer: &Option<ThreadId>,
         servers: bool,
@@ -61,19 +61,19 @@ impl Machine {
     }
 
     /// Each of those who woke isn't in, unless it is as it should be.
-    fn leave_woken(&self, ready: &mut Ready, woken: &Sleepers)
+    fn leave_woken(&self, ready: &mut Ready, woken: &Woken)
         ensures own { (x : ℕ) → woke woken.now x ≡ true → IsSeated self.now ready.new x }
         ensures seated { (y : ℕ) → IsSeated self.now ready.old y → IsSeated self.now ready.new y }
         ensures right { (y : ℕ) → IsRight self.now ready.old y → IsRight self.now ready.new y }
         ensures count { length ready.new ≡ length ready.old }
     {
-        for sleeper in woken.as_slice() {
-            self.leave(ready, sleeper.thread());
+        for x in woken.as_slice() {
+            self.leave(ready, *x);
         }
     }
 
     /// Each of those who woke is in, if it should be, where it isn't in otherwise.
-    fn enter_woken(&self, ready: &mut Ready, woken: &Sleepers)
+    fn enter_woken(&self, ready: &mut Ready, woken: &Woken)
         requires count { length ready.old ≡ length self.now.threads }
         requires stamped { IsStamped self.now.threads self.now.stamps }
         requires seated { (y : ℕ) → IsSeated self.now ready.old y }
@@ -82,8 +82,8 @@ impl Machine {
         ensures right { (y : ℕ) → IsRight self.now ready.old y → IsRight self.now ready.new y }
         ensures count { length ready.new ≡ length ready.old }
     {
-        for sleeper in woken.as_slice() {
-            self.enter(ready, sleeper.thread());
+        for x in woken.as_slice() {
+            self.enter(ready, *x);
         }
     }
 
@@ -146,7 +146,7 @@ impl Machine {
 }
 
 /// The other thread with whose wait or values the operation had to do.
-fn peer_of(done: &Done) -> Option<ThreadId>
+pub fn peer_of(done: &Done) -> Option<ThreadId>
     ensures { result ≡ peer_of done.now }
 {
     match done {
@@ -165,7 +165,7 @@ fn is_at_channel(done: &Done) -> bool
 }
 
 /// Whether the operation doesn't tell whom it freed.
-fn is_exit(done: &Done) -> bool
+pub fn is_exit(done: &Done) -> bool
     ensures { result ≡ is_exit done.now }
 {
     matches!(done, Done::Exit)

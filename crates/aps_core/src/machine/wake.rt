@@ -1,109 +1,74 @@
-ghost use Rattle.std.specs.Prelude.{◌≡◌, ℕ, ◌+◌, ◌/◌, ◌%◌, ◌<◌, ◌≤◌, ◌^◌, ◌++◌, [], ◌∷◌, length, IfOk, vec_capacity, false};
-ghost use Rattle.std.specs.Prelude.{nat_eq, slice_index_or};
+ghost use Rattle.std.specs.Prelude.{◌≡◌, ℕ, ◌+◌, ◌/◌, ◌%◌, ◌<◌, ◌≤◌, ◌^◌, ◌++◌, [], ◌∷◌, length, slice_index_or, IfOk, vec_capacity, None, false};
+ghost use Rattle.std.specs.Prelude.{nat_eq};
 ghost use Rattle.std.specs.List.{list_any};
 ghost use Rattle.aps_model.specs.declared.entry.Entry.{Entry as EntryOf};
 ghost use Rattle.aps_model.specs.Valid.{IsScenario};
 ghost use Rattle.aps_core.specs.Pending.{IsPending};
-ghost use Rattle.aps_model.specs.SchedulerState.{thread_at};
-ghost use Rattle.aps_model.specs.TickWork.{has_tick_work, insert_sleeper, is_earlier, tick_work, wake_all, waking, wakes_at};
+ghost use Rattle.aps_model.specs.TickWork.{has_tick_work, tick_work, wake_all, waking};
+ghost use Rattle.aps_timer.specs.Sleepers.{all_due};
 ghost use Rattle.aps_core.specs.Counts.{Counts};
 ghost use Rattle.aps_core.specs.Kept.{IsKept};
 ghost use Rattle.aps_core.specs.Rising.{IsRising};
 ghost use Rattle.aps_core.specs.Room.{HasRoomToWake, changes_of_a_run, last_place, stamps_before};
 ghost use Rattle.aps_core.specs.Seats.{seat_at};
+ghost use Rattle.aps_core.specs.Sleepers.{numbers_of, sleepers_of};
 ghost use Rattle.aps_core.specs.Touched.{woke};
 
 use super::Machine;
 use super::channel::MOST_THREADS;
-use crate::append::insert_at;
 use crate::due;
 use aps_ctl::Ctl;
-use aps_model::{Entry, Nanos, NoMemory, Scenario, State, ThreadId};
+use aps_model::{Entry, Nanos, NoMemory, Scenario, ThreadId};
+use aps_timer::Timer;
 use aps_window::Window;
 use std::alloc::Global;
 use std::marker::Model;
 
-/// A thread that sleeps, and the moment until which it does.
-#[derive(Clone, Copy, Debug, PartialEq, Eq)]
-pub struct Sleeper {
-    until: Nanos,
-    thread: ThreadId,
-}
-
-impl Model for Sleeper {
-    ghost use Rattle.std.specs.Prelude.{ℕ};
-
-    ghost Value = { ℕ × ℕ };
-
-    ghost view = { λ s. (s.until, s.thread) };
-
-    ghost inverse = { λ s. record { until = s.0; thread = s.1 } };
-}
-
-impl Sleeper {
-    pub fn thread(&self) -> ThreadId
-        ensures { result ≡ self.now.1 }
-    {
-        self.thread
-    }
-}
-
-/// Whether the first sleeper wakes before the other: earlier, or at the same moment with the lower number.
-fn is_earlier(a: &Sleeper, b: &Sleeper) -> bool
-    ensures { result ≡ is_earlier a.now b.now }
-{
-    a.until < b.until || (a.until == b.until && a.thread.index() < b.thread.index())
-}
-
-/// The sleepers of a moment, in the order in which they wake. There is room for every thread.
+/// The threads that woke, in the order in which they did. There is room for every thread.
 #[derive(Drop)]
-pub struct Sleepers {
-    list: Vec<Sleeper>,
+pub struct Woken {
+    list: Vec<ThreadId>,
 }
 
-impl Model for Sleepers {
+impl Model for Woken {
     ghost use Rattle.std.specs.Prelude.{ℕ, List};
 
-    ghost Value = { List (ℕ × ℕ) };
+    ghost Value = { List ℕ };
 
-    ghost view = { λ s. s.list.items };
+    ghost view = { λ w. w.list.items };
 
     ghost use Rattle.std.specs.Prelude.{◌≤◌, vec_capacity};
 
-    ghost invariant = { λ s. 1024 ≤ vec_capacity s.list };
+    ghost invariant = { λ w. 1024 ≤ vec_capacity w.list };
 }
 
-impl Sleepers {
-    /// No sleepers.
+impl Woken {
+    /// No threads.
     pub fn new(alloc: Global) -> Result<Self, NoMemory>
-        ensures { IfOk result (λ s. s ≡ []) }
+        ensures { IfOk result (λ w. w ≡ []) }
     {
-        Ok(Sleepers {
+        Ok(Woken {
             list: Vec::with_capacity(alloc, MOST_THREADS)?,
         })
     }
 
-    /// The same, so that others can be put in.
+    /// The same, so that others can be added.
     fn clear(&mut self)
         ensures { self.new ≡ [] }
     {
         self.list.clear();
     }
 
-    /// Puts a sleeper at its place in the order. There is room for it.
-    fn insert(&mut self, sleeper: Sleeper)
+    /// One thread more. There is room for it.
+    fn push(&mut self, x: ThreadId)
         requires { length self.old < 1024 }
-        ensures { self.new ≡ insert_sleeper sleeper self.old }
+        ensures { self.new ≡ self.old ++ x ∷ [] }
     {
-        let mut place = 0;
-        while place < self.list.len() && !is_earlier(&sleeper, &self.list[place]) {
-            place += 1;
-        }
-        insert_at(&mut self.list, place, sleeper);
+        self.list.push_reserved(x);
     }
 
-    /// The sleepers, in that order.
-    pub fn as_slice(&self) -> &[Sleeper]
+    /// The threads, in that order.
+    pub fn as_slice(&self) -> &[ThreadId]
         ensures { result.now ≡ self.now }
     {
         self.list.as_slice()
@@ -116,55 +81,46 @@ impl Sleepers {
         self.list.len()
     }
 
-    /// The thread of the sleeper at a place.
-    fn thread_at(&self, place: usize) -> ThreadId
+    /// The thread at a place.
+    fn at(&self, place: usize) -> ThreadId
         requires { place < length self.now }
-        ensures { result ≡ (slice_index_or self.now place (0, 0)).1 }
+        ensures { result ≡ slice_index_or self.now place 0 }
     {
-        self.list[place].thread
+        self.list[place]
+    }
+}
+
+/// Takes the sleepers out whose moment has come, in order of moment, then of number.
+fn take_due(timer: &mut Timer, now: Nanos, woken: &mut Woken)
+    requires few { length timer.old ≤ 1024 }
+    ensures same { woken.new ≡ numbers_of (all_due timer.old now) }
+    ensures few { length woken.new ≤ 1024 }
+    ensures count { length timer.new ≡ length timer.old }
+    ensures others { (y : ℕ) → woke woken.new y ≡ false → slice_index_or timer.new y None ≡ slice_index_or timer.old y None }
+{
+    woken.clear();
+    while let Some(x) = timer.due_at(now) {
+        woken.push(x);
     }
 }
 
 impl Machine {
-    /// The sleeper of this thread, if it has slept long enough.
-    fn wakes_at(&self, now: Nanos, x: ThreadId) -> Option<Sleeper>
-        ensures { result ≡ wakes_at now x (thread_at self.now x).state }
-    {
-        match self.thread(x).state {
-            State::Sleeping(until) => {
-                if until <= now {
-                    Some(Sleeper { until, thread: x })
-                } else {
-                    None
-                }
-            }
-            _ => None,
-        }
-    }
-
-    /// Finds the sleepers whose moment has come, in order of moment, then of number.
-    fn find_waking(&self, now: Nanos, sleepers: &mut Sleepers)
-        ensures same { sleepers.new ≡ waking self.now now }
-        ensures few { length sleepers.new ≤ 1024 }
-    {
-        sleepers.clear();
-        for x in 0..self.threads.len() {
-            if let Some(sleeper) = self.wakes_at(now, ThreadId::at(x)) {
-                sleepers.insert(sleeper);
-            }
-        }
-    }
-
-    /// The sleepers whose moment has come go on.
-    fn wake_all(&mut self, scenario: &Scenario, now: Nanos, sleepers: &mut Sleepers)
+    /// The sleepers whose moment has come go on. One whose next operation is a sleep is in the timer again.
+    fn wake_all(&mut self, scenario: &Scenario, now: Nanos, timer: &mut Timer, woken: &mut Woken)
         requires now { now ≤ 10000000000000 }
         requires room { HasRoomToWake last_place stamps_before self.old }
+        requires timed { timer.old ≡ sleepers_of self.old }
         ensures same { self.new ≡ wake_all scenario.now now self.old }
-        ensures woken { sleepers.new ≡ waking self.old now }
+        ensures woken { woken.new ≡ numbers_of (waking self.old now) }
+        ensures timed { timer.new ≡ sleepers_of self.new }
     {
-        self.find_waking(now, sleepers);
-        for i in 0..sleepers.len() {
-            self.go_on(scenario, sleepers.thread_at(i), now);
+        // the check wants to see that there are 1,024 threads at most
+        let _count = self.threads.len();
+        take_due(timer, now, woken);
+        for i in 0..woken.len() {
+            let x = woken.at(i);
+            self.go_on(scenario, x, now);
+            self.time(timer, x);
         }
     }
 
@@ -176,14 +132,16 @@ impl Machine {
         now % self.shape.tick == 0 && now < self.horizon() && !due::is_met(entries, now)
     }
 
-    /// The work of the tick, if it begins with this step: the commands of the tick, and then the wakes. The answer is
-    /// whether there was a command; else no thread's seat changes but of those who woke, who are told.
+    /// The work of the tick, if it begins with this step: the commands of the tick, and then the wakes, from the timer,
+    /// which then has the sleepers that are left. The answer is whether there was a command; else no thread's seat changes
+    /// but of those who woke, who are told.
     pub fn work_tick(
         &mut self,
         scenario: &Scenario,
         entries: &[Entry],
         window: &mut Window,
-        sleepers: &mut Sleepers,
+        timer: &mut Timer,
+        woken: &mut Woken,
         ctl: &mut Ctl,
         now: Nanos,
     ) -> bool
@@ -193,10 +151,12 @@ impl Machine {
         requires counts { Counts self.old.shape entries.now (now / self.old.shape.tick) window.old }
         requires now { now ≤ 10000000000000 }
         requires room { HasRoomToWake last_place stamps_before self.old }
+        requires timed { timer.old ≡ sleepers_of self.old }
         requires replies { length (tick_work scenario.now self.old entries.now now).replies ≤ 1024 }
         requires changes { length (tick_work scenario.now self.old entries.now now).changes ≤ changes_of_a_run }
         ensures same { self.new ≡ tick_work scenario.now self.old entries.now now }
-        ensures idle { result ≡ false → (x : ℕ) → woke sleepers.new x ≡ false → seat_at self.new x ≡ seat_at self.old x }
+        ensures timed { timer.new ≡ sleepers_of self.new }
+        ensures idle { result ≡ false → (x : ℕ) → woke woken.new x ≡ false → seat_at self.new x ≡ seat_at self.old x }
         ensures kept { result ≡ false → IsKept self.old self.new }
         ensures window { result ≡ false → window.new ≡ window.old }
         ensures counts { Counts self.new.shape entries.now (now / self.old.shape.tick) window.new }
@@ -205,10 +165,10 @@ impl Machine {
         if self.has_tick_work(entries, now) {
             let tick = self.tick_of(now);
             let commanded = self.do_commands(entries, window, ctl, tick);
-            self.wake_all(scenario, now, sleepers);
+            self.wake_all(scenario, now, timer, woken);
             return commanded;
         }
-        sleepers.clear();
+        woken.clear();
         false
     }
 }

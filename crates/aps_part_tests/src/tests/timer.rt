@@ -54,6 +54,26 @@ fn an_earlier_sleeper_than_the_moment_last_asked_is_due(rt: HostRuntime) -> Resu
 }
 
 #[test]
+fn a_place_is_set_whatever_it_had(rt: HostRuntime) -> Result<(), Fail> {
+    let mut timer = Timer::new(rt.alloc(), 3)?;
+    timer.set(thread(1), Some(500));
+    timer.set(thread(2), Some(400));
+    timer.set(thread(1), Some(300));
+    timer.set(thread(3), Some(100));
+    assert_eq!(rt; timer.until(thread(1)), Some(300));
+    assert_eq!(rt; timer.until(thread(0)), None);
+    assert_eq!(rt; timer.until(thread(3)), None);
+    timer.set(thread(2), None);
+    timer.set(thread(0), None);
+    assert_eq!(rt;
+        wake(&mut timer, 1_000),
+        [Some(thread(1)), None, None, None]
+    );
+    assert_eq!(rt; timer.until(thread(1)), None);
+    Ok(())
+}
+
+#[test]
 fn nobody_sleeps_where_there_are_no_threads(rt: HostRuntime) -> Result<(), Fail> {
     let mut timer = Timer::new(rt.alloc(), 0)?;
     assert_eq!(rt; timer.due_at(u64::MAX), None);

@@ -3,9 +3,9 @@ use Rattle.aps_core.specs.Seats.{IsRight, IsSeated}
 use Rattle.aps_core.specs.Touched.{woke}
 use Rattle.aps_core.proofs.machine.Machine.leave_woken.Given as goal
 
-abbrev pub invariant-loop-sleeper : goal.invariant-loop-sleeper
-invariant-loop-sleeper l = record {
-  own : (x : ℕ) → woke l.woken x ≡ true → (woke (drop l.sleeper-index l.woken) x ≡ true) ⊎ IsSeated l.self l.ready x;
+abbrev pub invariant-loop-x : goal.invariant-loop-x
+invariant-loop-x l = record {
+  own : (y : ℕ) → woke l.woken y ≡ true → (woke (drop l.x-index l.woken) y ≡ true) ⊎ IsSeated l.self l.ready y;
   seated : (y : ℕ) → IsSeated l.self l.initial.ready y → IsSeated l.self l.ready y;
   right : (y : ℕ) → IsRight l.self l.initial.ready y → IsRight l.self l.ready y;
   count : length l.ready ≡ length l.initial.ready;

@@ -1,4 +1,4 @@
-use Rattle.std.proofs.Common.{◌≡◌, ℕ, ◌/◌, ◌||◌, List, Option, Some, None, ◌≤◌, [], ◌∷◌, ◌++◌, sym, ◌∙◌, refl, subst, length, ap, arith}
+use Rattle.std.proofs.Common.{◌≡◌, ◌≢◌, ℕ, ◌/◌, ◌||◌, List, Option, Some, None, ◌≤◌, [], ◌∷◌, ◌++◌, sym, ◌∙◌, refl, subst, length, ap, arith}
 use Rattle.std.specs.Option.{option_map}
 use Rattle.aps_model.specs.declared.entry.Entry.{Entry}
 use Rattle.aps_model.specs.declared.merit.Contender.{Contender}
@@ -7,6 +7,7 @@ use Rattle.aps_model.specs.Bill.{bill_of}
 use Rattle.aps_model.specs.Due.{due}
 use Rattle.aps_model.specs.Messages.{Effect}
 use Rattle.aps_model.specs.SchedulerState.{SchedulerState, thread_at}
+use Rattle.aps_model.specs.Step.{Step}
 use Rattle.aps_laws.specs.Servers.{IsNobodysClient}
 use Rattle.aps_laws.specs.Stamps.{IsStamped}
 use Rattle.aps_window.specs.Window.{Window, total_of}
@@ -16,11 +17,14 @@ use Rattle.aps_core.specs.MachineView.{state_of}
 use Rattle.aps_core.specs.Pending.{IsPending}
 use Rattle.aps_core.specs.Room.{HasRoomToWake}
 use Rattle.aps_core.specs.Seats.{who_at}
+use Rattle.aps_core.specs.Sleepers.{sleepers_of}
 use Rattle.aps_core.specs.Touched.{IsTouched, is_at_channel, peer_of}
 use Rattle.aps_core.proofs.Counting.{parts_are}
 use Rattle.aps_core.proofs.Frame.{kept_then, settled_kept}
 use Rattle.aps_core.proofs.Seats.{seats_count, who_seats}
 use Rattle.aps_core.proofs.SeatsStay.{step_seat}
+use Rattle.aps_core.proofs.Asleep.{sleepers_count}
+use Rattle.aps_core.proofs.SleepersStay.{picked_sleepers, settled_timer, tested_timer}
 use Rattle.aps_core.proofs.StandsStay.{calm_kept, neither, others_stand}
 use Rattle.aps_core.proofs.StepCounts.{IsBilling, counts_begun, counts_left, done_bill, entry_of, own_bill, picked_bill, room_to_bill, settled_shape, spent_shape, tested_shape}
 use Rattle.aps_core.proofs.StepParts.{billed_by, none_is, room_after, settled_by, settled_is, step_at_horizon, step_below, step_over, tested_by, ticked_by}
@@ -324,11 +328,11 @@ sync-requires-clause-tied c idle calm y apart =
     ap (λ (e : Entry). e.ran) c.bill_of-e.ensures.same ∙ ran c.args.cpu c.last_end-from.result c.of-now.result c.begin-running.result in
     ap (λ (l : List (Option Contender)). who_at l y) c.requires.seats ∙ who_seats c.args.self.now y
     ∙ sym (step_seat c.args.scenario.now c.args.self.now c.args.entries.now c.args.cpu c.of-now.result y _ c.begin-running.result c.bill_of-e.result _ _ _ _ c.test-reboot.result
-    (record { state = c.settle-done.new.self; done = c.settle-done.result }) c.work_tick-commanded.new.sleepers
+    (record { state = c.settle-done.new.self; done = c.settle-done.result }) c.work_tick-commanded.new.woken
     c.begin-running.ensures.same (c.work_tick-commanded.ensures.idle idle y) c.bill.ensures c.test-reboot.ensures c.settle-done.ensures
     (λ p runs. subst (λ (s : SchedulerState). IsNobodysClient s.triples p.thread) (sym billed) (c.requires.ready.free_billed p (sym c.begin-running.ensures.running ∙ runs)))
     calm
-    (subst (λ o. IsTouched c.work_tick-commanded.new.sleepers o (peer_of c.settle-done.result) (is_at_channel c.settle-done.result) c.settle-done.new.self.triples y → ⊥) own apart))
+    (subst (λ o. IsTouched c.work_tick-commanded.new.woken o (peer_of c.settle-done.result) (is_at_channel c.settle-done.result) c.settle-done.new.self.triples y → ⊥) own apart))
 
 -- ---- how the partitions stand, and what a calm step leaves
 
@@ -421,3 +425,41 @@ sync-requires-clause-stamped c =
     (c.of-now.ensures ∙ c.requires.dues c.args.cpu c.requires.ready.exists) c.last_end-from.ensures.same c.begin-running.ensures.running c.begin-running.ensures.same c.work_tick-commanded.ensures.same c.bill_of-e.ensures.same c.bill.ensures c.test-reboot.ensures in
     subst (λ (s : SchedulerState). IsStamped s.threads s.stamps)
     (sym (settled_by c.args.scenario.now c.args.self.now c.args.entries.now c.args.cpu _ _ _ _ _ _ b c.settle-done.ensures)) c.requires.ready.stamped_settled
+
+-- ---- the timer
+
+pub work_tick-commanded-requires-clause-timed : goal.work_tick-commanded-requires-clause-timed
+work_tick-commanded-requires-clause-timed c = c.requires.timed ∙ ap sleepers_of (sym c.begin-running.ensures.same)
+
+pub returns-then-is_some-clause-timed : goal.returns-then-is_some-clause-timed
+returns-then-is_some-clause-timed c =
+    tested_timer c.work_tick-commanded.new.self c.bill.new.self c.test-reboot.new.self c.args.entries.now c.bill_of-e.result c.begin-running.result c.test-reboot.result c.work_tick-commanded.new.timer
+    c.work_tick-commanded.ensures.timed c.bill.ensures c.test-reboot.ensures
+
+pub returns-then-now-horizon-clause-timed : goal.returns-then-now-horizon-clause-timed
+returns-then-now-horizon-clause-timed c =
+    tested_timer c.work_tick-commanded.new.self c.bill.new.self c.test-reboot.new.self c.args.entries.now c.bill_of-e.result c.begin-running.result c.test-reboot.result c.work_tick-commanded.new.timer
+    c.work_tick-commanded.ensures.timed c.bill.ensures c.test-reboot.ensures
+
+pub time_done-requires-clause-count : goal.time_done-requires-clause-count
+time_done-requires-clause-count c =
+    let settled : IsKept c.test-reboot.new.self c.settle-done.new.self =
+    subst (λ (x : Effect). IsKept c.test-reboot.new.self x.state) c.settle-done.ensures (settled_kept c.args.scenario.now c.test-reboot.new.self c.of-now.result c.begin-running.result) in
+    let timed =
+    tested_timer c.work_tick-commanded.new.self c.bill.new.self c.test-reboot.new.self c.args.entries.now c.bill_of-e.result c.begin-running.result c.test-reboot.result c.work_tick-commanded.new.timer
+    c.work_tick-commanded.ensures.timed c.bill.ensures c.test-reboot.ensures in
+    ap length timed ∙ sleepers_count c.test-reboot.new.self ∙ sym settled.threads
+
+pub time_done-requires-clause-tied : goal.time_done-requires-clause-tied
+time_done-requires-clause-tied c calm y own peer =
+    let who : c.bill_of-e.result.ran ≡ option_map (λ (p : Pick). p.thread) c.begin-running.result =
+    ap (λ (e : Entry). e.ran) c.bill_of-e.ensures.same ∙ ran c.args.cpu c.last_end-from.result c.of-now.result c.begin-running.result in
+    let timed =
+    tested_timer c.work_tick-commanded.new.self c.bill.new.self c.test-reboot.new.self c.args.entries.now c.bill_of-e.result c.begin-running.result c.test-reboot.result c.work_tick-commanded.new.timer
+    c.work_tick-commanded.ensures.timed c.bill.ensures c.test-reboot.ensures in
+    settled_timer c.args.scenario.now c.test-reboot.new.self c.of-now.result y c.begin-running.result (record { state = c.settle-done.new.self; done = c.settle-done.result }) c.work_tick-commanded.new.timer
+    timed c.settle-done.ensures calm (subst (λ o. o ≢ Some y) who own) peer
+
+pub returns-clause-timed : goal.returns-clause-timed
+returns-clause-timed c =
+    c.time_done.ensures ∙ sym (picked_sleepers c.settle-done.new.self c.args.entries.now c.args.cpu _ _) ∙ ap (λ (out : Step). sleepers_of out.state) c.pick-entry.ensures.same

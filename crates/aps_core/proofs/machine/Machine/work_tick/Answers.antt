@@ -5,11 +5,13 @@ use Rattle.aps_model.specs.TickWork.{wake_all}
 use Rattle.aps_core.specs.Kept.{IsKept}
 use Rattle.aps_core.specs.Room.{HasRoomToWake}
 use Rattle.aps_core.specs.Seats.{seat_at}
+use Rattle.aps_core.specs.Sleepers.{sleepers_of}
 use Rattle.aps_core.proofs.Commands.{commands_room}
 use Rattle.aps_core.proofs.Counting.{counts_like}
 use Rattle.aps_core.proofs.Frame.{ticked_lists, wake_kept}
 use Rattle.aps_core.proofs.Pending.{pending_begun, tick_started}
 use Rattle.aps_core.proofs.SeatsStay.{wakes_seats}
+use Rattle.aps_core.proofs.SleepersStay.{commands_sleepers}
 use Rattle.aps_core.proofs.machine.Machine.work_tick.Goals as goal
 
 pub do_commands-commanded-requires-clause-calls : goal.do_commands-commanded-requires-clause-calls
@@ -47,7 +49,7 @@ wake_all-requires-clause-room c =
 pub returns-then-has_tick_work-clause-idle : goal.returns-then-has_tick_work-clause-idle
 returns-then-has_tick_work-clause-idle c quiet x asleep =
     let same = (c.do_commands-commanded.ensures.idle quiet).0 in
-    wakes_seats c.args.scenario.now c.args.now x c.wake_all.new.sleepers c.do_commands-commanded.new.self c.wake_all.new.self c.wake_all.ensures.same c.wake_all.ensures.woken asleep
+    wakes_seats c.args.scenario.now c.args.now x c.wake_all.new.woken c.do_commands-commanded.new.self c.wake_all.new.self c.wake_all.ensures.same c.wake_all.ensures.woken asleep
     ∙ ap (λ (s : SchedulerState). seat_at s x) same
 
 pub returns-then-has_tick_work-clause-pending : goal.returns-then-has_tick_work-clause-pending
@@ -70,3 +72,7 @@ returns-then-has_tick_work-clause-kept c quiet =
 
 pub returns-then-has_tick_work-clause-window : goal.returns-then-has_tick_work-clause-window
 returns-then-has_tick_work-clause-window c quiet = (c.do_commands-commanded.ensures.idle quiet).1
+
+pub wake_all-requires-clause-timed : goal.wake_all-requires-clause-timed
+wake_all-requires-clause-timed c =
+    c.requires.timed ∙ sym (ap sleepers_of c.do_commands-commanded.ensures.same ∙ commands_sleepers c.args.entries.now c.tick_of-tick.result c.args.self.now c.args.ctl.now)

@@ -28,6 +28,7 @@ invariant_of-result c =
           c.in_ok-machine.ensures;
       pending = λ j none. ap (all_at j) c.in_ok-ctl.ensures;
       seats = c.in_ok-ready.ensures;
+      timed = c.in_ok-timer.ensures;
       lasts = c.new-ends.ensures;
       stands = c.in_ok-standing.ensures;
       nexts = dues_none c.in_ok-machine.machine _ c.new-dues.ensures;

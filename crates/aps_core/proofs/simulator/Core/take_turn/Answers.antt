@@ -113,6 +113,7 @@ invariant_of-self c = record {
       (ap (λ (h : History). h.entries) c.record.ensures ∙ ap (λ h. h ++ c.step-made.result.entry ∷ []) (sym c.entries.ensures.same))
       c.step-made.ensures.pending;
   seats = c.step-made.ensures.seats;
+  timed = c.step-made.ensures.timed;
   lasts =
       subst (λ (k : History). AreEnds k.entries c.add.new.self) (sym c.record.ensures)
       (c.add.ensures c.self.inside.history.entries c.self.invariant.lasts);
