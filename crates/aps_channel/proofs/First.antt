@@ -1,5 +1,5 @@
 -- The first message is the earliest of the greatest priority.
-use Rattle.std.proofs.Common.{◌≡◌, ◌≢◌, ℕ, ◌+◌, ◌-◌, ◌<◌, ◌≤◌, max, List, [], ◌∷◌, map, refl, sym, ◌∙◌, ap, subst, Bool, true, false, cond, nat_eq, nat_lt, Option, Some, None, is_some, arith, inl, inr}
+use Rattle.std.proofs.Common.{◌≡◌, ℕ, ◌-◌, ◌<◌, ◌≤◌, max, List, [], ◌∷◌, map, refl, sym, ◌∙◌, ap, subst, Bool, true, false, cond, nat_lt, Option, Some, None, is_some, arith, inl, inr}
 use Rattle.std.specs.List.{filter, fold}
 use Rattle.std.specs.Option.{option_map, unwrap_or}
 use Rattle.std.proofs.lemmas.Bool.{cases_eq, cases_lt}
@@ -10,7 +10,7 @@ use Rattle.aps_model.specs.Inherit.{top_of}
 use Rattle.aps_model.specs.Messages.{first_message, higher}
 use Rattle.aps_model.specs.SchedulerState.{Message}
 use Rattle.aps_channel.specs.Lines.{first_of}
-use Rattle.aps_channel.specs.Queues.{is_level, level_of, message_of, priority_at}
+use Rattle.aps_channel.specs.Queues.{Records, is_level, level_of, message_of, priority_at}
 use Rattle.aps_channel.proofs.Counts.{one_here}
 
 some_same : (a b : ℕ) → Some a ≡ Some b → a ≡ b
@@ -23,12 +23,12 @@ test_ge : (a b : ℕ) → b ≤ a → nat_lt a b ≡ false
 test_ge a b h = grind (arith, nat_tests)
 
 -- no message outranks the best so far
-stays : (ps : List ℕ) (b : Message) (xs : List ℕ) → ((y : ℕ) → 1 ≤ times y xs → priority_at ps y ≤ b.priority)
-    → fold higher (Some b) (map (message_of ps) xs) ≡ Some b
-stays ps b [] below = refl
-stays ps b (y ∷ ys) below =
-    ap (λ t. fold higher (Some (cond t (message_of ps y) b)) (map (message_of ps) ys)) (test_ge b.priority (priority_at ps y) (below y (one_here y ys)))
-    ∙ stays ps b ys (λ z l. below z (omega (arith, l)))
+stays : (rs : Records) (b : Message) (xs : List ℕ) → ((y : ℕ) → 1 ≤ times y xs → priority_at rs y ≤ b.priority)
+    → fold higher (Some b) (map (message_of rs) xs) ≡ Some b
+stays rs b [] below = refl
+stays rs b (y ∷ ys) below =
+    ap (λ t. fold higher (Some (cond t (message_of rs y) b)) (map (message_of rs) ys)) (test_ge b.priority (priority_at rs y) (below y (one_here y ys)))
+    ∙ stays rs b ys (λ z l. below z (omega (arith, l)))
 
 -- the best so far is below a priority
 abbrev IsUnder : ℕ → Option Message → Type 0
@@ -47,22 +47,22 @@ higher_over : (p : ℕ) (best : Option Message) (m : Message) → IsUnder p best
 higher_over p None m u e = refl
 higher_over p (Some b) m u e = ap (λ t. Some (cond t m b)) (test_lt b.priority m.priority (omega (arith, u, e)))
 
-rises : (ps : List ℕ) (p x : ℕ) (best : Option Message) (xs : List ℕ) → ((y : ℕ) → priority_at ps y ≤ 255) → p ≤ 255 → IsUnder p best
-    → ((y : ℕ) → 1 ≤ times y xs → priority_at ps y ≤ p) → first_of (filter (is_level ps (level_of p)) xs) ≡ Some x
-    → fold higher best (map (message_of ps) xs) ≡ Some (message_of ps x)
-rises ps p x best [] small fits u below first = absurd cc
-rises ps p x best (y ∷ ys) small fits u below first = elim (cases_eq (priority_at ps y) p) [
+rises : (rs : Records) (p x : ℕ) (best : Option Message) (xs : List ℕ) → ((y : ℕ) → priority_at rs y ≤ 255) → p ≤ 255 → IsUnder p best
+    → ((y : ℕ) → 1 ≤ times y xs → priority_at rs y ≤ p) → first_of (filter (is_level rs (level_of p)) xs) ≡ Some x
+    → fold higher best (map (message_of rs) xs) ≡ Some (message_of rs x)
+rises rs p x best [] small fits u below first = absurd cc
+rises rs p x best (y ∷ ys) small fits u below first = elim (cases_eq (priority_at rs y) p) [
   | inl e ↦
-      let at : is_level ps (level_of p) y ≡ true = test_eq (level_of (priority_at ps y)) (level_of p) (ap level_of e) in
-      let same : y ≡ x = some_same y x (sym (ap (λ t. first_of (cond t (y ∷ filter (is_level ps (level_of p)) ys) (filter (is_level ps (level_of p)) ys))) at) ∙ first) in
-      ap (λ o. fold higher o (map (message_of ps) ys)) (higher_over p best (message_of ps y) u e)
-      ∙ stays ps (message_of ps y) ys (λ z l. let b = below z (omega (arith, l)) in omega (arith, b, e))
-      ∙ ap (λ k. Some (message_of ps k)) same
+      let at : is_level rs (level_of p) y ≡ true = test_eq (level_of (priority_at rs y)) (level_of p) (ap level_of e) in
+      let same : y ≡ x = some_same y x (sym (ap (λ t. first_of (cond t (y ∷ filter (is_level rs (level_of p)) ys) (filter (is_level rs (level_of p)) ys))) at) ∙ first) in
+      ap (λ o. fold higher o (map (message_of rs) ys)) (higher_over p best (message_of rs y) u e)
+      ∙ stays rs (message_of rs y) ys (λ z l. let b = below z (omega (arith, l)) in omega (arith, b, e))
+      ∙ ap (λ k. Some (message_of rs k)) same
   | inr ne ↦
-      let under : priority_at ps y < p = let b = below y (one_here y ys) in omega (arith, b, ne) in
-      let not : is_level ps (level_of p) y ≡ false = test_ne (level_of (priority_at ps y)) (level_of p) (λ e. ne (let s = small y in omega (arith, e, s, fits))) in
-      rises ps p x (higher best (message_of ps y)) ys small fits (higher_under p best (message_of ps y) u under) (λ z l. below z (omega (arith, l)))
-      (sym (ap (λ t. first_of (cond t (y ∷ filter (is_level ps (level_of p)) ys) (filter (is_level ps (level_of p)) ys))) not) ∙ first)
+      let under : priority_at rs y < p = let b = below y (one_here y ys) in omega (arith, b, ne) in
+      let not : is_level rs (level_of p) y ≡ false = test_ne (level_of (priority_at rs y)) (level_of p) (λ e. ne (let s = small y in omega (arith, e, s, fits))) in
+      rises rs p x (higher best (message_of rs y)) ys small fits (higher_under p best (message_of rs y) u under) (λ z l. below z (omega (arith, l)))
+      (sym (ap (λ t. first_of (cond t (y ∷ filter (is_level rs (level_of p)) ys) (filter (is_level rs (level_of p)) ys))) not) ∙ first)
 ]
 
 -- nobody passes a test that leaves nobody
@@ -79,18 +79,18 @@ none_pass test (x ∷ xs) y e l = by_test (test x) refl e (none_pass test xs y)
     ]
 
 -- the earliest of the least level in use
-pub first_is : (ps : List ℕ) (level x : ℕ) (xs : List ℕ) → ((y : ℕ) → priority_at ps y ≤ 255) → level < 256
-    → ((k : ℕ) → k < level → is_some (first_of (filter (is_level ps k) xs)) ≡ false) → first_of (filter (is_level ps level) xs) ≡ Some x
-    → first_message (map (message_of ps) xs) ≡ Some (message_of ps x)
-first_is ps level x xs small lt earlier first =
+pub first_is : (rs : Records) (level x : ℕ) (xs : List ℕ) → ((y : ℕ) → priority_at rs y ≤ 255) → level < 256
+    → ((k : ℕ) → k < level → is_some (first_of (filter (is_level rs k) xs)) ≡ false) → first_of (filter (is_level rs level) xs) ≡ Some x
+    → first_message (map (message_of rs) xs) ≡ Some (message_of rs x)
+first_is rs level x xs small lt earlier first =
     let p : ℕ = 255 - level in
     let is : level_of p ≡ level = omega (arith, lt) in
-    rises ps p x None xs small (omega arith) tt below (subst (λ k. first_of (filter (is_level ps k) xs) ≡ Some x) (sym is) first)
+    rises rs p x None xs small (omega arith) tt below (subst (λ k. first_of (filter (is_level rs k) xs) ≡ Some x) (sym is) first)
   where
-    below : (y : ℕ) → 1 ≤ times y xs → priority_at ps y ≤ 255 - level
-    below y l = elim (cases_lt (level_of (priority_at ps y)) level) [
+    below : (y : ℕ) → 1 ≤ times y xs → priority_at rs y ≤ 255 - level
+    below y l = elim (cases_lt (level_of (priority_at rs y)) level) [
       | inl less ↦
-          absurd (differ (none_pass (is_level ps (level_of (priority_at ps y))) xs y (earlier (level_of (priority_at ps y)) less) l) (test_eq (level_of (priority_at ps y)) (level_of (priority_at ps y)) refl))
+          absurd (differ (none_pass (is_level rs (level_of (priority_at rs y))) xs y (earlier (level_of (priority_at rs y)) less) l) (test_eq (level_of (priority_at rs y)) (level_of (priority_at rs y)) refl))
       | inr more ↦ let s = small y in omega (arith, more, s)
     ]
       where
@@ -98,10 +98,10 @@ first_is ps level x xs small lt earlier first =
         differ {t} p q = cc
 
 -- nothing waits where no level is in use
-pub first_none : (ps : List ℕ) (xs : List ℕ) → ((k : ℕ) → k < 256 → is_some (first_of (filter (is_level ps k) xs)) ≡ false) → first_message (map (message_of ps) xs) ≡ None
-first_none ps [] none = refl
-first_none ps (x ∷ xs) none =
-    absurd (differ (none_pass (is_level ps (level_of (priority_at ps x))) (x ∷ xs) x (none (level_of (priority_at ps x)) (omega arith)) (one_here x xs)) (test_eq (level_of (priority_at ps x)) (level_of (priority_at ps x)) refl))
+pub first_none : (rs : Records) (xs : List ℕ) → ((k : ℕ) → k < 256 → is_some (first_of (filter (is_level rs k) xs)) ≡ false) → first_message (map (message_of rs) xs) ≡ None
+first_none rs [] none = refl
+first_none rs (x ∷ xs) none =
+    absurd (differ (none_pass (is_level rs (level_of (priority_at rs x))) (x ∷ xs) x (none (level_of (priority_at rs x)) (omega arith)) (one_here x xs)) (test_eq (level_of (priority_at rs x)) (level_of (priority_at rs x)) refl))
   where
     differ : {t : Bool} → t ≡ false → t ≡ true → ⊥
     differ {t} p q = cc

@@ -4,6 +4,7 @@ pub mod Writes
 pub mod Ranks
 pub mod First
 pub mod Queues
+pub mod Records
 pub mod Seen
 pub mod Served
 pub mod Joined

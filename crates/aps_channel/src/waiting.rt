@@ -8,7 +8,8 @@ ghost use Rattle.aps_channel.specs.Waiting.{first_sender, messages_at, with_mess
 use crate::lines::{Lines, MOST_THREADS};
 use aps_levels::Levels;
 use aps_model::{ChannelId, NoMemory, ThreadId};
-use std::alloc::Global;
+use slab::Slab;
+use std::alloc::{AllocError, Global};
 use std::marker::Model;
 
 /// How many levels a channel has. The level of a priority is the greatest priority less it, so that the least level in
@@ -18,29 +19,44 @@ const LEVELS: usize = 256;
 /// The greatest priority.
 const GREATEST: u8 = 255;
 
-/// The messages that wait at each channel. A thread has at most one, which stands at the thread's own number. Contracts
-/// see them in order of arrival; they are kept so, and by level too, and no call walks along them.
+/// How many keys lines can name.
+const MOST_KEYS: usize = 65535;
+
+/// The record of a message that waits.
+#[derive(Clone, Copy, Debug, PartialEq, Eq)]
+pub struct MessageRecord {
+    pub sender: ThreadId,
+    /// the priority with which the message came
+    pub priority: u8,
+}
+
+/// The messages that wait at each channel, at most one of each thread. The record of a message stands in a slab, and lines
+/// name it by its key. Contracts see the messages in order of arrival; they are kept so, and by level too, and no call
+/// walks along them.
 #[derive(Drop)]
 pub struct Waiting {
-    /// the senders at each channel
+    /// the keys of the messages at each channel
     arrivals: Lines,
-    /// the senders at each level of each channel, the levels of one channel together
+    /// the keys of the messages at each level of each channel, the levels of one channel together
     levels: Lines,
-    /// the levels at which senders wait, for each channel
+    /// the levels at which messages wait, for each channel
     in_use: Vec<Levels>,
-    /// the priority of each thread's message
-    priorities: Vec<u8>,
+    /// what is known of each message
+    records: Slab<MessageRecord>,
+    /// how many threads there are
+    threads: u16,
 }
 
 impl Model for Waiting {
     ghost use Rattle.aps_channel.specs.Waiting.{Waiting as Plain};
-    ghost use Rattle.aps_channel.specs.Queues.{AreQueues, messages_of};
+    ghost use Rattle.aps_channel.specs.Queues.{messages_of};
+    ghost use Rattle.aps_channel.specs.Records.{AreKept};
 
     ghost Value = { Plain };
 
-    ghost view = { λ w. record { messages = messages_of w.priorities.items w.arrivals.lines; threads = w.arrivals.numbers } };
+    ghost view = { λ w. record { messages = messages_of w.records w.arrivals.lines; threads = w.threads } };
 
-    ghost invariant = { λ w. AreQueues w.arrivals w.levels w.in_use.items w.priorities.items };
+    ghost invariant = { λ w. AreKept w.arrivals w.levels w.in_use.items w.records w.threads };
 }
 
 impl Waiting {
@@ -50,15 +66,17 @@ impl Waiting {
     {
         let channels = channels as usize;
         let threads = threads.min(MOST_THREADS);
-        let arrivals = Lines::new(alloc, channels, threads)?;
-        let levels = Lines::new(alloc, LEVELS * channels, threads)?;
+        let records = Slab::with_capacity(alloc, threads as usize)?;
+        let keys = key_count(records.capacity())?;
+        let arrivals = Lines::new(alloc, channels, keys)?;
+        let levels = Lines::new(alloc, LEVELS * channels, keys)?;
         let in_use = vec![in alloc; Levels::none(); channels]?;
-        let priorities = vec![in alloc; 0; threads as usize]?;
         Ok(Waiting {
             arrivals,
             levels,
             in_use,
-            priorities,
+            records,
+            threads,
         })
     }
 
@@ -70,11 +88,11 @@ impl Waiting {
         ensures { self.new ≡ with_messages self.old c (messages_at self.old c ++ (record { sender = sender; priority = priority }) ∷ []) }
     {
         let c = c.index();
-        let sender = sender.index();
         let level = (GREATEST - priority) as usize;
-        self.priorities[sender] = priority;
-        self.arrivals.push_back(c, sender as u16);
-        self.levels.push_back(LEVELS * c + level, sender as u16);
+        let message = MessageRecord { sender, priority };
+        let key = self.records.insert_reserved(message) as u16;
+        self.arrivals.push_back(c, key);
+        self.levels.push_back(LEVELS * c + level, key);
         let set = self.in_use[c];
         self.in_use[c] = set.with(level);
     }
@@ -101,13 +119,25 @@ impl Waiting {
         let set = self.in_use[c];
         let level = set.least()?;
         let place = LEVELS * c + level;
-        let sender = self.levels.first(place)?;
-        self.arrivals.remove(c, sender);
-        self.levels.remove(place, sender);
+        let key = self.levels.first(place)?;
+        self.arrivals.remove(c, key);
+        self.levels.remove(place, key);
         let is_left = self.levels.first(place).is_some();
         self.in_use[c] = kept_if(set, level, is_left);
-        Some(ThreadId::at(sender as usize))
+        let message = self.records.remove(key as usize);
+        Some(message.sender)
     }
+}
+
+/// The number of keys, which lines can name. `NoMemory` comes where there are too many for that.
+fn key_count(keys: usize) -> Result<u16, NoMemory>
+    ensures same { IfOk result (λ n. n ≡ keys) }
+    ensures few { IfOk result (λ n. n < 65536) }
+{
+    if keys > MOST_KEYS {
+        return Err(AllocError);
+    }
+    Ok(keys as u16)
 }
 
 /// The set of levels, in which this one is kept or not.
