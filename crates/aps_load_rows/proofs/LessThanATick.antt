@@ -9,8 +9,8 @@ use Rattle.aps_model.specs.Legal.{fixed_run}
 use Rattle.aps_model.specs.Loaded.{finished_ticks, is_steady}
 use Rattle.aps_model.specs.Shape.{whole}
 use Rattle.aps_model.specs.Usage.{used}
-use Rattle.aps_load_laws.specs.Excess.{others_leeway, others_margin}
-use Rattle.aps_load_laws.specs.FreeTime.{idle_time}
+use Rattle.aps_bound_laws.specs.Excess.{others_leeway, others_margin}
+use Rattle.aps_bound_laws.specs.FreeTime.{idle_time}
 use Rattle.aps_rows.proofs.Rows.LessThanATick.{scenario}
 use Rattle.aps_load_rows.proofs.Works.{works}
 
