@@ -33,9 +33,9 @@ use Rattle.aps_laws.proofs.MomentLaws.{moment-append}
 use Rattle.aps_laws.proofs.RowLaws.{in_order}
 use Rattle.aps_laws.proofs.Sound.{sound}
 use Rattle.aps_bound_laws.specs.Loaded.{IsLoaded, IsSettled, IsUncritical, KeepsLast}
-use Rattle.aps_bound_laws.proofs.Below.{finished_end}
-use Rattle.aps_bound_laws.proofs.BoundLaws.{critical_bound, steady_parts, window_bound}
-use Rattle.aps_bound_laws.proofs.SteadyTicks.{loaded_steady, steady_part}
+use Rattle.aps_bound_laws.proofs.Finished.{finished_end}
+use Rattle.aps_bound_laws.proofs.BoundLaws.{critical_bound, window_bound}
+use Rattle.aps_bound_laws.proofs.SteadyTicks.{loaded_steady, steady_part, steady_parts}
 
 -- ---- rows and shape from a tick on
 

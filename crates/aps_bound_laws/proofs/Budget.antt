@@ -11,8 +11,8 @@ use Rattle.aps_model.specs.Usage.{overlap}
 use Rattle.aps_laws.specs.Window.{Kept, Lane, Wide, lane_after, Tiles}
 use Rattle.aps_bound_laws.specs.Lanes.{lanes_at, is_of, paid, paid_of}
 use Rattle.aps_bound_laws.specs.Sums.{sum_below}
-use Rattle.aps_bound_laws.specs.Pasts.{past, Filled}
-use Rattle.aps_bound_laws.proofs.Sums.{sum_below_zero, sum_below_add, single_one, single_full, some_less, sum_below_scale, one_of_sum, each_below}
+use Rattle.aps_bound_laws.specs.Pasts.{past}
+use Rattle.aps_bound_laws.proofs.Sums.{sum_below_zero, sum_below_add, single_one, some_less, sum_below_scale, one_of_sum, each_below}
 
 -- at most one partition is billed
 single : (n k : ℕ) (bills : Kept) → sum_below n (λ p. if is_of p bills then k else 0) ≤ k
@@ -104,44 +104,3 @@ others n parts whole i uses budgets slack in' all full each =
     let part : slack i ≤ sum_below n slack = one_of_sum n i slack in' in
     let cut : parts * (sum_below n slack - slack i) + parts * slack i ≡ parts * sum_below n slack = sym (mul-add parts (sum_below n slack - slack i) (slack i)) ∙ ap (λ m. parts * m) (omega (arith, part)) in
     omega (arith, left, right, slacks, apart, cut)
-
--- where the time counts at all, exactly one partition is billed
-billed_once : (n k : ℕ) (bills : Kept) → (0 < k → (r : ℕ × Bool) × (bills ≡ Some r) × (r.0 < n)) → sum_below n (λ p. if is_of p bills then k else 0) ≡ k
-billed_once n zero bills one = omega (arith, single n 0 bills)
-billed_once n (suc k) bills one =
-    let found = one (omega (arith)) in
-    rw found.1 (single_full n (suc k) found.0.0 found.2)
-
-overlap_add : (tick a b x y : ℕ) → a * tick ≤ b * tick → x ≤ y → overlap tick a b 0 x + overlap tick a b x y ≡ overlap tick a b 0 y
-overlap_add tick a b x y order le = grind (arith, order, le)
-
--- with nobody idle the usages and what was past before are all that is past after
-pub filled : (tick a b n : ℕ) (lanes : List Lane) (entries : List Wide) → a ≤ b → Tiles lanes entries → Filled tick a b n entries
-    → sum_below n (paid_of tick a b entries) + sum_by (past tick a b) lanes ≡ sum_by (past tick a b) (lanes_at lanes entries)
-filled tick a b n lanes [] order t full = omega (arith, sum_below_zero n (paid_of tick a b []) (λ p. refl))
-filled tick a b n lanes (e ∷ es) order (lane, found, from, on, later) (one, more_full) =
-    let f : Lane → ℕ = past tick a b in
-    let lanes' = slice_set lanes e.cpu (lane_after e) in
-    let sums : sum_by f lanes' + f lane ≡ sum_by f lanes + f (lane_after e) = subst (λ (l : Lane). sum_by f lanes' + f l ≡ sum_by f lanes + f (lane_after e)) (get_or_from_slice_get lanes e.cpu lane lane found) (sum_by-set f lanes e.cpu (lane_after e) lane (slice_get_within lanes e.cpu lane found)) in
-    let split = sum_below_add n (λ p. paid (is_of p) tick a b e) (paid_of tick a b es) (paid_of tick a b (e ∷ es)) (λ p. sum_by-cons (paid (is_of p) tick a b) e es) in
-    let once = billed_once n (overlap tick a b e.from e.to) e.bills one in
-    let rest = filled tick a b n lanes' es order later more_full in
-    let more : f lane + overlap tick a b e.from e.to ≡ f (lane_after e) = subst (λ z. overlap tick a b 0 z + overlap tick a b e.from e.to ≡ overlap tick a b 0 e.to) from (overlap_add tick a b e.from e.to (mul-le-mul_right tick order) on) in
-    omega (arith, sums, split, once, rest, more)
-
-past_whole : (tick a w last : ℕ) → (a + w) * tick ≤ last → overlap tick a (a + w) 0 last ≡ w * tick
-past_whole tick a w last le = omega (arith, le, add-mul a w tick)
-
-sum_by_same : {X : Type 0} (f : X → ℕ) (k : ℕ) (xs : List X) → All (λ x. f x ≡ k) xs → sum_by f xs ≡ length xs * k
-sum_by_same f k [] all = omega (arith)
-sum_by_same f k (x ∷ xs) all = omega (arith, sum_by-cons f x xs, sum_by_same f k xs (λ i d in'. all (suc i) d (omega (arith, in'))), all 0 x (omega (arith)), add-mul (length xs) 1 k)
-
--- all usages of a window that everybody has billed, with nobody idle, are the whole
-pub usages : (tick a w n : ℕ) (lanes : List Lane) (entries : List Wide) → sum_by (past tick a (a + w)) lanes ≡ 0 → Tiles lanes entries → Filled tick a (a + w) n entries
-    → All (λ (l : Lane). (a + w) * tick ≤ l.last) (lanes_at lanes entries) → sum_below n (paid_of tick a (a + w) entries) ≡ length lanes * (w * tick)
-usages tick a w n lanes entries new tiles full late =
-    let ls = lanes_at lanes entries in
-    let each : All (λ (l : Lane). past tick a (a + w) l ≡ w * tick) ls = λ i d in'. past_whole tick a w (get_or ls i d).last (late i d in') in
-    let sum : sum_by (past tick a (a + w)) ls ≡ length ls * (w * tick) = sum_by_same (past tick a (a + w)) (w * tick) ls each in
-    let sum' : sum_by (past tick a (a + w)) ls ≡ length lanes * (w * tick) = sum ∙ ap (λ m. m * (w * tick)) (length_lanes lanes entries) in
-    omega (arith, filled tick a (a + w) n lanes entries (omega (arith)) tiles full, sum', new)

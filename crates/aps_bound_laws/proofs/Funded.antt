@@ -27,6 +27,7 @@ use Rattle.aps_model.specs.Usage.{window_critical, window_used}
 use Rattle.aps_model.specs.Valid.{IsScenario}
 use Rattle.aps_laws.specs.Sizes.{IsSameSizes}
 use Rattle.aps_laws.specs.Window.{Kept, kept_if, lanes_at_start, pair_kept, still, wides}
+use Rattle.aps_laws.proofs.RowLaws.{in_order}
 use Rattle.aps_laws.proofs.Sound.{sound, tick_pos}
 use Rattle.aps_laws.proofs.Windows.{walks}
 use Rattle.aps_bound_laws.specs.Lanes.{paid_of}
@@ -152,18 +153,20 @@ funded_pick scenario h e q calm chosen in' =
     some_budget n b k less = some_factor n k b (omega (arith, less, mul_comm b k))
 
 pub steady_pick : (scenario : Scenario) (order : Order) (h : List Entry) (e : Entry) → IsScenario scenario → IsLegal scenario order (h ++ e ∷ [])
-    → AreFunded (state_after scenario (h ++ e ∷ [])) → 0 < (state_after scenario (h ++ e ∷ [])).shape.window → e.starved ≡ None
+    → e.starved ≡ None
     → MadeNoPick (state_after scenario h) e (after scenario (h ++ e ∷ [])).reboot ⊎ IsFundedPick scenario h e (state_after scenario (h ++ e ∷ []))
-steady_pick scenario order h e r legal funded some calm = elim (chosen_law scenario order h e r legal) [
+steady_pick scenario order h e r legal calm = elim (chosen_law scenario order h e r legal) [
   | inl no_pick ↦ inl no_pick
   | inr chosen ↦
-      let found = some_in_budget scenario order h e r legal funded some in
+      let o = in_order scenario order (h ++ e ∷ []) r legal in
+      let long = o.shape.window_long in
+      let found = some_in_budget scenario order h e r legal (o.funded.budgets ∙ sym o.sizes.parts) (omega (arith, long)) in
       inr (funded_pick scenario h e found.0 calm chosen found.1)
 ]
 
 -- ---- a critical pick
 
-pub same_kept : (p q : ℕ) (a b : Bool) → ◌≡◌ {A = Kept} (Some (p, a)) (Some (q, b)) → (p ≡ q) × (a ≡ b)
+same_kept : (p q : ℕ) (a b : Bool) → ◌≡◌ {A = Kept} (Some (p, a)) (Some (q, b)) → (p ≡ q) × (a ≡ b)
 same_kept p q a b e =
     let pair = some_same (p, a) (q, b) e in
     (ap (λ (k : ℕ × Bool). k.0) pair, ap (λ (k : ℕ × Bool). k.1) pair)

@@ -49,12 +49,23 @@ pub record IsInTicks (tick a b moment : ℕ) : Type 0 where
   pub below : moment / tick < b
   pub inside : moment ≤ (moment / tick + 1) * tick
 
+pub window_ends : (tick a b moment : ℕ) → in_window tick a b moment ≡ true → (a * tick ≤ moment) × (moment < b * tick)
+window_ends tick a b moment inside = tests (nat_le (a * tick) moment) (nat_lt moment (b * tick)) refl refl inside
+  where
+    tests : (one two : Bool) → nat_le (a * tick) moment ≡ one → nat_lt moment (b * tick) ≡ two → (one && two) ≡ true → (a * tick ≤ moment) × (moment < b * tick)
+    tests true true x y e = (grind (arith, nat_tests), grind (arith, nat_tests))
+    tests true false x y e = absurd cc
+    tests false two x y e = absurd cc
+
+pub inside_window : (tick a b moment : ℕ) → a * tick ≤ moment → moment < b * tick → in_window tick a b moment ≡ true
+inside_window tick a b moment low high = grind (arith, nat_tests)
+
 pub in_ticks : (tick a b moment : ℕ) → 0 < tick → in_window tick a b moment ≡ true → IsInTicks tick a b moment
 in_ticks tick a b moment pos inside =
     let q : ℕ = moment / tick in
     let low : q * tick ≤ moment = div-mul-le_self moment tick in
     let high : moment < (q + 1) * tick = boundary_above tick moment pos in
-    let both : (a * tick ≤ moment) × (moment < b * tick) = tests (nat_le (a * tick) moment) (nat_lt moment (b * tick)) refl refl inside in
+    let both = window_ends tick a b moment inside in
     let above : a * tick < (q + 1) * tick = omega (arith, both.0, high) in
     let under : q * tick < b * tick = omega (arith, both.1, low) in
     let one : a < q + 1 = lt_of_mul-lt-mul_right tick above in
@@ -62,11 +73,6 @@ in_ticks tick a b moment pos inside =
   where
     boundary_above : (tick z : ℕ) → 0 < tick → z < (z / tick + 1) * tick
     boundary_above tick z pos = search (arith)
-
-    tests : (one two : Bool) → nat_le (a * tick) moment ≡ one → nat_lt moment (b * tick) ≡ two → (one && two) ≡ true → (a * tick ≤ moment) × (moment < b * tick)
-    tests true true x y e = (grind (arith, nat_tests), grind (arith, nat_tests))
-    tests true false x y e = absurd cc
-    tests false two x y e = absurd cc
 
 -- ---- the window that was tested at such a moment
 

@@ -1,13 +1,23 @@
--- Steady ticks among steady ticks, and the loaded tick.
+-- What steady ticks are, steady ticks among them, and the loaded tick.
 use Rattle.std.proofs.Common.{◌≡◌, ℕ, ◌+◌, ◌/◌, ◌≤◌, List, [], ◌∷◌, refl, sym, ◌∙◌, ap, Bool, true, false, not, cond, ◌&&◌, ◌||◌, nat_le, nat_lt, Option, Some, None, arith}
-use Rattle.std.specs.Prelude.{unwrap_or, is_some}
+use Rattle.std.specs.Prelude.{IsTrue, unwrap_or, is_some}
 use Rattle.std.specs.List.{find, list_any, range_with_len}
 use Rattle.std.proofs.lemmas.Bool.Decides.{nat_tests}
 use Rattle.aps_model.specs.declared.command.Change.{Change}
 use Rattle.aps_model.specs.declared.entry.Entry.{Entry}
 use Rattle.aps_model.specs.declared.shape.Shape.{Shape}
-use Rattle.aps_model.specs.Loaded.{finished_ticks, has_change, has_starved, is_among, is_steady, loaded_tick}
-use Rattle.aps_bound_laws.proofs.BoundLaws.{steady_parts}
+use Rattle.aps_model.specs.Loaded.{finished_ticks, has_change, has_starved, is_among, is_steady, IsSteady, loaded_tick}
+
+pub steady_parts : (tick : ℕ) (h : List Entry) (changes : List Change) (a b : ℕ) → IsSteady tick h changes a b → (has_change changes a b ≡ false) × (has_starved tick h a b ≡ false)
+steady_parts tick h changes a b steady = by_tests (has_change changes a b) (has_starved tick h a b) steady
+  where
+    clash : false ≡ true → ⊥
+    clash is = cc
+
+    by_tests : (one two : Bool) → IsTrue (not one && not two) → (one ≡ false) × (two ≡ false)
+    by_tests false false is = (refl, refl)
+    by_tests false true is = absurd (clash is)
+    by_tests true two is = absurd (clash is)
 
 -- where nothing passes a test, nothing passes a stricter one
 none_stricter : {X : Type 0} (p q : X → Bool) → ((x : X) → q x ≡ true → p x ≡ true) → (xs : List X) → list_any p xs ≡ false → list_any q xs ≡ false

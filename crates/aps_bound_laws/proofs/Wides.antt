@@ -9,7 +9,7 @@ use Rattle.aps_model.specs.SchedulerState.{SchedulerState}
 use Rattle.aps_model.specs.Step.{step}
 use Rattle.aps_model.specs.Usage.{overlap, billed_by, critical_by, used, critical_used, names}
 use Rattle.aps_laws.specs.Window.{Kept, Wide, wide_of, wides, wides_from}
-use Rattle.aps_bound_laws.specs.Lanes.{in_window, is_of, is_ordinary, is_critical, paid, paid_of}
+use Rattle.aps_bound_laws.specs.Lanes.{in_window, is_of, is_critical, paid, paid_of}
 use Rattle.aps_bound_laws.specs.Debts.{Resets, Never}
 use Rattle.aps_bound_laws.specs.Picks.{wide_at}
 use Rattle.aps_bound_laws.proofs.Prefixes.{state-append}
@@ -38,13 +38,6 @@ pub critical_is : (tick a b p : ℕ) (e : Entry) (t : SchedulerState) → paid (
 critical_is tick a b p e t = by_billed e.billed
   where
     by_billed : (o : Option ℕ) → paid (is_critical p) tick a b (wide_of (record e { billed = o }) t) ≡ critical_by tick p a b (record e { billed = o })
-    by_billed None = refl
-    by_billed (Some q) = refl
-
-pub ordinary_is : (tick a b p : ℕ) (e : Entry) (t : SchedulerState) → paid (is_ordinary p) tick a b (wide_of e t) ≡ ordinary_by tick p a b e
-ordinary_is tick a b p e t = by_billed e.billed
-  where
-    by_billed : (o : Option ℕ) → paid (is_ordinary p) tick a b (wide_of (record e { billed = o }) t) ≡ ordinary_by tick p a b (record e { billed = o })
     by_billed None = refl
     by_billed (Some q) = refl
 

@@ -5,3 +5,7 @@ pub mod Pasts
 pub mod Picks
 pub mod Loaded
 pub mod Worst
+pub mod Kinds
+pub mod FreeTime
+pub mod Excess
+pub mod Served

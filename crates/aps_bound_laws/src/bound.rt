@@ -8,13 +8,20 @@ ghost use Rattle.aps_model.specs.Legal.{IsLegal};
 ghost use Rattle.aps_model.specs.Bound.{KeepsWindowBound, KeepsCriticalBound};
 
 /// In each finished window of steady ticks a partition's usage exceeds its budget by at most one tick for each
-/// processor and its critical time, and falls short by at most the same of all others.
+/// processor and its critical time, and falls short by at most the same of all others. For such a window has no change,
+/// and is served.
 pub fn window_bound()
-    ensures { (scenario : Scenario) (order : Order) (h : List Entry) → IsScenario scenario → IsLegal scenario order h → KeepsWindowBound scenario h }
+    ensures { (scenario : Scenario) (order : Order) (h : List Entry)
+        → IsScenario scenario
+        → IsLegal scenario order h
+        → KeepsWindowBound scenario h }
 {}
 
 /// In each finished window without a change a partition's critical time exceeds its critical budget by at most one tick
 /// for each processor, and there is none where it has no critical budget.
 pub fn critical_bound()
-    ensures { (scenario : Scenario) (order : Order) (h : List Entry) → IsScenario scenario → IsLegal scenario order h → KeepsCriticalBound scenario h }
+    ensures { (scenario : Scenario) (order : Order) (h : List Entry)
+        → IsScenario scenario
+        → IsLegal scenario order h
+        → KeepsCriticalBound scenario h }
 {}

@@ -22,20 +22,21 @@ use Rattle.aps_laws.proofs.Windows.{walks}
 use Rattle.aps_bound_laws.specs.Lanes.{paid, paid_of}
 use Rattle.aps_bound_laws.specs.Pasts.{past}
 use Rattle.aps_bound_laws.specs.Sums.{sum_below}
-use Rattle.aps_bound_laws.proofs.Below.{finished_end}
+use Rattle.aps_bound_laws.proofs.Finished.{finished_end}
 use Rattle.aps_bound_laws.proofs.Budget.{covered}
 use Rattle.aps_bound_laws.proofs.Funded.{budgets_sum, whole_is}
 use Rattle.aps_bound_laws.proofs.Late.{count_of, lanes_of, lanes_stand, sum_at_start}
 use Rattle.aps_bound_laws.proofs.Sums.{each_below, one_of_sum, sum_below_add, sum_below_same, sum_below_scale, sum_but, sum_range}
 use Rattle.aps_bound_laws.proofs.Wides.{sum_wides, used_is}
 use Rattle.aps_load_laws.specs.AnyMoment.{IsWithinLate, KeepsAnyMoment, leap, leeway_between, others_leeway_between}
-use Rattle.aps_load_laws.specs.FreeTime.{idle_by, idle_time}
+use Rattle.aps_bound_laws.specs.FreeTime.{idle_by, idle_time}
 use Rattle.aps_load_laws.proofs.Leaps.{leap_covers}
 use Rattle.aps_load_laws.proofs.Reach.{sum_at_most}
-use Rattle.aps_load_laws.proofs.Runs.{bills_known}
+use Rattle.aps_bound_laws.proofs.Runs.{bills_known}
 use Rattle.aps_load_laws.proofs.Shifted.{IsShifted, shifted}
-use Rattle.aps_load_laws.proofs.Spans.{IsSpan, span_of}
-use Rattle.aps_load_laws.proofs.Totals.{AreKnown, all_time, idle_is, is_nobody, past_whole, sum_by_same}
+use Rattle.aps_bound_laws.proofs.Spans.{IsSpan, span_of}
+use Rattle.aps_bound_laws.proofs.Times.{AreKnown, all_time, is_nobody, past_whole, sum_by_same}
+use Rattle.aps_bound_laws.proofs.Totals.{idle_is}
 
 -- ---- sums over all but one
 

@@ -8,7 +8,7 @@ use Rattle.aps_model.specs.declared.shape.Free.{Free}
 use Rattle.aps_model.specs.declared.state.CpuNow.{CpuNow}
 use Rattle.aps_model.specs.declared.state.Facts.{Facts}
 use Rattle.aps_model.specs.declared.state.State.{State}
-use Rattle.aps_model.specs.declared.state.State.TheVariants.{Gone, Ready, Running}
+use Rattle.aps_model.specs.declared.state.State.TheVariants.{Gone, Ready, Receiving, Replying, Running, Sending, Sleeping}
 use Rattle.aps_model.specs.declared.state.ThreadNow.{ThreadNow}
 use Rattle.aps_model.specs.Budget.{part_at}
 use Rattle.aps_model.specs.Flag.{merit_now}
@@ -58,6 +58,15 @@ greatest_runs free ps cs b is = subst (MayRun ps) is (scan_runs free ps None cs 
 
 ready_is : (st : State) → st ≡ Ready → is_ready st ≡ true
 ready_is st e = ap is_ready e
+
+pub ready_from : (st : State) → is_ready st ≡ true → st ≡ Ready
+ready_from Ready is = refl
+ready_from (Running c) is = absurd cc
+ready_from (Sleeping until) is = absurd cc
+ready_from (Sending c) is = absurd cc
+ready_from (Receiving c) is = absurd cc
+ready_from (Replying y) is = absurd cc
+ready_from Gone is = absurd cc
 
 -- a ready thread that is a candidate doesn't beat the greatest one
 pub ready_unbeaten : (s : SchedulerState) (free : Free) (ps : List PartFacts) (b : Contender) (x : ℕ) → greatest free ps (contenders s) ≡ Some b

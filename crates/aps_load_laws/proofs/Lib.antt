@@ -1,12 +1,3 @@
-pub mod LastPick
-pub mod Marked
-pub mod MarkedSums
-pub mod Spans
-pub mod Above
-pub mod Runs
-pub mod Totals
-pub mod Below
-pub mod ServedTicks
 pub mod OpenPick
 pub mod Flags
 pub mod Greatest

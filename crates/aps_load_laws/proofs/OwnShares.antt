@@ -21,17 +21,17 @@ use Rattle.aps_model.specs.Usage.{billed_by, names, overlap, used, window_used}
 use Rattle.aps_model.specs.Valid.{IsScenario}
 use Rattle.aps_laws.proofs.Words.{up_to}
 use Rattle.aps_bound_laws.specs.Lanes.{in_window}
-use Rattle.aps_bound_laws.proofs.Inside.{in_ticks}
-use Rattle.aps_load_laws.specs.Excess.{leeway, margin, others_leeway, others_margin}
-use Rattle.aps_load_laws.specs.FreeTime.{free_used, idle_time}
-use Rattle.aps_load_laws.specs.Kinds.{is_funded}
+use Rattle.aps_bound_laws.proofs.Inside.{in_ticks, inside_window, window_ends}
+use Rattle.aps_bound_laws.specs.Excess.{leeway, margin, others_leeway, others_margin}
+use Rattle.aps_bound_laws.specs.FreeTime.{free_used, idle_time}
+use Rattle.aps_bound_laws.specs.Kinds.{is_funded}
 use Rattle.aps_load_laws.specs.OwnShare.{FindsSpent, HasOwnShare, HasWholeShare, IsSupplied, KeepsOwnShare, KeepsSupply, SharesInTime, SharesInTwo, WorksInBudget}
-use Rattle.aps_load_laws.specs.Served.{IsServed}
-use Rattle.aps_load_laws.proofs.Below.{excess}
-use Rattle.aps_load_laws.proofs.Marked.{Along, along_at}
+use Rattle.aps_bound_laws.specs.Served.{IsServed}
+use Rattle.aps_bound_laws.proofs.Below.{excess}
+use Rattle.aps_bound_laws.proofs.Marked.{Along, along_at}
 use Rattle.aps_load_laws.proofs.ServedPicks.{class_one_is_served}
-use Rattle.aps_load_laws.proofs.ServedTicks.{full, makes_pick, served_window_bound, sum_alike}
-use Rattle.aps_load_laws.proofs.Spans.{IsSpan, funded_there, inside_window, span_of, window_ends}
+use Rattle.aps_bound_laws.proofs.ServedTicks.{full, makes_pick, served_window_bound, sum_alike}
+use Rattle.aps_bound_laws.proofs.Spans.{IsSpan, funded_there, span_of}
 
 -- ---- sums
 

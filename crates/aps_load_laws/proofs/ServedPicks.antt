@@ -33,8 +33,8 @@ use Rattle.aps_laws.proofs.RowLaws.{in_order}
 use Rattle.aps_laws.proofs.ThreadFacts.{within}
 use Rattle.aps_bound_laws.specs.Picks.{wide_at}
 use Rattle.aps_bound_laws.proofs.Chosen.{keeps_of}
-use Rattle.aps_load_laws.specs.Kinds.{Kind.funded, Kind.critical, Kind.free, is_funded, is_served, kind_by}
-use Rattle.aps_load_laws.specs.Served.{IsServedPick}
+use Rattle.aps_bound_laws.specs.Kinds.{Kind.funded, Kind.critical, Kind.free, is_funded, is_served, kind_by}
+use Rattle.aps_bound_laws.specs.Served.{IsServedPick}
 use Rattle.aps_load_laws.specs.Work.{HasClassOne, HasWork, ServesClassOne, chosen_from, class_at}
 use Rattle.aps_load_laws.proofs.Classes.{class_cases, class_first, class_runs, funded_class, funded_is, funded_open}
 use Rattle.aps_load_laws.proofs.Flags.{each_filtered}

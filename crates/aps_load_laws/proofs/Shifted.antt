@@ -23,20 +23,20 @@ use Rattle.aps_laws.proofs.Sound.{next_law}
 use Rattle.aps_laws.proofs.Words.{up_to}
 use Rattle.aps_bound_laws.specs.Lanes.{is_critical, is_ordinary, paid}
 use Rattle.aps_bound_laws.proofs.Budget.{length_lanes}
-use Rattle.aps_bound_laws.proofs.Inside.{before_later, in_ticks}
+use Rattle.aps_bound_laws.proofs.Inside.{before_later, in_ticks, inside_window}
 use Rattle.aps_bound_laws.proofs.Late.{sum_at_start}
 use Rattle.aps_bound_laws.proofs.Prefixes.{AllBefore, latest}
 use Rattle.aps_bound_laws.proofs.Upper.{apart}
 use Rattle.aps_load_laws.specs.AnyMoment.{leeway_between}
-use Rattle.aps_load_laws.specs.FreeTime.{free_used}
-use Rattle.aps_load_laws.specs.Kinds.{is_funded, last_kind}
-use Rattle.aps_load_laws.proofs.Above.{count, walks_here}
-use Rattle.aps_load_laws.proofs.Marked.{marked, marked_from, marked_of}
-use Rattle.aps_load_laws.proofs.MarkedSums.{is_unfunded, ordinary_billed, unfunded_marked, unmarked_funded, used_marked}
+use Rattle.aps_bound_laws.specs.FreeTime.{free_used}
+use Rattle.aps_bound_laws.specs.Kinds.{is_funded, last_kind}
+use Rattle.aps_bound_laws.proofs.Above.{count, walks_here}
+use Rattle.aps_bound_laws.proofs.Marked.{marked, marked_from, marked_of}
+use Rattle.aps_bound_laws.proofs.MarkedSums.{is_unfunded, ordinary_billed, unfunded_marked, unmarked_funded, used_marked}
 use Rattle.aps_load_laws.proofs.Moved.{ResetsMoved, Rises, moved}
 use Rattle.aps_load_laws.proofs.OwnShares.{used_longer, used_wider}
 use Rattle.aps_load_laws.proofs.Reach.{ResetsBefore, boundary_before, reach, reach_past, reach_uncounted, step_reach, walk_reach}
-use Rattle.aps_load_laws.proofs.Spans.{IsSpan, funded_less, funded_there, inside_window, pos}
+use Rattle.aps_bound_laws.proofs.Spans.{IsSpan, funded_less, funded_there, pos}
 use Rattle.aps_bound_laws.specs.Picks.{wide_at}
 
 -- ---- sums between moments

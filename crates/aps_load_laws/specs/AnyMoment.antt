@@ -11,7 +11,7 @@ use Rattle.aps_model.specs.Partition.{row_or_none}
 use Rattle.aps_model.specs.Scenario.{Scenario}
 use Rattle.aps_model.specs.Shape.{whole}
 use Rattle.aps_model.specs.Usage.{critical_used, used}
-use Rattle.aps_load_laws.specs.FreeTime.{free_used, idle_time}
+use Rattle.aps_bound_laws.specs.FreeTime.{free_used, idle_time}
 
 -- what is billed to the partition between two moments, and for how long processors stand idle between them
 abbrev pub used_between : List Entry → ℕ → ℕ → ℕ → ℕ

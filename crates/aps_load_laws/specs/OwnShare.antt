@@ -10,9 +10,9 @@ use Rattle.aps_model.specs.Partition.{row_or_none}
 use Rattle.aps_model.specs.Scenario.{Scenario}
 use Rattle.aps_model.specs.Shape.{whole}
 use Rattle.aps_model.specs.Usage.{used, window_used}
-use Rattle.aps_load_laws.specs.Excess.{others_margin}
-use Rattle.aps_load_laws.specs.Kinds.{is_funded}
-use Rattle.aps_load_laws.specs.Served.{IsServed}
+use Rattle.aps_bound_laws.specs.Excess.{others_margin}
+use Rattle.aps_bound_laws.specs.Kinds.{is_funded}
+use Rattle.aps_bound_laws.specs.Served.{IsServed}
 use Rattle.aps_load_laws.specs.Work.{HasWork}
 
 -- in ticks a to b-1 the partition has work at each pick at which it is in budget

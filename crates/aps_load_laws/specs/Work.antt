@@ -10,8 +10,8 @@ use Rattle.aps_model.specs.Scenario.{Scenario}
 use Rattle.aps_model.specs.SchedulerState.{SchedulerState}
 use Rattle.aps_laws.specs.Choices.{state_to_pick}
 use Rattle.aps_laws.specs.Waits.{state_at}
-use Rattle.aps_load_laws.specs.Kinds.{is_funded}
-use Rattle.aps_load_laws.specs.Served.{IsServedPick}
+use Rattle.aps_bound_laws.specs.Kinds.{is_funded}
+use Rattle.aps_bound_laws.specs.Served.{IsServedPick}
 
 -- the state that the entry's pick chooses from; these are the entries before it
 abbrev pub chosen_from : Scenario → List Entry → Entry → SchedulerState

@@ -21,5 +21,8 @@ pub fn nobody_passed_over()
 
 /// So it is after each entry of a history.
 pub fn never_passed_over()
-    ensures { (scenario : Scenario) (order : Order) (h : List Entry) → IsScenario scenario → IsLegal scenario order h → NeverPassesOver scenario h }
+    ensures { (scenario : Scenario) (order : Order) (h : List Entry)
+        → IsScenario scenario
+        → IsLegal scenario order h
+        → NeverPassesOver scenario h }
 {}

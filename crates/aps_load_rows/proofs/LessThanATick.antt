@@ -9,10 +9,10 @@ use Rattle.aps_model.specs.Legal.{fixed_run}
 use Rattle.aps_model.specs.Loaded.{finished_ticks, is_steady}
 use Rattle.aps_model.specs.Shape.{whole}
 use Rattle.aps_model.specs.Usage.{used}
-use Rattle.aps_load_laws.specs.Excess.{others_leeway, others_margin}
-use Rattle.aps_load_laws.specs.FreeTime.{idle_time}
+use Rattle.aps_bound_laws.specs.Excess.{others_leeway, others_margin}
+use Rattle.aps_bound_laws.specs.FreeTime.{idle_time}
 use Rattle.aps_rows.proofs.Rows.LessThanATick.{scenario}
-use Rattle.aps_load_rows.proofs.Works.{works}
+use Rattle.aps_load_rows.proofs.Works.{AlwaysWorks, always_works}
 
 steady : (finished_ticks scenario.shape (fixed_run scenario 1000) ≡ 32) × (is_steady 100000 (fixed_run scenario 1000) [] 0 32 ≡ true)
 steady = (refl, refl)
@@ -23,9 +23,9 @@ allowances = (refl, refl)
 nothing : used 100000 (fixed_run scenario 1000) 1 0 32 ≡ 0
 nothing = refl
 
-always : works scenario 1 0 32 [] (fixed_run scenario 1000) ≡ true
+always : AlwaysWorks scenario (fixed_run scenario 1000) 1 0 32
 unfolding after
-always = refl
+always = always_works scenario 1 0 32 (fixed_run scenario 1000) refl
 
 -- the lower lines of the window bound and of the own share, in any window: 96,000 of 100,000 ns
 slack : others_slack scenario.shape scenario.partitions (fixed_run scenario 1000) 24 1 ≡ 100000

@@ -4,6 +4,7 @@ mod LongWithoutTime
 mod LessThanATick
 mod HalfItsShare
 mod ShortByTheSlack
+mod WindowInsideATick
 mod PassedOver
 mod ResponseLost
 mod Rooms

@@ -20,8 +20,8 @@ use Rattle.aps_window.proofs.Entries.{overlap_whole, used_same}
 use Rattle.aps_window.proofs.Stands.{billed_on_is}
 use Rattle.aps_core.specs.Counts.{Counts}
 use Rattle.aps_core.proofs.Counting.{counts_later, counts_none, counts_resized, critical_are, used_are}
-use Rattle.aps_load_laws.specs.FreeTime.{free_used}
-use Rattle.aps_load_laws.specs.Kinds.{is_free, last_kind}
+use Rattle.aps_bound_laws.specs.FreeTime.{free_used}
+use Rattle.aps_bound_laws.specs.Kinds.{is_free, last_kind}
 use Rattle.aps_samples.specs.declared.sums.Sums.{Sums}
 use Rattle.aps_samples.specs.Sample.{critical_at, first_at, free_at, used_at, window_at}
 use Rattle.aps_samples.specs.Sums.{AreSums, GoesOnBy, HasRoom, freed, marked, shape_with}

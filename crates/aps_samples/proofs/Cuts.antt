@@ -19,7 +19,7 @@ use Rattle.aps_laws.proofs.MomentLaws.{moment-append}
 use Rattle.aps_laws.proofs.Prefixes.{legal_up_to}
 use Rattle.aps_laws.proofs.Sound.{sound}
 use Rattle.aps_laws.proofs.Words.{tiled}
-use Rattle.aps_bound_laws.proofs.Below.{finished_end}
+use Rattle.aps_bound_laws.proofs.Finished.{finished_end}
 use Rattle.aps_window.specs.Entries.{IsInOneTick}
 use Rattle.aps_samples.specs.Pass.{IsCut, RunsIn, entry_at, is_before, no_entry}
 use Rattle.aps_samples.proofs.Fill.{same_read}

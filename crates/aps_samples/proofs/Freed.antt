@@ -5,8 +5,8 @@ use Rattle.std.proofs.lemmas.List.Sums.{sum_by-append, sum_by-cons}
 use Rattle.aps_model.specs.declared.entry.Entry.{Entry}
 use Rattle.aps_model.specs.Scenario.{Scenario}
 use Rattle.aps_model.specs.Usage.{billed_by, critical_by, critical_used, names, overlap, used}
-use Rattle.aps_load_laws.specs.FreeTime.{free_by, free_used, sum_along}
-use Rattle.aps_load_laws.specs.Kinds.{is_free, last_kind}
+use Rattle.aps_bound_laws.specs.FreeTime.{free_by, free_used, sum_along}
+use Rattle.aps_bound_laws.specs.Kinds.{is_free, last_kind}
 use Rattle.aps_samples.specs.Sums.{freed, freed_from, marked}
 
 -- the entry with its mark

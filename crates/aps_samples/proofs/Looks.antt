@@ -16,7 +16,7 @@ use Rattle.aps_model.specs.Usage.{window_used}
 use Rattle.aps_model.specs.Scenario.{Scenario}
 use Rattle.aps_model.specs.SchedulerState.{cpu_at}
 use Rattle.aps_laws.specs.Window.{kept_if, pair_kept}
-use Rattle.aps_load_laws.specs.Kinds.{is_free, kind_by}
+use Rattle.aps_bound_laws.specs.Kinds.{is_free, kind_by}
 use Rattle.aps_samples.specs.declared.look.Look.{Look}
 use Rattle.aps_samples.specs.Look.{IsLook, IsSeen}
 use Rattle.aps_samples.specs.Picks.{is_unfunded}

@@ -14,8 +14,8 @@ use Rattle.aps_model.specs.Scenario.{Scenario}
 use Rattle.aps_model.specs.Valid.{IsScenario}
 use Rattle.aps_core.specs.Run.{Run, Setup, state_of}
 use Rattle.aps_core.specs.Turn.{with_entry}
-use Rattle.aps_load_laws.specs.Kinds.{is_free, kind_of, last_kind}
-use Rattle.aps_load_laws.proofs.LastPick.{kind_other, kind_own}
+use Rattle.aps_bound_laws.specs.Kinds.{is_free, kind_of, last_kind}
+use Rattle.aps_bound_laws.proofs.LastPick.{kind_other, kind_own}
 use Rattle.aps_samples.specs.declared.look.Look.{Look}
 use Rattle.aps_samples.specs.declared.pass.Cursor.{Cursor}
 use Rattle.aps_samples.specs.declared.pass.Samples.{Samples}

@@ -5,7 +5,7 @@ use Rattle.aps_model.specs.declared.entry.Entry.{Entry}
 use Rattle.aps_model.specs.declared.merit.PartFacts.{PartFacts}
 use Rattle.aps_model.specs.Scenario.{Scenario}
 use Rattle.aps_model.specs.SchedulerState.{SchedulerState, cpu_at}
-use Rattle.aps_load_laws.specs.Kinds.{is_free, kind_of}
+use Rattle.aps_bound_laws.specs.Kinds.{is_free, kind_of}
 use Rattle.aps_load_laws.specs.Passing.{parts_now}
 use Rattle.aps_samples.specs.declared.look.Look.{Look}
 use Rattle.aps_samples.specs.Picks.{changes_by, had_candidate, is_in_budget, is_unfunded, lacks_test, out_test}

@@ -10,7 +10,7 @@ use Rattle.aps_model.specs.Loaded.{finished_ticks}
 use Rattle.aps_model.specs.Scenario.{Scenario}
 use Rattle.aps_model.specs.Valid.{IsScenario}
 use Rattle.aps_window.specs.Window.{opened}
-use Rattle.aps_load_laws.specs.Kinds.{is_free, last_kind}
+use Rattle.aps_bound_laws.specs.Kinds.{is_free, last_kind}
 use Rattle.aps_samples.specs.declared.look.Look.{Look}
 use Rattle.aps_samples.specs.declared.note.Note.{Note}
 use Rattle.aps_samples.specs.declared.pass.Cursor.{Cursor}

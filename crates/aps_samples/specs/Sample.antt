@@ -8,7 +8,7 @@ use Rattle.aps_model.specs.Loaded.{has_change, has_starved, state_of_tick}
 use Rattle.aps_model.specs.Partition.{row_or_none}
 use Rattle.aps_model.specs.Scenario.{Scenario}
 use Rattle.aps_model.specs.Usage.{critical_used, used}
-use Rattle.aps_load_laws.specs.FreeTime.{free_used}
+use Rattle.aps_bound_laws.specs.FreeTime.{free_used}
 use Rattle.aps_samples.specs.declared.sample.Sample.{Sample}
 use Rattle.aps_samples.specs.Picks.{lacks, was_out}
 

@@ -6,7 +6,7 @@ use Rattle.aps_model.specs.Scenario.{Scenario}
 use Rattle.aps_window.specs.Entries.{IsInOneTick}
 use Rattle.aps_window.specs.Window.{Window, billed_on}
 use Rattle.aps_core.specs.Counts.{Counts}
-use Rattle.aps_load_laws.specs.Kinds.{is_free, last_kind}
+use Rattle.aps_bound_laws.specs.Kinds.{is_free, last_kind}
 use Rattle.aps_samples.specs.declared.sums.Sums.{Sums}
 
 -- the entry with another mark

@@ -10,7 +10,7 @@ use Rattle.aps_model.specs.Tiled.{IsTiled, IsBilledAsInherited}
 use Rattle.aps_model.specs.Bound.{KeepsWindowBound, KeepsCriticalBound}
 use Rattle.aps_laws.specs.Choices.{EachPickIsGreatest}
 use Rattle.aps_laws.specs.Runs.{EndsNoSooner}
-use Rattle.aps_load_laws.specs.Excess.{KeepsExcess}
+use Rattle.aps_bound_laws.specs.Excess.{KeepsExcess}
 use Rattle.aps_load_laws.specs.OwnShare.{KeepsOwnShare}
 use Rattle.aps_load_laws.specs.Passing.{NeverPassesOver}
 

@@ -32,7 +32,7 @@ use Rattle.aps_laws.proofs.WaitFacts.{replying_from, served_none, test_eq}
 use Rattle.aps_laws.proofs.Words.{prefix_legal}
 use Rattle.aps_bound_laws.specs.Sums.{sum_below}
 use Rattle.aps_bound_laws.proofs.Sums.{single_full, sum_below_add, sum_below_zero, sum_range}
-use Rattle.aps_load_laws.specs.FreeTime.{sum_along}
+use Rattle.aps_bound_laws.specs.FreeTime.{sum_along}
 use Rattle.aps_latency.specs.declared.call.Asked.{Asked}
 use Rattle.aps_latency.specs.declared.call.Call.{Call}
 use Rattle.aps_latency.specs.declared.news.News.{News}

@@ -19,10 +19,11 @@ use Rattle.aps_model.specs.Usage.{window_used}
 use Rattle.aps_model.specs.Valid.{IsScenario}
 use Rattle.aps_laws.specs.Moments.{moment}
 use Rattle.aps_bound_laws.specs.Lanes.{in_window}
-use Rattle.aps_load_laws.specs.Kinds.{is_funded}
+use Rattle.aps_bound_laws.specs.Kinds.{is_funded}
 use Rattle.aps_load_laws.proofs.Classes.{funded_is}
 use Rattle.aps_load_laws.proofs.OwnShares.{used_longer}
-use Rattle.aps_load_laws.proofs.Spans.{funded_there, inside_window}
+use Rattle.aps_bound_laws.proofs.Inside.{inside_window}
+use Rattle.aps_bound_laws.proofs.Spans.{funded_there}
 use Rattle.aps_samples.specs.Along.{any_along}
 use Rattle.aps_samples.specs.Picks.{out_test, was_out}
 use Rattle.aps_samples.specs.Sample.{allowance_at, had_share, is_full, is_unchanged}

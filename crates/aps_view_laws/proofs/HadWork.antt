@@ -8,7 +8,7 @@ use Rattle.aps_model.specs.declared.merit.PartFacts.{PartFacts}
 use Rattle.aps_model.specs.declared.state.CpuNow.{CpuNow}
 use Rattle.aps_model.specs.declared.state.Facts.{Facts}
 use Rattle.aps_model.specs.declared.state.State.{State}
-use Rattle.aps_model.specs.declared.state.State.TheVariants.{Gone, Ready, Receiving, Replying, Running, Sending, Sleeping}
+use Rattle.aps_model.specs.declared.state.State.TheVariants.{Gone, Ready, Running}
 use Rattle.aps_model.specs.declared.state.ThreadNow.{ThreadNow}
 use Rattle.aps_model.specs.Budget.{part_at}
 use Rattle.aps_model.specs.Flag.{with_flag}
@@ -23,6 +23,7 @@ use Rattle.aps_laws.proofs.Picked.{cpu_same, flag_running, greatest_ready}
 use Rattle.aps_laws.proofs.PickSays.{facts_picked}
 use Rattle.aps_laws.proofs.ThreadFacts.{set_other, set_same, within}
 use Rattle.aps_load_laws.specs.Work.{HasWork, chosen_from}
+use Rattle.aps_load_laws.proofs.Greatest.{ready_from}
 use Rattle.aps_load_laws.proofs.OpenPick.{IsOpenPick}
 use Rattle.aps_core.specs.Scan.{has_candidate}
 use Rattle.aps_samples.specs.Picks.{bills}
@@ -55,15 +56,6 @@ by_first f p q t x xs false first later any = later any
 any_passing : {X : Type 0} (f : ℕ → X) (p q t : X → Bool) (xs : List ℕ) → list_any t (filter q (filter p (map f xs))) ≡ true → Found (λ x. p (f x)) (λ x. t (f x))
 any_passing f p q t [] any = absurd (clash any)
 any_passing f p q t (x ∷ xs) any = by_first f p q t x (filter p (map f xs)) (p (f x)) refl (any_passing f p q t xs) any
-
-ready_from : (st : State) → is_ready st ≡ true → st ≡ Ready
-ready_from Ready is = refl
-ready_from (Running c) is = absurd (clash is)
-ready_from (Sleeping until) is = absurd (clash is)
-ready_from (Sending c) is = absurd (clash is)
-ready_from (Receiving c) is = absurd (clash is)
-ready_from (Replying y) is = absurd (clash is)
-ready_from Gone is = absurd (clash is)
 
 -- a ready thread that is scheduled by the partition
 abbrev pub Works : SchedulerState → ℕ → Type 0

@@ -10,12 +10,12 @@ use Rattle.aps_model.specs.Scenario.{Scenario}
 use Rattle.aps_model.specs.Valid.{IsScenario}
 use Rattle.aps_laws.specs.Moments.{moment}
 use Rattle.aps_laws.proofs.Words.{up_to}
-use Rattle.aps_load_laws.specs.Kinds.{is_funded}
+use Rattle.aps_bound_laws.specs.Kinds.{is_funded}
 use Rattle.aps_load_laws.specs.OwnShare.{WorksInBudget}
 use Rattle.aps_load_laws.specs.Passing.{parts_now}
 use Rattle.aps_load_laws.proofs.Classes.{funded_is}
 use Rattle.aps_load_laws.proofs.OpenPick.{open_pick}
-use Rattle.aps_load_laws.proofs.ServedTicks.{makes_pick}
+use Rattle.aps_bound_laws.proofs.ServedTicks.{makes_pick}
 use Rattle.aps_samples.specs.Picks.{had_candidate, lacks, lacks_test, out_test, was_out}
 use Rattle.aps_view_laws.proofs.Alongs.{none_of}
 use Rattle.aps_view_laws.proofs.HadWork.{had_work}

@@ -22,7 +22,7 @@ use Rattle.aps_laws.proofs.WaitFacts.{test_eq, test_ne}
 use Rattle.aps_laws.proofs.Words.{prefix_legal}
 use Rattle.aps_bound_laws.specs.Sums.{sum_below}
 use Rattle.aps_bound_laws.proofs.Sums.{single_full, sum_below_add, sum_below_same, sum_below_zero, sum_range}
-use Rattle.aps_load_laws.specs.FreeTime.{sum_along}
+use Rattle.aps_bound_laws.specs.FreeTime.{sum_along}
 use Rattle.aps_latency.specs.Held.{IsCountedOnce}
 use Rattle.aps_latency.specs.News.{news_of, time_of}
 use Rattle.aps_latency.proofs.Holding.{counted_once, held_by_state}

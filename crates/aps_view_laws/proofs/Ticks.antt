@@ -19,7 +19,7 @@ use Rattle.aps_laws.proofs.BoundaryLaws.{boundaries, latest}
 use Rattle.aps_laws.proofs.HeldRows.{rows_held}
 use Rattle.aps_laws.proofs.Sound.{legal_last, next_law, sound}
 use Rattle.aps_laws.proofs.Words.{up_to}
-use Rattle.aps_bound_laws.proofs.Below.{finished_end}
+use Rattle.aps_bound_laws.proofs.Finished.{finished_end}
 
 -- ---- an entry that ends at a moment
 

@@ -23,12 +23,12 @@ use Rattle.aps_model.specs.Valid.{IsScenario}
 use Rattle.aps_laws.specs.Rows.{AreInOrder}
 use Rattle.aps_laws.proofs.HeldRows.{tick_in_order}
 use Rattle.aps_bound_laws.proofs.Sums.{each_below, sum_below_zero, sum_range}
-use Rattle.aps_load_laws.specs.Excess.{leeway}
-use Rattle.aps_load_laws.specs.FreeTime.{free_used}
+use Rattle.aps_bound_laws.specs.Excess.{leeway}
+use Rattle.aps_bound_laws.specs.FreeTime.{free_used}
 use Rattle.aps_load_laws.specs.OwnShare.{WorksInBudget}
-use Rattle.aps_load_laws.proofs.Above.{above, strictly}
+use Rattle.aps_bound_laws.proofs.Above.{above, strictly}
 use Rattle.aps_load_laws.proofs.OwnShares.{own_share}
-use Rattle.aps_load_laws.proofs.Spans.{IsSpan, span_of}
+use Rattle.aps_bound_laws.proofs.Spans.{IsSpan, span_of}
 use Rattle.aps_samples.specs.Sample.{allowance_at, critical_at, first_at, free_at, had_share, has_work, is_full, is_unchanged, used_at, window_at}
 use Rattle.aps_view_laws.proofs.Amounts.{allowance_exact, beyond_none, beyond_some, none_allowed, parts_some, short_most, sum_wider, taken_most, whole_some}
 use Rattle.aps_view_laws.proofs.Picked.{always_worked, never_out}

@@ -11,7 +11,7 @@ use Rattle.aps_latency.specs.declared.call.Asked.{Asked}
 use Rattle.aps_latency.specs.declared.call.Call.{Call}
 use Rattle.aps_latency.specs.Calls.{Calls}
 use Rattle.aps_latency.specs.News.{news_of, time_of}
-use Rattle.aps_load_laws.specs.FreeTime.{sum_along}
+use Rattle.aps_bound_laws.specs.FreeTime.{sum_along}
 
 -- ---- one entry; these are the entries before it
 

@@ -12,7 +12,7 @@ use Rattle.aps_model.specs.Loaded.{finished_ticks, is_steady}
 use Rattle.aps_model.specs.Scenario.{Scenario}
 use Rattle.aps_model.specs.Shape.{whole}
 use Rattle.aps_model.specs.Usage.{critical_used, used}
-use Rattle.aps_load_laws.specs.FreeTime.{free_used, idle_time}
+use Rattle.aps_bound_laws.specs.FreeTime.{free_used, idle_time}
 
 abbrev pub scenario : Scenario
 scenario = record {

@@ -14,7 +14,7 @@ use Rattle.aps_model.specs.Scenario.{Scenario}
 use Rattle.aps_model.specs.Shape.{whole}
 use Rattle.aps_model.specs.Usage.{critical_used}
 use Rattle.aps_load_laws.specs.AnyMoment.{leap, used_between}
-use Rattle.aps_load_laws.specs.FreeTime.{free_used}
+use Rattle.aps_bound_laws.specs.FreeTime.{free_used}
 
 abbrev pub scenario : Scenario
 scenario = record {

@@ -13,8 +13,8 @@ use Rattle.aps_model.specs.Loaded.{finished_ticks, is_steady}
 use Rattle.aps_model.specs.Scenario.{Scenario}
 use Rattle.aps_model.specs.Shape.{whole}
 use Rattle.aps_model.specs.Usage.{used}
-use Rattle.aps_load_laws.specs.FreeTime.{free_used, idle_time}
-use Rattle.aps_load_laws.specs.Kinds.{Kind, Kind.funded, Kind.idle, kind_of}
+use Rattle.aps_bound_laws.specs.FreeTime.{free_used, idle_time}
+use Rattle.aps_bound_laws.specs.Kinds.{Kind, Kind.funded, Kind.idle, kind_of}
 
 abbrev pub scenario : Scenario
 scenario = record {

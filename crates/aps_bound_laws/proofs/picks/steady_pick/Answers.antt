@@ -1,4 +1,4 @@
-use Rattle.aps_bound_laws.proofs.BoundLaws.{steady_pick}
+use Rattle.aps_bound_laws.proofs.Funded.{steady_pick}
 use Rattle.aps_bound_laws.proofs.picks.steady_pick.Goals as goal
 
 pub returns : goal.returns

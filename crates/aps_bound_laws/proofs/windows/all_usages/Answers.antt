@@ -1,4 +1,4 @@
-use Rattle.aps_bound_laws.proofs.Budget.{usages}
+use Rattle.aps_bound_laws.proofs.Times.{usages}
 use Rattle.aps_bound_laws.proofs.windows.all_usages.Goals as goal
 
 pub returns : goal.returns

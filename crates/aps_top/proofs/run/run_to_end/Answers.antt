@@ -7,10 +7,10 @@ use Rattle.aps_model.specs.Bound.{KeepsWindowBound, KeepsCriticalBound}
 use Rattle.aps_model.specs.Tiled.{IsTiled, IsBilledAsInherited}
 use Rattle.aps_model.specs.History.{History}
 use Rattle.aps_laws.specs.Choices.{EachPickIsGreatest}
-use Rattle.aps_load_laws.specs.Excess.{KeepsExcess}
+use Rattle.aps_bound_laws.specs.Excess.{KeepsExcess}
 use Rattle.aps_load_laws.specs.OwnShare.{KeepsOwnShare}
 use Rattle.aps_load_laws.specs.Passing.{NeverPassesOver}
-use Rattle.aps_load_laws.proofs.Below.{excess}
+use Rattle.aps_bound_laws.proofs.Below.{excess}
 use Rattle.aps_load_laws.proofs.Moments.{never_passed}
 use Rattle.aps_load_laws.proofs.OwnShares.{own_share}
 use Rattle.aps_top.proofs.run.run_to_end.Goals as goal

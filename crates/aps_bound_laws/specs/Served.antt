@@ -5,8 +5,8 @@ use Rattle.aps_model.specs.After.{state_after}
 use Rattle.aps_model.specs.Bound.{IsWithinBudget}
 use Rattle.aps_model.specs.Loaded.{finished_ticks, has_change, IsSteady, state_of_tick}
 use Rattle.aps_model.specs.Scenario.{Scenario}
-use Rattle.aps_load_laws.specs.FreeTime.{free_used, idle_time}
-use Rattle.aps_load_laws.specs.Kinds.{is_free, is_served, kind_of}
+use Rattle.aps_bound_laws.specs.FreeTime.{free_used, idle_time}
+use Rattle.aps_bound_laws.specs.Kinds.{is_free, is_served, kind_of}
 use Rattle.aps_bound_laws.specs.Lanes.{is_of}
 use Rattle.aps_bound_laws.specs.Picks.{wide_at}
 

@@ -10,8 +10,8 @@ use Rattle.aps_model.specs.SchedulerState.{SchedulerState}
 use Rattle.aps_laws.specs.Window.{Kept, Lane, Walks, Wide, bills_of, lane_after, lanes_at_start, still, wide_of, wides, wides_from}
 use Rattle.aps_bound_laws.specs.Picks.{wide_at}
 use Rattle.aps_bound_laws.proofs.Prefixes.{state-append}
-use Rattle.aps_load_laws.specs.Kinds.{Kind, kind_of, last_keeps, last_kind}
-use Rattle.aps_load_laws.proofs.LastPick.{keeps_other, keeps_own, kind_other, kind_own}
+use Rattle.aps_bound_laws.specs.Kinds.{Kind, kind_of, last_keeps, last_kind}
+use Rattle.aps_bound_laws.proofs.LastPick.{keeps_other, keeps_own, kind_other, kind_own}
 
 -- ---- marks
 

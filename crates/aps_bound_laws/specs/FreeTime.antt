@@ -4,7 +4,7 @@ use Rattle.std.specs.List.{sum_by}
 use Rattle.aps_model.specs.declared.entry.Entry.{Entry}
 use Rattle.aps_model.specs.Scenario.{Scenario}
 use Rattle.aps_model.specs.Usage.{names, overlap}
-use Rattle.aps_load_laws.specs.Kinds.{is_free, last_kind}
+use Rattle.aps_bound_laws.specs.Kinds.{is_free, last_kind}
 
 -- the sum over some entries, each with all entries before it
 abbrev pub sum_along : (List Entry → Entry → ℕ) → List Entry → List Entry → ℕ

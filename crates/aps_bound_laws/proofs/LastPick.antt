@@ -15,7 +15,7 @@ use Rattle.aps_laws.specs.Window.{Kept, kept_if, pair_kept}
 use Rattle.aps_laws.proofs.MomentLaws.{last_other, last_own}
 use Rattle.aps_laws.proofs.WaitFacts.{test_eq, test_ne}
 use Rattle.aps_bound_laws.specs.Picks.{wide_at}
-use Rattle.aps_load_laws.specs.Kinds.{is_funded, kind_by, kind_of, last_keeps, last_kind}
+use Rattle.aps_bound_laws.specs.Kinds.{is_funded, kind_by, kind_of, last_keeps, last_kind}
 
 -- ---- the last pick
 

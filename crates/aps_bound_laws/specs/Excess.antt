@@ -10,7 +10,7 @@ use Rattle.aps_model.specs.Partition.{row_or_none}
 use Rattle.aps_model.specs.Scenario.{Scenario}
 use Rattle.aps_model.specs.Shape.{whole}
 use Rattle.aps_model.specs.Usage.{critical_used, used}
-use Rattle.aps_load_laws.specs.FreeTime.{free_used, idle_time}
+use Rattle.aps_bound_laws.specs.FreeTime.{free_used, idle_time}
 
 -- the partition's critical time in ticks a to b-1, and one tick for each processor where it has a budget
 abbrev pub margin : Shape → List PartitionRow → List Entry → ℕ → ℕ → ℕ → ℕ

@@ -11,9 +11,9 @@ use Rattle.aps_model.specs.Usage.{billed_by, critical_by, critical_used, names, 
 use Rattle.aps_laws.specs.Window.{Kept, bills_of}
 use Rattle.aps_bound_laws.specs.Lanes.{in_window, is_critical, is_of, is_ordinary, paid, paid_of}
 use Rattle.aps_bound_laws.specs.Debts.{Never, Resets}
-use Rattle.aps_load_laws.specs.FreeTime.{free_by, sum_along}
-use Rattle.aps_load_laws.specs.Kinds.{Kind, Kind.idle, Kind.funded, Kind.critical, Kind.free, is_free, is_funded, kind_by, last_kind}
-use Rattle.aps_load_laws.proofs.Marked.{Along, BillsLast, marked, marked_from, marked_of, with_mark}
+use Rattle.aps_bound_laws.specs.FreeTime.{free_by, sum_along}
+use Rattle.aps_bound_laws.specs.Kinds.{Kind, Kind.idle, Kind.funded, Kind.critical, Kind.free, is_free, is_funded, kind_by, last_kind}
+use Rattle.aps_bound_laws.proofs.Marked.{Along, BillsLast, marked, marked_from, marked_of, with_mark}
 use Rattle.aps_model.specs.Tiled.{through_last}
 use Rattle.aps_bound_laws.specs.Picks.{wide_at}
 

@@ -8,7 +8,7 @@ use Rattle.std.proofs.lemmas.List.Sums.{sum_by-cons}
 use Rattle.aps_model.specs.declared.entry.Entry.{Entry}
 use Rattle.aps_model.specs.declared.entry.Order.{Order}
 use Rattle.aps_model.specs.After.{after, state_after}
-use Rattle.aps_model.specs.Bound.{KeepsWindowBound, others_slack, slack}
+use Rattle.aps_model.specs.Bound.{others_slack, slack}
 use Rattle.aps_model.specs.Due.{last_end, last_to}
 use Rattle.aps_model.specs.Legal.{IsLegal}
 use Rattle.aps_model.specs.Loaded.{finished_ticks, is_among, state_of_tick}
@@ -20,18 +20,18 @@ use Rattle.aps_model.specs.Usage.{names, overlap, used}
 use Rattle.aps_model.specs.Valid.{IsScenario}
 use Rattle.aps_laws.specs.Window.{Kept, bills_of}
 use Rattle.aps_bound_laws.specs.Lanes.{is_of}
-use Rattle.aps_load_laws.specs.Excess.{leeway, others_leeway}
-use Rattle.aps_load_laws.specs.FreeTime.{free_by, free_used, idle_by, idle_time, sum_along}
-use Rattle.aps_load_laws.specs.Kinds.{Kind, Kind.idle, Kind.funded, Kind.critical, Kind.free, is_free, is_funded, is_served, kind_by, kind_of, last_kind}
-use Rattle.aps_load_laws.specs.Served.{FillsServed, HasNoFreePick, HasNoFreeTime, IsFull, IsServed, IsServedPick, KeepsServedBound, ServesSteady}
-use Rattle.aps_load_laws.proofs.Below.{excess}
-use Rattle.aps_load_laws.proofs.Runs.{bills_last, runs_pick}
-use Rattle.aps_load_laws.proofs.Spans.{funded_there, inside_window, span_of, window_ends}
+use Rattle.aps_bound_laws.specs.Excess.{leeway, others_leeway}
+use Rattle.aps_bound_laws.specs.FreeTime.{free_by, free_used, idle_by, idle_time, sum_along}
+use Rattle.aps_bound_laws.specs.Kinds.{Kind, Kind.idle, Kind.funded, Kind.critical, Kind.free, is_free, is_funded, is_served, kind_by, kind_of, last_kind}
+use Rattle.aps_bound_laws.specs.Served.{FillsServed, HasNoFreePick, HasNoFreeTime, IsFull, IsServed, IsServedPick, KeepsServedBound, ServesSteady}
+use Rattle.aps_bound_laws.proofs.Below.{excess}
+use Rattle.aps_bound_laws.proofs.Runs.{bills_last, runs_pick}
+use Rattle.aps_bound_laws.proofs.Spans.{funded_there, span_of}
 use Rattle.aps_bound_laws.specs.Picks.{IsFundedPick, wide_at}
-use Rattle.aps_bound_laws.proofs.Below.{finished_end}
-use Rattle.aps_bound_laws.proofs.BoundLaws.{steady_parts, steady_pick}
-use Rattle.aps_bound_laws.proofs.Funded.{budgets_sum, whole_is}
-use Rattle.aps_bound_laws.proofs.Inside.{IsInTicks, in_ticks}
+use Rattle.aps_bound_laws.proofs.Finished.{finished_end}
+use Rattle.aps_bound_laws.proofs.SteadyTicks.{steady_parts}
+use Rattle.aps_bound_laws.proofs.Funded.{budgets_sum, steady_pick, whole_is}
+use Rattle.aps_bound_laws.proofs.Inside.{IsInTicks, in_ticks, inside_window, window_ends}
 use Rattle.aps_bound_laws.proofs.Sums.{one_of_sum}
 use Rattle.aps_laws.specs.Choices.{MadeNoPick}
 use Rattle.aps_laws.specs.Sound.{IsSound}
@@ -304,10 +304,3 @@ steady_is_served scenario order h r legal a b finished steady before later e sam
       | inl no_pick ↦ absurd (makes_pick scenario order h before later e b r legal same finished high no_pick)
       | inr pick ↦ funded_served scenario before e pick
     ]
-
--- the window bound, of steady ticks
-pub steady_window_bound : (scenario : Scenario) (order : Order) (h : List Entry) → IsScenario scenario → IsLegal scenario order h → KeepsWindowBound scenario h
-steady_window_bound scenario order h r legal a p finished steady inside =
-    let b : ℕ = a + (state_of_tick scenario h a).shape.window in
-    let parts = steady_parts scenario.shape.tick h (state_after scenario h).changes a b steady in
-    served_window_bound scenario order h r legal a p finished parts.0 (steady_is_served scenario order h r legal a b finished steady) inside

@@ -1,5 +1,5 @@
 -- Ticks in which the rows hold, and what a pick in them says of budgets.
-use Rattle.std.proofs.Common.{◌≡◌, ℕ, ◌+◌, ◌-◌, ◌*◌, ◌/◌, ◌<◌, ◌≤◌, List, [], ◌∷◌, ◌++◌, refl, sym, ◌∙◌, ap, subst, Bool, true, false, ◌&&◌, nat_le, nat_lt, arith}
+use Rattle.std.proofs.Common.{◌≡◌, ℕ, ◌+◌, ◌-◌, ◌*◌, ◌/◌, ◌<◌, ◌≤◌, List, [], ◌∷◌, ◌++◌, sym, ◌∙◌, ap, subst, true, false, nat_lt, arith}
 use Rattle.std.proofs.Math.Nat.{mul-le-mul_left}
 use Rattle.std.proofs.lemmas.Bool.Decides.{nat_tests}
 use Rattle.aps_model.specs.declared.entry.Entry.{Entry}
@@ -16,7 +16,6 @@ use Rattle.aps_model.specs.SchedulerState.{SchedulerState}
 use Rattle.aps_model.specs.Shape.{whole}
 use Rattle.aps_model.specs.Usage.{used}
 use Rattle.aps_model.specs.Valid.{IsScenario}
-use Rattle.aps_laws.specs.Moments.{moment}
 use Rattle.aps_laws.specs.Sizes.{IsSameSizes}
 use Rattle.aps_laws.proofs.HeldRows.{rows_held, tick_in_order}
 use Rattle.aps_laws.proofs.MomentLaws.{moment-append}
@@ -24,9 +23,9 @@ use Rattle.aps_laws.proofs.Sound.{tick_pos}
 use Rattle.aps_laws.proofs.Words.{up_to}
 use Rattle.aps_bound_laws.specs.Lanes.{in_window}
 use Rattle.aps_bound_laws.proofs.Funded.{AreFunded}
-use Rattle.aps_bound_laws.proofs.Inside.{before_later, in_ticks, used_inside}
+use Rattle.aps_bound_laws.proofs.Inside.{before_later, in_ticks, used_inside, window_ends}
 use Rattle.aps_bound_laws.proofs.Prefixes.{latest}
-use Rattle.aps_load_laws.specs.Kinds.{is_funded}
+use Rattle.aps_bound_laws.specs.Kinds.{is_funded}
 
 -- each entry that ends in ticks a to b-1 leaves the rows and the shape of this state
 abbrev pub RowsHold : Scenario → List Entry → ℕ → ℕ → SchedulerState → Type 0
@@ -40,17 +39,6 @@ pub record IsSpan (scenario : Scenario) (h : List Entry) (a b : ℕ) (s : Schedu
   pub funded : AreFunded s
   pub some : 0 < s.shape.window
   pub holds : RowsHold scenario h a b s
-
-pub window_ends : (tick a b moment : ℕ) → in_window tick a b moment ≡ true → (a * tick ≤ moment) × (moment < b * tick)
-window_ends tick a b moment inside = tests (nat_le (a * tick) moment) (nat_lt moment (b * tick)) refl refl inside
-  where
-    tests : (one two : Bool) → nat_le (a * tick) moment ≡ one → nat_lt moment (b * tick) ≡ two → (one && two) ≡ true → (a * tick ≤ moment) × (moment < b * tick)
-    tests true true x y e = (grind (arith, nat_tests), grind (arith, nat_tests))
-    tests true false x y e = absurd cc
-    tests false two x y e = absurd cc
-
-pub inside_window : (tick a b moment : ℕ) → a * tick ≤ moment → moment < b * tick → in_window tick a b moment ≡ true
-inside_window tick a b moment low high = grind (arith, nat_tests)
 
 -- where no change stands, the rows are those of the first tick
 pub span_of : (scenario : Scenario) (order : Order) (h : List Entry) (a b : ℕ) → IsScenario scenario → IsLegal scenario order h

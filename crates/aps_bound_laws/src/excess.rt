@@ -5,7 +5,7 @@ ghost use Rattle.aps_model.specs.declared.entry.Order.{Order};
 ghost use Rattle.aps_model.specs.Scenario.{Scenario};
 ghost use Rattle.aps_model.specs.Valid.{IsScenario};
 ghost use Rattle.aps_model.specs.Legal.{IsLegal};
-ghost use Rattle.aps_load_laws.specs.Excess.{KeepsExcess};
+ghost use Rattle.aps_bound_laws.specs.Excess.{KeepsExcess};
 
 /// In finished ticks without a change, at most as many as a window has, a partition goes beyond its budget only by free
 /// time, by critical time and by less than one tick for each processor; it falls short of it only by what the others so

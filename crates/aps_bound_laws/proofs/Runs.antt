@@ -11,27 +11,25 @@ use Rattle.aps_model.specs.Scenario.{Scenario}
 use Rattle.aps_model.specs.SchedulerState.{SchedulerState, cpu_at}
 use Rattle.aps_model.specs.Usage.{overlap}
 use Rattle.aps_model.specs.Valid.{IsScenario}
-use Rattle.aps_laws.specs.Window.{Kept, bills_of, kept_if, pair_kept}
+use Rattle.aps_laws.specs.Window.{bills_of, kept_if, pair_kept}
 use Rattle.aps_laws.proofs.IdsLaw.{in_range}
 use Rattle.aps_laws.proofs.Sound.{legal_last, next_law, sound}
 use Rattle.aps_laws.proofs.Words.{up_to}
 use Rattle.aps_bound_laws.specs.Lanes.{in_window}
 use Rattle.aps_bound_laws.proofs.Debts.{began}
-use Rattle.aps_load_laws.proofs.LastPick.{IsLastOf, last_of}
-use Rattle.aps_load_laws.proofs.Marked.{Along, BillsLast, along_at, walks_marked}
-use Rattle.aps_load_laws.proofs.MarkedSums.{is_unfunded}
+use Rattle.aps_bound_laws.proofs.LastPick.{IsLastOf, last_of}
+use Rattle.aps_bound_laws.proofs.Marked.{Along, BillsLast, along_at, walks_marked}
+use Rattle.aps_bound_laws.proofs.MarkedSums.{is_unfunded}
 use Rattle.aps_laws.proofs.Windows.{walks}
-use Rattle.aps_load_laws.proofs.Spans.{IsSpan, inside_window}
+use Rattle.aps_bound_laws.proofs.Inside.{inside_window}
+use Rattle.aps_bound_laws.proofs.Spans.{IsSpan}
+use Rattle.aps_bound_laws.proofs.Times.{IsKnown}
 
 -- the entry runs what its processor picked in ticks a to b-1
 pub record RunsPick (scenario : Scenario) (tick a b : ℕ) (h before later : List Entry) (e : Entry) : Type 0 where
   pub last : IsLastOf scenario before e.cpu
   pub split : h ≡ last.before ++ last.e ∷ (last.later ++ e ∷ later)
   pub inside : in_window tick a b last.e.to ≡ true
-
--- of the rows below n, if it names one at all
-abbrev pub IsKnown : ℕ → Kept → Type 0
-IsKnown n kept = (k : ℕ × Bool) → kept ≡ Some k → k.0 < n
 
 pub kept_pick : (o : Option ℕ) (running : Option Pick) (k : ℕ × Bool) → kept_if o (pair_kept running) ≡ Some k → (p : Pick) × (running ≡ Some p) × (p.partition ≡ k.0) × (p.critical ≡ k.1)
 kept_pick None running k is = absurd cc
