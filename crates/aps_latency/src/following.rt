@@ -12,7 +12,7 @@ use crate::call::Calls;
 use crate::callers::all_callers;
 use crate::calling::{add_news, uncalled};
 use aps_core::Core;
-use aps_lives::{Life, lengthen, unborn};
+use aps_lives::{GrowingLives, Life};
 use aps_model::{Entry, History, NoMemory, Order, Scenario};
 use std::alloc::Global;
 
@@ -65,16 +65,19 @@ fn follow(
     ensures { IfOk result (AreFollowed scenario.now entries.now) }
 {
     let callers = all_callers(alloc, scenario)?;
-    let mut lives = unborn(alloc, scenario.threads().len())?;
+    let mut lives = GrowingLives::unborn(alloc, scenario.threads().len())?;
     let mut calls = uncalled(alloc, scenario.threads().len())?;
     let mut moment = 0;
     for e in entries {
-        lengthen(&mut lives, core, moment, e.to)?;
+        lives.lengthen(core, moment, e.to)?;
         add_news(&mut calls, &callers, core, scenario, e)?;
         moment = e.to;
         retrace(core, e);
     }
-    Ok(Followed { lives, calls })
+    Ok(Followed {
+        lives: lives.into_lives()?,
+        calls,
+    })
 }
 
 /// The core makes the step of which this is the entry.

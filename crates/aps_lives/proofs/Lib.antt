@@ -6,3 +6,4 @@ pub mod Lines
 pub mod Sames
 pub mod Wholes
 pub mod Told
+pub mod Asides

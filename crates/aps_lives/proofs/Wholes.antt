@@ -20,7 +20,7 @@ tiles_push a b [] piece tiles from lasts = (from ∙ sym tiles, lasts, refl)
 tiles_push a b (s ∷ life) piece tiles from lasts = (tiles.0, tiles.1, tiles_push s.to b life piece tiles.2 from lasts)
 
 -- the last segment, up to a later moment
-abbrev longer : Segment → ℕ → Segment
+abbrev pub longer : Segment → ℕ → Segment
 longer s c = record s { to = c }
 
 tiles_longer : (a b c : ℕ) (front : List Segment) (s : Segment) → Tiles a b (front ++ s ∷ []) → b ≤ c → Tiles a c (front ++ longer s c ∷ [])
@@ -66,7 +66,7 @@ told_longer now (t ∷ front) s c told here = (told.0, told_longer now front s c
 
 -- ---- a piece more
 
-snoc : (life : List Segment) → (life ≡ []) ⊎ ((front : List Segment) × (s : Segment) × (life ≡ front ++ s ∷ []))
+pub snoc : (life : List Segment) → (life ≡ []) ⊎ ((front : List Segment) × (s : Segment) × (life ≡ front ++ s ∷ []))
 snoc [] = inl refl
 snoc (t ∷ life) =
     elim (snoc life) [
@@ -77,10 +77,10 @@ snoc (t ∷ life) =
 last_place : (front : List Segment) (s : Segment) → length front ≡ length (front ++ s ∷ []) - 1
 last_place front s = let long = length_push front s in omega (arith, long)
 
-last_is : (front : List Segment) (s : Segment) → last_of (front ++ s ∷ []) ≡ s
+pub last_is : (front : List Segment) (s : Segment) → last_of (front ++ s ∷ []) ≡ s
 last_is front s = get_or_push front s no_segment (length (front ++ s ∷ []) - 1) (last_place front s)
 
-lengthened_is : (front : List Segment) (s : Segment) (c : ℕ) → lengthened (front ++ s ∷ []) c ≡ front ++ longer s c ∷ []
+pub lengthened_is : (front : List Segment) (s : Segment) (c : ℕ) → lengthened (front ++ s ∷ []) c ≡ front ++ longer s c ∷ []
 lengthened_is front s c =
     ap (λ (t : Segment). slice_set (front ++ s ∷ []) (length (front ++ s ∷ []) - 1) (longer t c)) (last_is front s)
     ∙ set_at front s [] (longer s c) (length (front ++ s ∷ []) - 1) (last_place front s)

@@ -4,6 +4,7 @@ pub mod Cycle
 pub mod Room
 pub mod Text
 pub mod Whole
+pub mod Growing
 pub mod Tally
 pub mod Few
 pub mod Waits

@@ -24,16 +24,8 @@ pub enum Doing {
     Gone,
 }
 
-/// What the thread does after the entries of the core. A thread that the scenario doesn't have is gone.
-pub fn doing_of(core: &Core, x: ThreadId) -> Doing
-    ensures { result ≡ spec.doing_of (state_of core.now) x }
-{
-    let thread = core.thread(x);
-    doing_by(core, &thread.state)
-}
-
 /// What a thread does that is in this state.
-fn doing_by(core: &Core, state: &State) -> Doing
+pub fn doing_by(core: &Core, state: &State) -> Doing
     ensures { result ≡ spec.doing_by (state_of core.now) state.now }
 {
     match state {
@@ -62,6 +54,21 @@ fn running_by(c: CpuId, cpu: &CpuNow) -> Doing
             partition: PartitionId::at(0),
             critical: false,
         },
+    }
+}
+
+/// Whether a thread that is in this state does this.
+pub fn does(core: &Core, state: &State, doing: &Doing) -> bool
+    ensures { result ≡ spec.is_same doing.now (spec.doing_by (state_of core.now) state.now) }
+{
+    match state {
+        State::Ready => matches!(doing, Doing::Ready),
+        State::Running(_) => is_same(doing, &doing_by(core, state)),
+        State::Sleeping(_) => matches!(doing, Doing::Sleeping),
+        State::Sending(c) => matches!(doing, Doing::Sending(d) if d == c),
+        State::Receiving(c) => matches!(doing, Doing::Receiving(d) if d == c),
+        State::Replying(y) => matches!(doing, Doing::Replying(z) if z == y),
+        State::Gone => matches!(doing, Doing::Gone),
     }
 }
 

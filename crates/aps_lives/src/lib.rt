@@ -3,6 +3,7 @@
 
 mod cycle;
 mod doing;
+mod growing;
 pub mod laws;
 mod life;
 mod retracing;
@@ -11,8 +12,9 @@ pub mod text;
 mod waits;
 
 pub use cycle::{Begun, Cycle, Cycles, Times};
-pub use doing::{Doing, doing_of};
+pub use doing::Doing;
+pub use growing::GrowingLives;
 pub use life::{Life, Segment};
-pub use retracing::{lengthen, lives, unborn};
+pub use retracing::lives;
 pub use tally::{Longest, Tally};
 pub use waits::{Wait, Waits, tally_cycles};

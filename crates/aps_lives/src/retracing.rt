@@ -1,14 +1,13 @@
 //! The lives of all threads of a history, made beside a core that makes its steps again.
-ghost use Rattle.std.specs.Prelude.{◌≡◌, ◌<◌, ◌≤◌, [], length, replicate, IfOk, OnOk};
+ghost use Rattle.std.specs.Prelude.{◌≡◌, ◌<◌, ◌≤◌, length, IfOk};
 ghost use Rattle.aps_model.specs.Legal.{IsLegal};
-ghost use Rattle.aps_core.specs.Run.{state_of};
 ghost use Rattle.aps_core.specs.Turn.{IsTaken, with_entry};
-ghost use Rattle.aps_lives.specs.Life.{AreLives, AreLonger};
+ghost use Rattle.aps_lives.specs.Life.{AreLives};
 
-use crate::doing::doing_of;
-use crate::life::{Life, Segment};
+use crate::growing::GrowingLives;
+use crate::life::Life;
 use aps_core::Core;
-use aps_model::{Entry, History, Nanos, NoMemory, Order, ThreadId};
+use aps_model::{Entry, History, NoMemory, Order};
 use std::alloc::Global;
 
 /// The life of each thread of the scenario, by its number, in one pass over the entries of a history that is legal in this
@@ -21,42 +20,16 @@ pub fn lives(alloc: Global, history: &History, order: Order) -> Result<Vec<Life>
     let scenario = history.scenario();
     let entries = history.entries();
     let limit = (entries.len() as u32).max(1);
-    let mut lives = unborn(alloc, scenario.threads().len())?;
+    let mut lives = GrowingLives::unborn(alloc, scenario.threads().len())?;
     let mut core = Core::boot(alloc, scenario.copy(alloc)?, order, limit)?;
     let mut moment = 0;
     for e in entries {
-        lengthen(&mut lives, &core, moment, e.to)?;
+        lives.lengthen(&core, moment, e.to)?;
         moment = e.to;
         retrace(&mut core, e);
     }
+    let lives = lives.into_lives()?;
     Ok(lives)
-}
-
-/// So many lives that have not begun. `NoMemory` comes where memory runs out.
-pub fn unborn(alloc: Global, count: usize) -> Result<Vec<Life>, NoMemory>
-    ensures { IfOk result (λ lives. lives.items ≡ replicate count []) }
-{
-    let mut lives = Vec::with_capacity(alloc, count)?;
-    for _ in 0..count {
-        lives.push(Life::new(alloc))?;
-    }
-    Ok(lives)
-}
-
-/// Each life goes on with what its thread does after the entries of the core, from one moment (ns) to another. Where no time
-/// passes between them nothing changes, whatever the threads do. `NoMemory` comes where memory runs out.
-pub fn lengthen(lives: &mut Vec<Life>, core: &Core, from: Nanos, to: Nanos) -> Result<(), NoMemory>
-    requires { length lives.old.items ≤ 1024 }
-    ensures { OnOk result (AreLonger (state_of core.now) from to lives.old.items lives.new.items) }
-{
-    if from >= to {
-        return Ok(());
-    }
-    for x in 0..lives.len() {
-        let doing = doing_of(core, ThreadId::at(x));
-        lives[x].add(Segment { from, to, doing })?;
-    }
-    Ok(())
 }
 
 /// The core makes the step of which this is the entry.

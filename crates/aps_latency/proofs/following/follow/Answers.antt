@@ -26,7 +26,7 @@ loop-e-init c =
     let again : length c.threads-2.result.now ≡ length scenario.threads = ap (λ (rows : List ThreadRow). length rows) c.threads-2.ensures.same in
     record {
       core = ap with_entries c.requires.begins ∙ ap with_scenario c.requires.scenario;
-      lives = lives_none scenario c.in_ok-lives.lives.items (c.in_ok-lives.ensures ∙ ap (λ n. replicate n []) threads);
+      lives = lives_none scenario c.in_ok-lives.lives (c.in_ok-lives.ensures ∙ ap (λ n. replicate n []) threads);
       calls = all_none scenario c.in_ok-calls.calls.items (c.in_ok-calls.ensures ∙ ap (λ n. replicate n no_calls) again);
       moment = refl;
     }
@@ -66,8 +66,8 @@ loop-e-preserved c =
     let e = c.e-item.result in
     let i = c.loop-e.e-index in
     let here = take i h in
-    let lives = c.loop-e.lives.items in
-    let longer_lives = c.lengthen.new.lives.items in
+    let lives = c.loop-e.lives in
+    let longer_lives = c.lengthen.new.self in
     let calls = c.loop-e.calls.items in
     let longer_calls = c.add_news.new.calls.items in
     let next = one_more h i e c.loop-e-test.true (sym c.e-item.is) in
@@ -88,6 +88,7 @@ pub returns : goal.returns
 returns c =
     let whole = take_all c.loop-e.e-index c.args.entries.now (omega arith) in
     record {
-      lives = subst (λ g. AreLives c.args.scenario.now g c.loop-e.lives.items) whole c.loop-e.invariant.lives;
+      lives = subst (λ l. AreLives c.args.scenario.now c.args.entries.now l) (sym c.in_ok-into_lives.ensures)
+          (subst (λ g. AreLives c.args.scenario.now g c.loop-e.lives) whole c.loop-e.invariant.lives);
       calls = subst (λ g. AreCalls c.args.scenario.now g c.loop-e.calls.items) whole c.loop-e.invariant.calls;
     }

@@ -8,7 +8,7 @@ use Rattle.aps_latency.proofs.following.follow.Given as goal
 abbrev pub invariant-loop-e : goal.invariant-loop-e
 invariant-loop-e l = record {
   core : l.core ≡ front l.scenario l.fn.core.setup.order l.fn.core.setup.limit l.entries l.e-index;
-  lives : AreLives l.scenario (take l.e-index l.entries) l.lives.items;
+  lives : AreLives l.scenario (take l.e-index l.entries) l.lives;
   calls : AreCalls l.scenario (take l.e-index l.entries) l.calls.items;
   moment : l.moment ≡ moment (take l.e-index l.entries);
 }

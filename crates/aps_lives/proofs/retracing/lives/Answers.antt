@@ -19,7 +19,7 @@ loop-e-init c =
     ap (λ (rows : List ThreadRow). length rows) (c.threads.ensures.same ∙ ap (λ (s : Scenario). s.threads) c.scenario-scenario.ensures) in
     record {
       core = c.in_ok-core.ensures ∙ ap begun (c.in_ok-copy.ensures ∙ c.scenario-scenario.ensures);
-      lives = lives_none c.args.history.now.scenario c.in_ok-lives.lives.items (c.in_ok-lives.ensures ∙ ap (λ n. replicate n []) threads);
+      lives = lives_none c.args.history.now.scenario c.in_ok-lives.lives (c.in_ok-lives.ensures ∙ ap (λ n. replicate n []) threads);
       moment = refl;
     }
 
@@ -27,7 +27,7 @@ pub lengthen-requires : goal.lengthen-requires
 lengthen-requires c =
     let valid : IsScenario c.args.history.now.scenario = subst IsScenario c.scenario-scenario.ensures c.threads.ensures.valid in
     let few : length c.args.history.now.scenario.threads ≤ 1024 = valid.few_threads in
-    let count : length c.loop-e.lives.items ≡ length c.args.history.now.scenario.threads = c.loop-e.invariant.lives.count in
+    let count : length c.loop-e.lives ≡ length c.args.history.now.scenario.threads = c.loop-e.invariant.lives.count in
     omega (arith, few, count)
 
 pub retrace-requires-clause-exists : goal.retrace-requires-clause-exists
@@ -53,8 +53,8 @@ loop-e-preserved c =
     let h = c.entries-entries.result.now in
     let e = c.e-item.result in
     let here = take c.loop-e.e-index h in
-    let before = c.loop-e.lives.items in
-    let after = c.lengthen.new.lives.items in
+    let before = c.loop-e.lives in
+    let after = c.lengthen.new.self in
     let next = one_more h c.loop-e.e-index e c.loop-e-test.true (sym c.e-item.is) in
     let Longer : Run → ℕ → Type 0 = λ run m. AreLonger (state_of run) m e.to before after in
     let longer : Longer (front scenario c.args.order c.max-limit.result h c.loop-e.e-index) (moment here) =
@@ -69,4 +69,7 @@ loop-e-preserved c =
 pub returns : goal.returns
 returns c =
     let scenario = c.args.history.now.scenario in
-    subst (λ g. AreLives scenario g c.loop-e.lives.items) (take_all c.loop-e.e-index c.entries-entries.result.now (omega arith) ∙ c.entries-entries.ensures.same) c.loop-e.invariant.lives
+    let entries = c.args.history.now.entries in
+    let all : AreLives scenario entries c.loop-e.lives =
+    subst (λ g. AreLives scenario g c.loop-e.lives) (take_all c.loop-e.e-index c.entries-entries.result.now (omega arith) ∙ c.entries-entries.ensures.same) c.loop-e.invariant.lives in
+    subst (λ l. AreLives scenario entries l) (sym c.in_ok-lives-2.ensures) all

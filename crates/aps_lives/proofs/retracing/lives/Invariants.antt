@@ -7,6 +7,6 @@ use Rattle.aps_lives.proofs.retracing.lives.Given as goal
 abbrev pub invariant-loop-e : goal.invariant-loop-e
 invariant-loop-e l = record {
   core : l.core ≡ front l.history.scenario l.fn.order l.limit l.entries l.e-index;
-  lives : AreLives l.history.scenario (take l.e-index l.entries) l.lives.items;
+  lives : AreLives l.history.scenario (take l.e-index l.entries) l.lives;
   moment : l.moment ≡ moment (take l.e-index l.entries);
 }
