@@ -1,6 +1,6 @@
 use Rattle.std.proofs.Common.{◌≡◌, ◌∙◌, ap, map, replicate, arith}
 use Rattle.aps_ready.specs.Ready.{seat_of}
-use Rattle.aps_ready.proofs.Drawn.{drawn_replicate}
+use Rattle.aps_ready.proofs.BracketLaws.{drawn_replicate}
 use Rattle.aps_ready.proofs.Topped.{topped_replicate}
 use Rattle.aps_ready.proofs.Queued.{queued_replicate, replicate_seats}
 use Rattle.aps_ready.specs.Entrant.{vacant}
