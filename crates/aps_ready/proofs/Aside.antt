@@ -1,4 +1,4 @@
-use Rattle.std.proofs.Common.{◌≡◌, ◌≢◌, ◌⊎◌, inl, inr, ℕ, ◌<◌, ◌≤◌, Bool, true, false, cond, nat_lt, List, length, map, set, refl, sym, ◌∙◌, ap, subst, arith, length-set, get_or-set_same, get_or-set_other}
+use Rattle.std.proofs.Common.{◌≡◌, ◌≢◌, ◌⊎◌, inl, inr, ℕ, ◌<◌, ◌≤◌, Bool, true, false, cond, nat_lt, List, length, set, refl, sym, ◌∙◌, ap, subst, arith, length-set, get_or-set_same, get_or-set_other}
 use Rattle.std.proofs.lemmas.Bool.{cases_eq}
 use Rattle.std.proofs.lemmas.Bool.Decides.{nat_tests}
 use Rattle.std.proofs.lemmas.List.{set-set, set_comm, set-get_or, get_or_past, length-map}
@@ -160,6 +160,12 @@ left_aside row aside brackets x new but g same is =
       own = λ h. absurd (omega (arith, h));
       rest = subst (λ (l : List Entrant). AreDrawn l brackets) (rest_some row aside g ∙ ap (λ (i : ℕ). set row i vacant) same) but.rest;
     })
+
+pub none_aside : (row : List Entrant) (brackets : List (List Entrant)) (e : Entrant) → e ≡ vacant → AreDrawn row brackets → IsDrawnBut row e brackets
+none_aside row brackets e is drawn = subst (λ (f : Entrant). IsDrawnBut row f brackets) (sym is) (record {
+  own = λ h. absurd (omega (arith, h));
+  rest = drawn;
+})
 
 -- somebody comes and stands aside
 pub put_aside : (row : List Entrant) (brackets : List (List Entrant)) (x : ℕ) (e : Entrant) → AreDrawn row brackets → x < length row

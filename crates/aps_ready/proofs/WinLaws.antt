@@ -1,5 +1,6 @@
-use Rattle.std.proofs.Common.{◌≡◌, ◌⊎◌, inl, inr, ℕ, ◌%◌, ◌<◌, ◌≤◌, Bool, true, false, cond, ◌&&◌, ◌||◌, not, nat_lt, List, length, map, Option, Some, None, refl, sym, ◌∙◌, ap, subst, arith}
+use Rattle.std.proofs.Common.{◌≡◌, ◌≢◌, ◌⊎◌, inl, inr, ℕ, ◌%◌, ◌<◌, ◌≤◌, Bool, true, false, cond, ◌&&◌, ◌||◌, not, nat_lt, List, length, map, get_or, set, Option, Some, None, refl, sym, ◌∙◌, ap, subst, arith}
 use Rattle.std.proofs.lemmas.Bool.Decides.{nat_tests}
+use Rattle.std.proofs.lemmas.List.{length-map, map-set}
 use Rattle.aps_model.specs.declared.shape.Free.{Free}
 use Rattle.aps_model.specs.declared.merit.PartFacts.{PartFacts}
 use Rattle.aps_model.specs.declared.merit.Contender.{Contender}
@@ -20,7 +21,7 @@ use Rattle.aps_ready.proofs.Aside.{aside_or_rest, rest_length, rest_none, rest_t
 use Rattle.aps_ready.proofs.Content.{open_group}
 use Rattle.aps_ready.proofs.Queued.{queued_set, seat_in}
 use Rattle.aps_ready.proofs.Tops.{sits_level}
-use Rattle.aps_ready.proofs.Winner.{first_stands, second_stands, in_one, best_is_greatest, none_is_greatest}
+use Rattle.aps_ready.proofs.Winner.{first_stands, second_stands, in_one, best_is_greatest, none_is_greatest, place_by, thread_small}
 
 clash : (t : Bool) → t ≡ true → t ≡ false → ⊥
 clash t p q = cc
@@ -79,6 +80,12 @@ winner_contests free parts row best queued is_winner g = record {
   candidate = is_winner.open_here g;
 }
 
+pub nobody_seen : (e : Entrant) → 64 ≤ e.group → seat_of e ≡ None
+nobody_seen e none = ap (λ (t : Bool). cond t (Some (contender_of e)) None) (not_less e.group 64 none)
+  where
+    not_less : (a b : ℕ) → b ≤ a → nat_lt a b ≡ false
+    not_less a b h = grind (arith, nat_tests)
+
 -- the winner is the greatest candidate
 pub winner_is : (free : Free) (parts : List PartFacts) (row : List Entrant) (best : Entrant) → IsQueued row → IsWinner free parts row best
     → seat_of best ≡ greatest free parts (members (map seat_of row))
@@ -89,12 +96,6 @@ winner_is free parts row best queued is_winner = elim (below_or_not best.group 6
   where
     below_or_not : (a b : ℕ) → (a < b) ⊎ (b ≤ a)
     below_or_not a b = search arith
-
-    not_less : (a b : ℕ) → b ≤ a → nat_lt a b ≡ false
-    not_less a b h = grind (arith, nat_tests)
-
-    nobody_seen : (e : Entrant) → 64 ≤ e.group → seat_of e ≡ None
-    nobody_seen e none = ap (λ (t : Bool). cond t (Some (contender_of e)) None) (not_less e.group 64 none)
 
 pub queued_rest : (row : List Entrant) (aside : Entrant) → (aside.group < 64 → entrant_at row aside.thread ≡ aside) → IsQueued row
     → IsQueued (rest_of row aside)
@@ -188,3 +189,76 @@ rest_wins free parts row aside best own is_winner h = record {
         let open_left : is_candidate_at parts e ≡ true = ap (is_candidate_at parts) (sym left) ∙ here in
         let below = is_winner.others x (within_row (rest_of row aside) x e refl (open_group parts e open_left)) open_left in
         (below.0, ap (λ (f : Entrant). is_above free parts f best) left ∙ below.1)
+
+-- ---- by what a look at the brackets found
+
+-- who was found is the winner of the rest
+pub record IsLook (free : Free) (parts : List PartFacts) (row : List Entrant) (aside : Entrant) (best : Entrant) (seats : List (Option Contender)) : Type 0 where
+  pub own : aside.group < 64 → entrant_at row aside.thread ≡ aside
+  pub few : length row ≤ 1024
+  pub queued : IsQueued row
+  pub view : map seat_of row ≡ seats
+  pub rest : IsWinner free parts (rest_of row aside) best
+
+pub looked : (free : Free) (parts : List PartFacts) (row : List Entrant) (aside : Entrant) (brackets seen : List (List Entrant)) (best : Entrant)
+    (seats : List (Option Contender)) → IsDrawnBut row aside brackets → IsQueued row → map seat_of row ≡ seats → seen ≡ brackets
+    → ((row : List Entrant) → AreDrawn row seen → IsQueued row → IsWinner free parts row best)
+    → IsLook free parts row aside best seats
+looked free parts row aside brackets seen best seats but queued view same is_winner = record {
+  own = but.own;
+  few = omega (arith, but.rest.few, rest_length row aside);
+  queued = queued;
+  view = view;
+  rest = is_winner (rest_of row aside) (subst (AreDrawn (rest_of row aside)) (sym same) but.rest) (queued_rest row aside but.own queued);
+}
+
+pub found_contests : (free : Free) (parts : List PartFacts) (row : List Entrant) (aside best : Entrant) (seats : List (Option Contender))
+    → IsLook free parts row aside best seats → best.group < 64 → IsContestant parts best
+found_contests free parts row aside best seats look g =
+    winner_contests free parts (rest_of row aside) best (queued_rest row aside look.own look.queued) look.rest g
+
+pub found_few : (free : Free) (parts : List PartFacts) (row : List Entrant) (aside best : Entrant) (seats : List (Option Contender))
+    → IsLook free parts row aside best seats → best.group < 64 → best.thread ≤ 1023
+found_few free parts row aside best seats look g =
+    thread_small (rest_of row aside) best (omega (arith, look.few, rest_length row aside)) (queued_rest row aside look.own look.queued) (look.rest.sits g) g
+
+-- the one who stands aside is out: who was found is the greatest of those left
+pub left_is : (free : Free) (parts : List PartFacts) (row : List Entrant) (aside best : Entrant) (seats : List (Option Contender))
+    → IsLook free parts row aside best seats → aside.group < 64 → seat_of best ≡ greatest free parts (members (set seats aside.thread None))
+left_is free parts row aside best seats look g =
+    winner_is free parts (rest_of row aside) best (queued_rest row aside look.own look.queued) look.rest
+    ∙ ap (λ (l : List (Option Contender)). greatest free parts (members l))
+    (ap (map seat_of) (rest_some row aside g) ∙ map-set seat_of row aside.thread vacant
+    ∙ ap (λ (l : List (Option Contender)). set l aside.thread None) look.view)
+
+-- ---- who is the greatest of all, and where
+
+pub record IsGreatestOf (free : Free) (parts : List PartFacts) (seats : List (Option Contender)) (e : Entrant) : Type 0 where
+  pub is : seat_of e ≡ greatest free parts (members seats)
+  pub few : e.group < 64 → e.thread ≤ 1023
+  pub inside : e.group < 64 → e.thread < length seats
+  pub present : e.group < 64 → get_or seats e.thread None ≢ None
+
+greatest_by : (free : Free) (parts : List PartFacts) (row : List Entrant) (e : Entrant) (seats : List (Option Contender)) → length row ≤ 1024
+    → IsQueued row → map seat_of row ≡ seats → IsWinner free parts row e → IsGreatestOf free parts seats e
+greatest_by free parts row e seats few queued view is_winner = record {
+  is = winner_is free parts row e queued is_winner ∙ ap (λ (l : List (Option Contender)). greatest free parts (members l)) view;
+  few = λ g. thread_small row e few queued (is_winner.sits g) g;
+  inside = λ g. omega (arith, (place_by row e e.thread queued (is_winner.sits g) g refl).within, length-map row seat_of, ap length view);
+  present = λ g.
+      subst (λ (l : List (Option Contender)). get_or l e.thread None ≢ None) view (place_by row e e.thread queued (is_winner.sits g) g refl).present;
+}
+
+pub aside_greatest : (free : Free) (parts : List PartFacts) (row : List Entrant) (aside best : Entrant) (seats : List (Option Contender))
+    → IsLook free parts row aside best seats → wins free parts aside best ≡ true → IsGreatestOf free parts seats aside
+aside_greatest free parts row aside best seats look won =
+    greatest_by free parts row aside seats look.few look.queued look.view (aside_wins free parts row aside best look.own look.rest won)
+
+pub found_greatest : (free : Free) (parts : List PartFacts) (row : List Entrant) (aside best : Entrant) (seats : List (Option Contender))
+    → IsLook free parts row aside best seats → wins free parts aside best ≡ false → IsGreatestOf free parts seats best
+found_greatest free parts row aside best seats look lost =
+    greatest_by free parts row best seats look.few look.queued look.view (rest_wins free parts row aside best look.own look.rest lost)
+
+pub winner_there : (free : Free) (parts : List PartFacts) (aside best : Entrant) → wins free parts aside best ≡ true → aside.group < 64
+winner_there free parts aside best won =
+    open_group parts aside (both (is_candidate_at parts aside) (not (nat_lt best.group 64) || is_above free parts aside best) won).0

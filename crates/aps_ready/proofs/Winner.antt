@@ -14,8 +14,7 @@ use Rattle.aps_levels.specs.Bits.{has}
 use Rattle.aps_ready.specs.declared.entrant.Entrant.{Entrant}
 use Rattle.aps_ready.specs.declared.gates.Gates.{Gates}
 use Rattle.aps_ready.specs.Entrant.{entrant_at, goes_before}
-use Rattle.aps_ready.specs.Ready.{members, facts_of, contender_of, seat_of, AreDrawn, IsQueued}
-use Rattle.aps_ready.specs.Topped.{AreTopped}
+use Rattle.aps_ready.specs.Ready.{members, facts_of, contender_of, seat_of, IsQueued}
 use Rattle.aps_ready.specs.Gates.{is_first, is_open, AreGates}
 use Rattle.aps_ready.specs.Index.{level_of, AreLeast, AreEmpty}
 use Rattle.aps_ready.specs.Likely.{AreOccupied, AreLikely}

@@ -8,7 +8,7 @@ ghost use Rattle.aps_levels.specs.Bits.{has};
 ghost use Rattle.aps_ready.specs.Entrant.{vacant};
 ghost use Rattle.aps_ready.specs.Gates.{AreGates};
 ghost use Rattle.aps_ready.specs.Index.{level_of};
-ghost use Rattle.aps_ready.specs.Ready.{members, seat_of, without, IsFree, with_facts};
+ghost use Rattle.aps_ready.specs.Ready.{contender_of, members, seat_of, without, IsFree, with_facts};
 ghost use Rattle.aps_ready.specs.Small.{IsSmall};
 
 use crate::bracket::Bracket;
@@ -177,25 +177,39 @@ impl Ready {
         ensures left { result.left ≡ greatest free parts.now (members self.new) }
     {
         let found = look(&self.brackets, &self.index, gates, parts, free);
-        let is_aside = wins(gates, parts, free, &self.aside, &found);
-        let picked = if is_aside { self.aside } else { found };
-        if picked.group >= 64 {
+        let aside = self.aside;
+        if wins(gates, parts, free, &aside, &found) {
+            return Drawn {
+                picked: self.pop(&aside),
+                left: known(&found),
+            };
+        }
+        if found.group >= 64 {
             return Drawn {
                 picked: None,
                 left: None,
             };
         }
-        let x = ThreadId::at(picked.thread as usize);
-        self.take(x);
-        let left = if is_aside {
-            found
-        } else {
-            self.greatest(gates, parts, free)
-        };
+        let picked = self.pop(&found);
+        let left = self.greatest(gates, parts, free);
         Drawn {
-            picked: seat_of(&picked, x),
+            picked,
             left: known(&left),
         }
+    }
+
+    /// Takes somebody out, and tells what is known of it.
+    fn pop(&mut self, one: &Entrant) -> Option<Contender>
+        requires group { one.now.group < 64 }
+        requires thread { one.now.thread ≤ 1023 }
+        requires inside { one.now.thread < length self.old }
+        requires present { slice_index_or self.old one.now.thread None ≢ None }
+        ensures picked { result ≡ Some (contender_of one.now) }
+        ensures out { self.new ≡ slice_set self.old one.now.thread None }
+    {
+        let x = ThreadId::at(one.thread as usize);
+        self.take(x);
+        seat_of(one, x)
     }
 
     /// The greatest candidate of those in the brackets and the one who stands aside; nobody where there is none.
@@ -228,10 +242,8 @@ impl Ready {
     pub fn missing_by(&self, gates: Gates) -> Option<PartitionId>
         ensures { (parts : List PartFacts) → AreGates parts gates → length parts ≤ 32 → result ≡ missing parts (members self.now) }
     {
-        let groups = gates
-            .first
-            .join(gates.second)
-            .meet(occupied(&self.index, &self.aside));
+        let occupied = occupied(&self.index, &self.aside);
+        let groups = gates.first.join(gates.second).meet(occupied);
         let starved = gates.budgeted.minus(groups.join(groups.upper_half()));
         match starved.least() {
             Some(p) if p < PARTITIONS => Some(PartitionId::at(p)),
