@@ -1,5 +1,5 @@
 -- The pick of a step, by what the code's parts compute.
-use Rattle.std.proofs.Common.{◌≡◌, ℕ, ◌/◌, ◌++◌, List, [], ◌∷◌, refl, Option}
+use Rattle.std.proofs.Common.{◌≡◌, ℕ, ◌/◌, ◌++◌, List, [], ◌∷◌, refl, Option, None}
 use Rattle.std.specs.Option.{option_map}
 use Rattle.aps_model.specs.declared.entry.Entry.{Entry}
 use Rattle.aps_model.specs.declared.merit.Contender.{Contender}
