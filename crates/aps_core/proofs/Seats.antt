@@ -1,26 +1,23 @@
 -- Who sits in the queues of ready threads, and who should.
-use Rattle.std.proofs.Common.{◌≡◌, ◌≢◌, inl, inr, ℕ, ◌<◌, ◌≤◌, Bool, true, false, cond, List, [], ◌∷◌, length, map, get_or, set, Option, Some, None, IfSome, refl, sym, ◌∙◌, ap, subst, arith, length-set, get_or-set_same, get_or-set_other}
+use Rattle.std.proofs.Common.{◌≡◌, ◌≢◌, inl, inr, ℕ, ◌<◌, ◌≤◌, Bool, true, false, cond, List, [], ◌∷◌, length, map, get_or, set, Option, Some, None, refl, sym, ◌∙◌, ap, arith, length-set, get_or-set_same, get_or-set_other}
 use Rattle.std.specs.List.{filter, range_with_len}
-use Rattle.std.specs.Option.{option_map}
 use Rattle.std.proofs.lemmas.Bool.{cases_eq, cases_lt}
 use Rattle.std.proofs.lemmas.List.{map-set, set-get_or, get_or_past}
 use Rattle.std.proofs.lemmas.List.FromFn.{fill_by_all, get_or-map-range_with_len, length-map-range_with_len}
 use Rattle.aps_model.specs.declared.merit.Contender.{Contender}
 use Rattle.aps_model.specs.declared.merit.PartFacts.{PartFacts}
-use Rattle.aps_model.specs.declared.shape.Free.{Free}
 use Rattle.aps_model.specs.declared.state.Facts.{Facts}
-use Rattle.aps_model.specs.declared.state.State.TheVariants.{Ready, Running, Gone}
+use Rattle.aps_model.specs.declared.state.State.TheVariants.{Running}
 use Rattle.aps_model.specs.declared.state.ThreadNow.{ThreadNow}
 use Rattle.aps_model.specs.Flag.{with_flag}
 use Rattle.aps_model.specs.Inherit.{facts_of, inherited, inheritance_of}
-use Rattle.aps_model.specs.Pick.{contender_of, contenders, greatest, is_ready}
+use Rattle.aps_model.specs.Pick.{contender_of, contenders, is_ready}
 use Rattle.aps_model.specs.SchedulerState.{SchedulerState, no_facts, no_thread, thread_at, with_thread}
 use Rattle.aps_model.specs.Step.{chosen}
 use Rattle.aps_laws.proofs.Chains.{own_at}
-use Rattle.aps_laws.proofs.Picked.{greatest_ready}
-use Rattle.aps_laws.proofs.ThreadFacts.{set_same, set_other, within}
-use Rattle.aps_ready.specs.Ready.{members}
-use Rattle.aps_core.specs.Seats.{seat_at, seats_of, who_at, without}
+use Rattle.aps_laws.proofs.ThreadFacts.{set_same, set_other}
+use Rattle.aps_ready.specs.Ready.{members, without}
+use Rattle.aps_core.specs.Seats.{seat_at, seats_of, who_at}
 
 -- ---- the seats of a state
 
@@ -54,60 +51,6 @@ who_seats s x = elim (cases_lt x (length s.threads)) [
 pub seats_by : (s : SchedulerState) (seats : List (Option Contender)) → length seats ≡ length s.threads → ((y : ℕ) → y < length s.threads → who_at seats y ≡ seat_at s y) → seats ≡ seats_of s
 seats_by s seats count each = fill_by_all (seat_at s) seats (length s.threads) None count each
 
--- ---- the greatest
-
--- who is found is the greatest of the ready threads
-pub greatest_at : (s : SchedulerState) (free : Free) (parts : List PartFacts) (seats : List (Option Contender)) (x : ℕ)
-    → seats ≡ seats_of s → Some x ≡ option_map (λ (c : Contender). c.thread) (greatest free parts (members seats)) → who_at seats x ≡ greatest free parts (contenders s)
-greatest_at s free parts seats x are found =
-    by_best (greatest free parts (contenders s)) refl (found ∙ ap (λ cs. option_map (λ (c : Contender). c.thread) (greatest free parts cs)) (ap members are ∙ members_seats s))
-  where
-    some_number : (a b : ℕ) → Some a ≡ Some b → a ≡ b
-    some_number a b e = cc
-
-    by_best : (best : Option Contender) → greatest free parts (contenders s) ≡ best → Some x ≡ option_map (λ (c : Contender). c.thread) best → who_at seats x ≡ best
-    by_best None is e = absurd cc
-    by_best (Some b) is e =
-        let best = greatest_ready s free parts b is in
-        ap (λ (l : List (Option Contender)). who_at l x) are ∙ who_seats s x ∙ ap (seat_at s) (some_number x b.thread e)
-        ∙ ap (λ st. cond (is_ready st) (Some (contender_of s b.thread)) None) best.ready ∙ ap (λ (c : Contender). Some c) (sym best.same)
-
-pub greatest_none : (s : SchedulerState) (free : Free) (parts : List PartFacts) (seats : List (Option Contender))
-    → seats ≡ seats_of s → None ≡ option_map (λ (c : Contender). c.thread) (greatest free parts (members seats)) → None ≡ greatest free parts (contenders s)
-greatest_none s free parts seats are found =
-    by_best (greatest free parts (contenders s)) (found ∙ ap (λ cs. option_map (λ (c : Contender). c.thread) (greatest free parts cs)) (ap members are ∙ members_seats s))
-  where
-    by_best : (best : Option Contender) → None ≡ option_map (λ (c : Contender). c.thread) best → None ≡ best
-    by_best None e = refl
-    by_best (Some b) e = absurd cc
-
--- the picked thread is in
-pub record IsIn (seats : List (Option Contender)) (x : ℕ) : Type 0 where
-  pub inside : x < length seats
-  pub present : who_at seats x ≢ None
-
-pub picked_in : (s : SchedulerState) (free : Free) (parts : List PartFacts) (seats : List (Option Contender)) (best : Option Contender) (picked : Option ℕ)
-    → seats ≡ seats_of s → best ≡ greatest free parts (contenders s) → picked ≡ option_map (λ (b : Contender). b.thread) best → IfSome picked (IsIn seats)
-picked_in s free parts seats best picked are is from = subst (λ o. IfSome o (IsIn seats)) (sym from) (by_best best is)
-  where
-    by_best : (best : Option Contender) → best ≡ greatest free parts (contenders s) → IfSome (option_map (λ (b : Contender). b.thread) best) (IsIn seats)
-    by_best None is = tt
-    by_best (Some b) is =
-        let found = greatest_ready s free parts b (sym is) in
-        let there : who_at seats b.thread ≡ Some (contender_of s b.thread) =
-        ap (λ (l : List (Option Contender)). who_at l b.thread) are ∙ who_seats s b.thread ∙ ap (λ st. cond (is_ready st) (Some (contender_of s b.thread)) None) found.ready in
-        let below : b.thread < length s.threads = within s.threads b.thread (λ g. gone (sym found.ready ∙ g)) in
-        record {
-          inside = omega (arith, below, ap length are, seats_count s);
-          present = λ none. some_none (contender_of s b.thread) (sym there ∙ none);
-        }
-      where
-        gone : Ready ≡ Gone → ⊥
-        gone e = cc
-
-        some_none : (c : Contender) → Some c ≡ None → ⊥
-        some_none c e = cc
-
 -- ---- one thread changes
 
 -- own values that stay
@@ -133,11 +76,11 @@ seat_stays s x y t other same =
     ∙ ap (λ (u : ThreadNow). seat_from (is_ready u.state) y (facts_of s y) u.stamp) there
 
 -- after the pick those who were in are, but for the picked thread
-pub chosen_seats : (s : SchedulerState) (parts : List PartFacts) (c : ℕ) (best : Option Contender) (picked : Option ℕ) (seats : List (Option Contender))
-    → seats ≡ seats_of s → picked ≡ option_map (λ (b : Contender). b.thread) best → without picked seats ≡ seats_of (chosen s parts c best)
-chosen_seats s parts c best picked seats are from = ap (λ o. without o seats) from ∙ by_best best
+pub chosen_seats : (s : SchedulerState) (parts : List PartFacts) (c : ℕ) (best : Option Contender) (seats : List (Option Contender))
+    → seats ≡ seats_of s → without best seats ≡ seats_of (chosen s parts c best)
+chosen_seats s parts c best seats are = by_best best
   where
-    by_best : (best : Option Contender) → without (option_map (λ (b : Contender). b.thread) best) seats ≡ seats_of (chosen s parts c best)
+    by_best : (best : Option Contender) → without best seats ≡ seats_of (chosen s parts c best)
     by_best None = are
     by_best (Some b) =
         let x = b.thread in
@@ -158,10 +101,6 @@ chosen_seats s parts c best picked seats are from = ap (λ o. without o seats) f
 pub flagged_seats : (s : SchedulerState) (now : ℕ) (o : Option ℕ) → seats_of (with_flag s now o) ≡ seats_of s
 flagged_seats s now None = refl
 flagged_seats s now (Some d) = refl
-
-pub if_some : {A : Type 0} {P Q : A → Type 0} (o : Option A) → ((x : A) → P x → Q x) → IfSome o P → IfSome o Q
-if_some None more p = tt
-if_some (Some x) more p = more x p
 
 -- ---- the tie read by its parts
 

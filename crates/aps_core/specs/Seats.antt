@@ -1,5 +1,5 @@
 -- The ready threads of a state, each in the place of its number.
-use Rattle.std.specs.Prelude.{◌≡◌, ◌⊎◌, ℕ, List, length, map, slice_index_or, slice_set, if◌then◌else◌, Option, Some, None}
+use Rattle.std.specs.Prelude.{◌≡◌, ◌⊎◌, ℕ, List, length, map, slice_index_or, if◌then◌else◌, Option, Some, None}
 use Rattle.std.specs.List.{range_with_len}
 use Rattle.aps_model.specs.declared.merit.Contender.{Contender}
 use Rattle.aps_model.specs.Pick.{contender_of, is_ready}
@@ -24,8 +24,3 @@ IsRight s seats x = who_at seats x ≡ seat_at s x
 -- nobody is in there, or who should be
 abbrev pub IsSeated : SchedulerState → List (Option Contender) → ℕ → Type 0
 IsSeated s seats x = (who_at seats x ≡ None) ⊎ IsRight s seats x
-
--- the same, with this thread out, if there is one
-abbrev pub without : Option ℕ → List (Option Contender) → List (Option Contender)
-without None seats = seats
-without (Some x) seats = slice_set seats x None

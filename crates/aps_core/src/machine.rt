@@ -160,12 +160,10 @@ impl Machine {
         let parts = standing.parts();
         let gates = standing.gates();
         let starved = ready.missing_by(gates);
-        let best = self.greatest(ready, gates, parts);
-        let picked = thread_of(&best);
-        self.choose(parts, cpu, best);
-        seats::take_picked(ready, &picked);
-        let left = self.greatest(ready, gates, parts);
-        let flagged = self.flag_for(entries, dues, parts, cpu, now, &left);
+        let drawn = ready.draw(gates, parts, self.shape.free);
+        let picked = thread_of(&drawn.picked);
+        self.choose(parts, cpu, drawn.picked);
+        let flagged = self.flag_for(entries, dues, parts, cpu, now, &drawn.left);
         self.flag(now, &flagged);
         Entry {
             picked,

@@ -11,7 +11,8 @@ use Rattle.aps_model.proofs.MeritOrder.{greater_order}
 use Rattle.aps_ready.specs.declared.entrant.Entrant.{Entrant}
 use Rattle.aps_ready.specs.Entrant.{goes_before}
 use Rattle.aps_ready.specs.Ready.{facts_of, contender_of}
-use Rattle.aps_ready.specs.Choice.{ahead_by, is_ahead}
+use Rattle.aps_ready.specs.Choice.{ahead_by, is_ahead, is_ahead_by_level}
+use Rattle.aps_ready.specs.Winner.{is_above}
 
 -- ---- tests of numbers
 
@@ -100,9 +101,6 @@ ahead_in_group parts a b same =
 
 -- ---- merits
 
-abbrev pub is_above : Free → List PartFacts → Entrant → Entrant → Bool
-is_above free parts a b = is_greater free (merit_among parts (contender_of a)) (merit_among parts (contender_of b))
-
 abbrev pub class_at : List PartFacts → Entrant → ℕ
 class_at parts e = class_of (facts_of e) (part_at parts (e.group % 32))
 
@@ -132,21 +130,30 @@ before_tie : (a b : Entrant) → a.level ≡ b.level → goes_before a b ≡ nat
 before_tie a b same =
     rw (not_less a.level b.level (omega (arith, same)), equal a.level b.level same) refl
 
-pub above_tie : (free : Free) (parts : List PartFacts) (a b : Entrant) (k : ℕ) → class_at parts a ≡ k → class_at parts b ≡ k
-    → a.level ≡ b.level → is_ahead parts a b ≡ false → is_above free parts a b ≡ false
-above_tie free parts a b k h i same behind =
+-- of one class and one level the fraction and the stamp decide
+pub above_at_level : (free : Free) (parts : List PartFacts) (a b : Entrant) (k : ℕ) → class_at parts a ≡ k → class_at parts b ≡ k
+    → a.level ≡ b.level → is_above free parts a b ≡ is_ahead parts a b
+above_at_level free parts a b k h i same =
     let u = part_of parts a in
     let v = part_of parts b in
     with_classes free parts a b k k h i
     ∙ ap (λ (l : ℕ). is_greater free (numbers k (255 - l) u.used u.budget a.stamp) (of_class k parts b)) same
     ∙ tie free k (255 - b.level) u.used u.budget a.stamp v.used v.budget b.stamp
     ∙ ap (ahead_by u v) (sym (before_tie a b same))
-    ∙ behind
+
+pub above_tie : (free : Free) (parts : List PartFacts) (a b : Entrant) (k : ℕ) → class_at parts a ≡ k → class_at parts b ≡ k
+    → a.level ≡ b.level → is_ahead parts a b ≡ false → is_above free parts a b ≡ false
+above_tie free parts a b k h i same behind = above_at_level free parts a b k h i same ∙ behind
+
+-- of class 0, where free time goes by ratio, the level comes after the fraction
+pub above_second_by_ratio : (parts : List PartFacts) (a b : Entrant) → class_at parts a ≡ 0 → class_at parts b ≡ 0
+    → a.level ≤ 255 → b.level ≤ 255 → is_above Ratio parts a b ≡ is_ahead parts a b
+above_second_by_ratio parts a b h i a_small b_small = with_classes Ratio parts a b 0 0 h i ∙ sym (ahead_is parts a b a_small b_small)
 
 pub above_by_ratio : (parts : List PartFacts) (a b : Entrant) → class_at parts a ≡ 0 → class_at parts b ≡ 0
     → a.level ≤ 255 → b.level ≤ 255 → is_ahead parts a b ≡ false → is_above Ratio parts a b ≡ false
 above_by_ratio parts a b h i a_small b_small behind =
-    with_classes Ratio parts a b 0 0 h i ∙ sym (ahead_is parts a b a_small b_small) ∙ behind
+    above_second_by_ratio parts a b h i a_small b_small ∙ behind
 
 lower : (k pa pb : ℕ) (rest : Bool) → pa < pb → greater_first k k (greater_first pa pb rest) ≡ false
 lower k pa pb rest low = rw (not_less k k (omega arith), not_less pb pa (omega (arith, low)), less pa pb low) refl
@@ -167,3 +174,58 @@ pub above_class : (free : Free) (parts : List PartFacts) (a b : Entrant) → cla
     → is_above free parts a b ≡ false
 above_class Priority parts a b h i = with_classes Priority parts a b 0 1 h i ∙ refl
 above_class Ratio parts a b h i = with_classes Ratio parts a b 0 1 h i ∙ refl
+
+pub above_first : (free : Free) (parts : List PartFacts) (a b : Entrant) → class_at parts a ≡ 1 → class_at parts b ≡ 0
+    → is_above free parts a b ≡ true
+above_first Priority parts a b h i = with_classes Priority parts a b 1 0 h i ∙ refl
+above_first Ratio parts a b h i = with_classes Ratio parts a b 1 0 h i ∙ refl
+
+-- ---- the level comes first
+
+higher : (k pa pb : ℕ) (rest : Bool) → pb < pa → greater_first k k (greater_first pa pb rest) ≡ true
+higher k pa pb rest high = rw (not_less k k (omega arith), less pb pa high) refl
+
+-- what is so of the lower and of the higher level, and where they are equal, is so by level
+by_levels : (parts : List PartFacts) (a b : Entrant) (above : Bool) → (a.level ≡ b.level → above ≡ is_ahead parts a b)
+    → (a.level < b.level → above ≡ true) → (b.level < a.level → above ≡ false) → above ≡ is_ahead_by_level parts a b
+by_levels parts a b above same low high = elim (below_or_not a.level b.level) [
+  | inl below ↦
+      low below ∙ sym (ap (λ (t : Bool). cond t (is_ahead parts a b) (nat_lt a.level b.level)) (not_equal a.level b.level (λ e. omega (arith, e, below)))
+      ∙ less a.level b.level below)
+  | inr least ↦ elim (below_or_not b.level a.level) [
+    | inl over ↦
+        high over ∙ sym (ap (λ (t : Bool). cond t (is_ahead parts a b) (nat_lt a.level b.level)) (not_equal a.level b.level (λ e. omega (arith, e, over)))
+        ∙ not_less a.level b.level least)
+    | inr most ↦
+        let e : a.level ≡ b.level = omega (arith, least, most) in
+        same e ∙ sym (ap (λ (t : Bool). cond t (is_ahead parts a b) (nat_lt a.level b.level)) (equal a.level b.level e))
+  ]
+]
+
+pub above_first_by_level : (free : Free) (parts : List PartFacts) (a b : Entrant) → class_at parts a ≡ 1 → class_at parts b ≡ 1
+    → a.level ≤ 255 → b.level ≤ 255 → is_above free parts a b ≡ is_ahead_by_level parts a b
+above_first_by_level free parts a b h i a_small b_small =
+    by_levels parts a b (is_above free parts a b) (above_at_level free parts a b 1 h i)
+    (λ low. above_higher free (omega (arith, low, b_small)))
+    (λ high. above_lower_first free parts a b h i high a_small)
+  where
+    above_higher : (free : Free) → 255 - b.level < 255 - a.level → is_above free parts a b ≡ true
+    above_higher Priority high = with_classes Priority parts a b 1 1 h i ∙ higher 1 (255 - a.level) (255 - b.level) _ high
+    above_higher Ratio high = with_classes Ratio parts a b 1 1 h i ∙ higher 1 (255 - a.level) (255 - b.level) _ high
+
+pub above_second_by_level : (parts : List PartFacts) (a b : Entrant) → class_at parts a ≡ 0 → class_at parts b ≡ 0
+    → a.level ≤ 255 → b.level ≤ 255 → is_above Priority parts a b ≡ is_ahead_by_level parts a b
+above_second_by_level parts a b h i a_small b_small =
+    by_levels parts a b (is_above Priority parts a b) (above_at_level Priority parts a b 0 h i)
+    (λ low. with_classes Priority parts a b 0 0 h i ∙ higher 0 (255 - a.level) (255 - b.level) _ (omega (arith, low, b_small)))
+    (λ high. above_lower_second parts a b h i high a_small)
+
+-- ---- nobody is above whoever isn't below
+
+pub above_one_way : (free : Free) (parts : List PartFacts) (a b : Entrant) → is_above free parts a b ≡ true → is_above free parts b a ≡ false
+above_one_way free parts a b h = (greater_order free).one_way (merit_among parts (contender_of a)) (merit_among parts (contender_of b)) h
+
+pub above_chain : (free : Free) (parts : List PartFacts) (a b c : Entrant) → is_above free parts a b ≡ false → is_above free parts b c ≡ false
+    → is_above free parts a c ≡ false
+above_chain free parts a b c h i =
+    (greater_order free).chain (merit_among parts (contender_of a)) (merit_among parts (contender_of b)) (merit_among parts (contender_of c)) h i

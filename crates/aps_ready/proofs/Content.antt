@@ -10,12 +10,9 @@ use Rattle.aps_model.specs.Budget.{part_at}
 use Rattle.aps_model.specs.Pick.{candidates}
 use Rattle.aps_ready.specs.declared.entrant.Entrant.{Entrant}
 use Rattle.aps_ready.specs.Ready.{members, contender_of, facts_of, seat_of}
-use Rattle.aps_ready.proofs.Queued.{seat_at, seat_in}
 use Rattle.aps_ready.specs.Entrant.{entrant_at}
-
--- somebody is there, and is a candidate
-abbrev pub is_candidate_at : List PartFacts → Entrant → Bool
-is_candidate_at parts e = nat_lt e.group 64 && is_candidate (facts_of e) (part_at parts (e.group % 32))
+use Rattle.aps_ready.specs.Winner.{is_candidate_at}
+use Rattle.aps_ready.proofs.Queued.{seat_at, seat_in}
 
 -- the candidates of a row of seats are those who sit there and are candidates
 

@@ -1,5 +1,6 @@
 pub mod Played
-pub mod Drawn
+pub mod BracketLaws
+pub mod Aside
 pub mod Queued
 pub mod Topped
 pub mod IndexLaws
@@ -9,4 +10,5 @@ pub mod Tops
 pub mod Ahead
 pub mod Among
 pub mod Winner
+pub mod WinLaws
 pub mod Starved

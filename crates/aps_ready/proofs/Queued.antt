@@ -107,6 +107,39 @@ is_in e some = by_test (nat_lt e.group 64) refl
     by_test true h = grind (arith, nat_tests)
     by_test false h = absurd (some (ap (λ b. cond b (Some (contender_of e)) None) h))
 
+-- who isn't seen is out
+pub is_out : (e : Entrant) → seat_of e ≡ None → 64 ≤ e.group
+is_out e none = by_test (nat_lt e.group 64) refl
+  where
+    by_test : (t : Bool) → nat_lt e.group 64 ≡ t → 64 ≤ e.group
+    by_test false h = grind (arith, nat_tests)
+    by_test true h = absurd (some_none (contender_of e) (sym (ap (λ b. cond b (Some (contender_of e)) None) h) ∙ none))
+      where
+        some_none : (c : Contender) → Some c ≡ None → ⊥
+        some_none c p = cc
+
+-- the stamp of somebody who is taken out is free
+pub free_without : (row : List Entrant) (x stamp : ℕ) → IsQueued row → x < length row → (entrant_at row x).group < 64
+    → stamp ≡ (entrant_at row x).stamp → All (IsFree stamp) (set (map seat_of row) x None)
+free_without row x stamp queued within there is k d below = elim (cases_eq k x) [
+  | inl same ↦
+      subst (IsFree stamp) (sym (ap (λ (i : ℕ). get_or (set (map seat_of row) x None) i d) same
+      ∙ get_or-set_same (map seat_of row) x None d (omega (arith, within, length-map row seat_of)))) tt
+  | inr other ↦
+      subst (IsFree stamp) (sym (get_or-set_other (map seat_of row) x k None d other ∙ get_or-map seat_of row k vacant d inside))
+      (by_test (nat_lt (entrant_at row k).group 64) refl other)
+]
+  where
+    inside : k < length row
+    inside = omega (arith, below, length-set (map seat_of row) x None, length-map row seat_of)
+
+    by_test : (t : Bool) → nat_lt (entrant_at row k).group 64 ≡ t → k ≢ x
+        → IsFree stamp (cond t (Some (contender_of (entrant_at row k))) None)
+    by_test true h other =
+        let g : (entrant_at row k).group < 64 = grind (arith, nat_tests) in
+        λ same. other (queued.stamps k x inside within g there (same ∙ is))
+    by_test false h other = tt
+
 pub changed_seat : (e : Entrant) (x : ℕ) (facts : Facts) → e.group < 64 → e.thread ≡ x
     → Some (record { thread = x; facts = facts; stamp = e.stamp }) ≡ option_map (with_facts facts) (seat_of e)
 changed_seat e x facts g same = rw (seat_in e g, same) refl

@@ -1,4 +1,4 @@
-use Rattle.std.proofs.Common.{◌≡◌, ◌≢◌, ◌⊎◌, inl, inr, ℕ, zero, suc, ◌+◌, ◌%◌, ◌<◌, ◌≤◌, Bool, true, false, cond, ◌&&◌, ◌||◌, not, nat_eq, nat_lt, List, [], ◌∷◌, length, map, Option, Some, None, refl, sym, ◌∙◌, ap, arith}
+use Rattle.std.proofs.Common.{◌≡◌, ◌≢◌, ◌⊎◌, inl, inr, ℕ, zero, suc, ◌+◌, ◌%◌, ◌<◌, ◌≤◌, Bool, true, false, cond, ◌&&◌, ◌||◌, not, nat_eq, nat_lt, List, [], ◌∷◌, length, map, Option, Some, None, refl, sym, ◌∙◌, ap, subst, arith}
 use Rattle.std.specs.List.{Contains, find, range_with_len, list_any}
 use Rattle.std.specs.Option.{option_or}
 use Rattle.std.proofs.lemmas.Bool.{cases_eq}
@@ -15,11 +15,16 @@ use Rattle.aps_levels.specs.Bits.{has}
 use Rattle.aps_ready.specs.declared.entrant.Entrant.{Entrant}
 use Rattle.aps_ready.specs.declared.gates.Gates.{Gates}
 use Rattle.aps_ready.specs.Entrant.{entrant_at}
-use Rattle.aps_ready.specs.Ready.{members, contender_of, seat_of}
+use Rattle.aps_ready.specs.Aside.{rest_of, IsDrawnBut}
+use Rattle.aps_ready.specs.Ready.{members, contender_of, seat_of, IsQueued}
+use Rattle.aps_ready.specs.Topped.{AreTopped}
+use Rattle.aps_ready.specs.Winner.{is_candidate_at}
 use Rattle.aps_ready.specs.Gates.{AreGates}
 use Rattle.aps_ready.specs.Index.{level_of}
-use Rattle.aps_ready.proofs.Content.{is_candidate_at, open_group, open_among, all_candidates}
-use Rattle.aps_ready.proofs.Tops.{IsKept, Occupant, occupant, level_at_most}
+use Rattle.aps_ready.proofs.Content.{open_group, open_among, all_candidates}
+use Rattle.aps_ready.proofs.Aside.{aside_or_rest, rest_length, rest_there, within_row}
+use Rattle.aps_ready.proofs.WinLaws.{queued_rest}
+use Rattle.aps_ready.proofs.Tops.{IsKept, occupant, level_at_most}
 use Rattle.aps_ready.proofs.Winner.{first_stands, second_stands, in_one}
 
 -- ---- the first number of a range that does
@@ -75,34 +80,42 @@ one_of : (a b : Bool) → (a || b) ≡ true → (a ≡ true) ⊎ (b ≡ true)
 one_of true b h = inl refl
 one_of false b h = inr h
 
-is_below : (a b : ℕ) → nat_lt a b ≡ true → a < b
-is_below a b h = grind (arith, nat_tests)
+-- somebody is of the group
+record IsOf (row : List Entrant) (g : ℕ) : Type 0 where
+  place : ℕ
+  within : place < length row
+  group : (entrant_at row place).group ≡ g
+
+-- the groups that somebody is of
+pub record AreOccupied (row : List Entrant) (some : Bits64) : Type 0 where
+  who : (g : ℕ) → g < 64 → has some g ≡ true → IsOf row g
+  all : (x : ℕ) → x < length row → (entrant_at row x).group < 64 → has some (entrant_at row x).group ≡ true
 
 -- the groups that have candidates: neither shut nor empty
-record AreHeld (tops : List ℕ) (gates : Gates) (groups : Bits64) : Type 0 where
-  held : (g : ℕ) → g < 64 → has groups g ≡ ((has gates.first g || has gates.second g) && nat_lt (level_of tops g) 256)
+record AreHeld (gates : Gates) (some groups : Bits64) : Type 0 where
+  held : (g : ℕ) → g < 64 → has groups g ≡ ((has gates.first g || has gates.second g) && has some g)
 
-group_has : (parts : List PartFacts) (row : List Entrant) (brackets : List (List Entrant)) (tops : List ℕ) (gates : Gates) (groups : Bits64)
-    (p g : ℕ) → AreGates parts gates → IsKept row brackets tops → AreHeld tops gates groups → g < 64 → g % 32 ≡ p → has groups g ≡ true
+group_has : (parts : List PartFacts) (row : List Entrant) (gates : Gates) (some groups : Bits64)
+    (p g : ℕ) → AreGates parts gates → AreOccupied row some → AreHeld gates some groups → g < 64 → g % 32 ≡ p → has groups g ≡ true
     → has_candidate parts row p ≡ true
-group_has parts row brackets tops gates groups p g are kept held below same here =
+group_has parts row gates some groups p g are there held below same here =
     any_among (candidates parts (members (map seat_of row))) (contender_of e) among (equal (e.group % 32) p partition)
   where
-    parted : ((has gates.first g || has gates.second g) ≡ true) × (nat_lt (level_of tops g) 256 ≡ true)
-    parted = both (has gates.first g || has gates.second g) (nat_lt (level_of tops g) 256) (sym (held.held g below) ∙ here)
+    parted : ((has gates.first g || has gates.second g) ≡ true) × (has some g ≡ true)
+    parted = both (has gates.first g || has gates.second g) (has some g) (sym (held.held g below) ∙ here)
 
-    who : Occupant row g (level_of tops g)
-    who = occupant row brackets tops g kept below (is_below (level_of tops g) 256 parted.1)
+    who : IsOf row g
+    who = there.who g below parted.1
 
     e : Entrant
     e = entrant_at row who.place
 
-    there : e.group < 64
-    there = omega (arith, who.group, below)
+    inside : e.group < 64
+    inside = omega (arith, who.group, below)
 
     stands : (has gates.first g ≡ true) ⊎ (has gates.second g ≡ true) → is_candidate_at parts e ≡ true
-    stands (inl one) = (first_stands parts gates e are there (ap (has gates.first) who.group ∙ one)).candidate
-    stands (inr two) = (second_stands parts gates e are there (ap (has gates.second) who.group ∙ two)).candidate
+    stands (inl one) = (first_stands parts gates e are inside (ap (has gates.first) who.group ∙ one)).candidate
+    stands (inr two) = (second_stands parts gates e are inside (ap (has gates.second) who.group ∙ two)).candidate
 
     among : Contains (candidates parts (members (map seat_of row))) (contender_of e)
     among = open_among parts row who.place who.within (stands (one_of (has gates.first g) (has gates.second g) parted.0))
@@ -123,12 +136,12 @@ group_partition g p g_below p_below same = elim (halves g) [
     halves g = search arith
 
 -- the group of a candidate is held
-held_by : (parts : List PartFacts) (row : List Entrant) (brackets : List (List Entrant)) (tops : List ℕ) (gates : Gates) (groups : Bits64)
-    (x : ℕ) → AreGates parts gates → IsKept row brackets tops → AreHeld tops gates groups → x < length row
+held_by : (parts : List PartFacts) (row : List Entrant) (gates : Gates) (some groups : Bits64)
+    (x : ℕ) → AreGates parts gates → AreOccupied row some → AreHeld gates some groups → x < length row
     → is_candidate_at parts (entrant_at row x) ≡ true → has groups (entrant_at row x).group ≡ true
-held_by parts row brackets tops gates groups x are kept held within here =
-    held.held g below ∙ pair (has gates.first g || has gates.second g) (nat_lt (level_of tops g) 256)
-    (either (in_one parts gates (entrant_at row x) are here)) some
+held_by parts row gates some groups x are there held within here =
+    held.held g below ∙ pair (has gates.first g || has gates.second g) (has some g)
+    (either (in_one parts gates (entrant_at row x) are here)) (there.all x within below)
   where
     g : ℕ
     g = (entrant_at row x).group
@@ -150,17 +163,10 @@ held_by parts row brackets tops gates groups x are kept held within here =
     either (inl one) = left (has gates.first g) (has gates.second g) one
     either (inr two) = right (has gates.first g) (has gates.second g) two
 
-    less : (a b : ℕ) → a < b → nat_lt a b ≡ true
-    less a b h = grind (arith, nat_tests)
-
-    some : nat_lt (level_of tops g) 256 ≡ true
-    some = less (level_of tops g) 256
-        (omega (arith, level_at_most row brackets tops x kept within below, kept.queued.levels x within below))
-
-none_has : (parts : List PartFacts) (row : List Entrant) (brackets : List (List Entrant)) (tops : List ℕ) (gates : Gates) (groups : Bits64)
-    (p : ℕ) → AreGates parts gates → IsKept row brackets tops → AreHeld tops gates groups → p < 32
+none_has : (parts : List PartFacts) (row : List Entrant) (gates : Gates) (some groups : Bits64)
+    (p : ℕ) → AreGates parts gates → AreOccupied row some → AreHeld gates some groups → p < 32
     → has groups p ≡ false → has groups (p + 32) ≡ false → has_candidate parts row p ≡ false
-none_has parts row brackets tops gates groups p are kept held below plain marked =
+none_has parts row gates some groups p are there held below plain marked =
     list_any_none (is_of p) (candidates parts (members (map seat_of row)))
     (all_candidates (λ (c : Contender). is_of p c ≡ false) parts row (λ x within here. by_test x within here (nat_eq ((entrant_at row x).group % 32) p) refl))
   where
@@ -169,16 +175,16 @@ none_has parts row brackets tops gates groups p are kept held below plain marked
     by_test x within here false h = h
     by_test x within here true h =
         let same : (entrant_at row x).group % 32 ≡ p = grind (arith, nat_tests) in
-        let is_held = held_by parts row brackets tops gates groups x are kept held within here in
+        let is_held = held_by parts row gates some groups x are there held within here in
         elim (group_partition (entrant_at row x).group p (open_group parts (entrant_at row x) here) below same) [
           | inl low ↦ absurd (clash (has groups p) (ap (has groups) (sym low) ∙ is_held) plain)
           | inr high ↦ absurd (clash (has groups (p + 32)) (ap (has groups) (sym high) ∙ is_held) marked)
         ]
 
-partition_has : (parts : List PartFacts) (row : List Entrant) (brackets : List (List Entrant)) (tops : List ℕ) (gates : Gates) (groups : Bits64)
-    (p : ℕ) → AreGates parts gates → IsKept row brackets tops → AreHeld tops gates groups → p < 32
+partition_has : (parts : List PartFacts) (row : List Entrant) (gates : Gates) (some groups : Bits64)
+    (p : ℕ) → AreGates parts gates → AreOccupied row some → AreHeld gates some groups → p < 32
     → (has groups p || has groups (p + 32)) ≡ has_candidate parts row p
-partition_has parts row brackets tops gates groups p are kept held below = by_tests (has groups p) (has groups (p + 32)) refl refl
+partition_has parts row gates some groups p are there held below = by_tests (has groups p) (has groups (p + 32)) refl refl
   where
     same_place : (p : ℕ) → p < 32 → p % 32 ≡ p
     same_place p h = omega (arith, h)
@@ -188,10 +194,10 @@ partition_has parts row brackets tops gates groups p are kept held below = by_te
 
     by_tests : (a b : Bool) → has groups p ≡ a → has groups (p + 32) ≡ b → (a || b) ≡ has_candidate parts row p
     by_tests true b h k =
-        sym (group_has parts row brackets tops gates groups p p are kept held (omega (arith, below)) (same_place p below) h)
+        sym (group_has parts row gates some groups p p are there held (omega (arith, below)) (same_place p below) h)
     by_tests false true h k =
-        sym (group_has parts row brackets tops gates groups p (p + 32) are kept held (omega (arith, below)) (marked_place p below) k)
-    by_tests false false h k = sym (none_has parts row brackets tops gates groups p are kept held below h k)
+        sym (group_has parts row gates some groups p (p + 32) are there held (omega (arith, below)) (marked_place p below) k)
+    by_tests false false h k = sym (none_has parts row gates some groups p are there held below h k)
 
 -- ---- the partitions with a budget and no candidate
 
@@ -199,31 +205,26 @@ abbrev pub is_starved : List PartFacts → List Entrant → ℕ → Bool
 is_starved parts row p = nat_lt 0 (part_at parts p).budget && not (has_candidate parts row p)
 
 -- the sets that the look goes through, by the clauses of its calls
-pub record AreSteps (tops : List ℕ) (gates : Gates) (a b c d e f : Bits64) : Type 0 where
+pub record AreSteps (gates : Gates) (a b c d e f : Bits64) : Type 0 where
   pub opened : (k : ℕ) → has a k ≡ (has gates.first k || has gates.second k)
-  pub occupied : (g : ℕ) → g < 64 → has b g ≡ nat_lt (level_of tops g) 256
   pub groups : (k : ℕ) → has c k ≡ (has a k && has b k)
   pub upper : (k : ℕ) → has d k ≡ has c (k + 32)
   pub held : (k : ℕ) → has e k ≡ (has c k || has d k)
   pub starved : (k : ℕ) → k < 64 → has f k ≡ (has gates.budgeted k && not (has e k))
 
-starved_is : (parts : List PartFacts) (row : List Entrant) (brackets : List (List Entrant)) (tops : List ℕ) (gates : Gates)
-    (a b c d e f : Bits64) (p : ℕ) → AreGates parts gates → IsKept row brackets tops → AreSteps tops gates a b c d e f → p < 32
+starved_is : (parts : List PartFacts) (row : List Entrant) (gates : Gates) (a b c d e f : Bits64) (p : ℕ) → AreGates parts gates → AreOccupied row b → AreSteps gates a b c d e f → p < 32
     → has f p ≡ is_starved parts row p
-starved_is parts row brackets tops gates a b c d e f p are kept steps below =
+starved_is parts row gates a b c d e f p are there steps below =
     steps.starved p (omega (arith, below))
     ∙ ap (λ (t : Bool). t && not (has e p)) (are.budgeted p (omega (arith, below)) ∙ ap (λ (t : Bool). t && nat_lt 0 (part_at parts p).budget) (less p 32 below))
     ∙ ap (λ (t : Bool). nat_lt 0 (part_at parts p).budget && not t)
-    (steps.held p ∙ ap (λ (t : Bool). has c p || t) (steps.upper p) ∙ partition_has parts row brackets tops gates c p are kept are_held below)
+    (steps.held p ∙ ap (λ (t : Bool). has c p || t) (steps.upper p) ∙ partition_has parts row gates b c p are there are_held below)
   where
     less : (a b : ℕ) → a < b → nat_lt a b ≡ true
     less a b h = grind (arith, nat_tests)
 
-    are_held : AreHeld tops gates c
-    are_held = record {
-      held = λ g inside. steps.groups g ∙ ap (λ (t : Bool). t && has b g) (steps.opened g)
-          ∙ ap (λ (t : Bool). (has gates.first g || has gates.second g) && t) (steps.occupied g inside);
-    }
+    are_held : AreHeld gates b c
+    are_held = record { held = λ g _. steps.groups g ∙ ap (λ (t : Bool). t && has b g) (steps.opened g) }
 
 -- a partition that starves exists
 within_parts : (parts : List PartFacts) (row : List Entrant) (p : ℕ) → is_starved parts row p ≡ true → p < length parts
@@ -239,21 +240,19 @@ within_parts parts row p h = by_place (below_or_not p (length parts))
         absurd (clash (nat_lt 0 (part_at parts p).budget) (both (nat_lt 0 (part_at parts p).budget) (not (has_candidate parts row p)) h).0
         (ap (λ (n : ℕ). nat_lt 0 n) none))
 
-pub starved_found : (parts : List PartFacts) (row : List Entrant) (brackets : List (List Entrant)) (tops : List ℕ) (gates : Gates)
-    (a b c d e f : Bits64) (p : ℕ) → AreGates parts gates → IsKept row brackets tops → AreSteps tops gates a b c d e f → p < 32
+pub starved_found : (parts : List PartFacts) (row : List Entrant) (gates : Gates) (a b c d e f : Bits64) (p : ℕ) → AreGates parts gates → AreOccupied row b → AreSteps gates a b c d e f → p < 32
     → has f p ≡ true → ((k : ℕ) → k < p → has f k ≡ false) → missing parts (members (map seat_of row)) ≡ Some p
-starved_found parts row brackets tops gates a b c d e f p are kept steps below here earlier =
-    let is = starved_is parts row brackets tops gates a b c d e f in
-    let starved : is_starved parts row p ≡ true = sym (is p are kept steps below) ∙ here in
+starved_found parts row gates a b c d e f p are there steps below here earlier =
+    let is = starved_is parts row gates a b c d e f in
+    let starved : is_starved parts row p ≡ true = sym (is p are there steps below) ∙ here in
     find_some (is_starved parts row) (length parts) p (within_parts parts row p starved) starved
-    (λ k low. sym (is k are kept steps (omega (arith, low, below))) ∙ earlier k low)
+    (λ k low. sym (is k are there steps (omega (arith, low, below))) ∙ earlier k low)
 
-pub none_starved : (parts : List PartFacts) (row : List Entrant) (brackets : List (List Entrant)) (tops : List ℕ) (gates : Gates)
-    (a b c d e f : Bits64) → AreGates parts gates → IsKept row brackets tops → AreSteps tops gates a b c d e f → length parts ≤ 32
+pub none_starved : (parts : List PartFacts) (row : List Entrant) (gates : Gates) (a b c d e f : Bits64) → AreGates parts gates → AreOccupied row b → AreSteps gates a b c d e f → length parts ≤ 32
     → ((k : ℕ) → k < 32 → has f k ≡ false) → missing parts (members (map seat_of row)) ≡ None
-none_starved parts row brackets tops gates a b c d e f are kept steps few none =
+none_starved parts row gates a b c d e f are there steps few none =
     find_none (is_starved parts row) (length parts)
-    (λ k low. sym (starved_is parts row brackets tops gates a b c d e f k are kept steps (omega (arith, low, few))) ∙ none k (omega (arith, low, few)))
+    (λ k low. sym (starved_is parts row gates a b c d e f k are there steps (omega (arith, low, few))) ∙ none k (omega (arith, low, few)))
 
 -- no partition from number 32 on counts
 pub not_past : (parts : List PartFacts) (gates : Gates) (e f : Bits64) (p : ℕ) → AreGates parts gates → p < 64 → 32 ≤ p
@@ -263,3 +262,64 @@ not_past parts gates e f p are below past minus =
   where
     not_less : (a b : ℕ) → b ≤ a → nat_lt a b ≡ false
     not_less a b h = grind (arith, nat_tests)
+
+-- ---- the groups that somebody is of, in their brackets or aside
+
+pub groups_occupied : (row : List Entrant) (aside : Entrant) (brackets : List (List Entrant)) (tops : List ℕ) (some : Bits64)
+    → IsDrawnBut row aside brackets → IsQueued row → AreTopped brackets tops
+    → ((g : ℕ) → g < 64 → has some g ≡ (nat_eq g aside.group || nat_lt (level_of tops g) 256)) → AreOccupied row some
+groups_occupied row aside brackets tops some but queued topped is = record { who = who; all = all }
+  where
+    kept : IsKept (rest_of row aside) brackets tops
+    kept = record { drawn = but.rest; queued = queued_rest row aside but.own queued; topped = topped }
+
+    same_group : (g : ℕ) → nat_eq g aside.group ≡ true → aside.group ≡ g
+    same_group g h = grind (arith, nat_tests)
+
+    low : (l : ℕ) → nat_lt l 256 ≡ true → l < 256
+    low l h = grind (arith, nat_tests)
+
+    who : (g : ℕ) → g < 64 → has some g ≡ true → IsOf row g
+    who g below h = elim (one_of (nat_eq g aside.group) (nat_lt (level_of tops g) 256) (sym (is g below) ∙ h)) [
+      | inl own ↦
+          let group : aside.group ≡ g = same_group g own in
+          let inside : aside.group < 64 = omega (arith, group, below) in
+          record {
+            place = aside.thread;
+            within = within_row row aside.thread aside (but.own inside) inside;
+            group = ap (λ (e : Entrant). e.group) (but.own inside) ∙ group;
+          }
+      | inr top ↦
+          let found = occupant (rest_of row aside) brackets tops g kept below (low (level_of tops g) top) in
+          let inside : (entrant_at (rest_of row aside) found.place).group < 64 = omega (arith, found.group, below) in
+          record {
+            place = found.place;
+            within = omega (arith, found.within, rest_length row aside);
+            group = ap (λ (e : Entrant). e.group) (sym (rest_there row aside found.place but.own inside)) ∙ found.group;
+          }
+    ]
+
+    left : (a b : Bool) → a ≡ true → (a || b) ≡ true
+    left a b h = rw h refl
+
+    right : (a b : Bool) → b ≡ true → (a || b) ≡ true
+    right true b h = refl
+    right false b h = h
+
+    less : (a b : ℕ) → a < b → nat_lt a b ≡ true
+    less a b h = grind (arith, nat_tests)
+
+    all : (x : ℕ) → x < length row → (entrant_at row x).group < 64 → has some (entrant_at row x).group ≡ true
+    all x within below = is (entrant_at row x).group below ∙ (elim (aside_or_rest row aside x but.own) [
+      | inl own ↦
+          left (nat_eq (entrant_at row x).group aside.group) (nat_lt (level_of tops (entrant_at row x).group) 256)
+          (equal (entrant_at row x).group aside.group (ap (λ (e : Entrant). e.group) own.1))
+      | inr rest ↦
+          let e = entrant_at (rest_of row aside) x in
+          let inside : x < length (rest_of row aside) = omega (arith, within, rest_length row aside) in
+          let there : e.group < 64 = subst (λ (f : Entrant). f.group < 64) rest below in
+          let level : level_of tops e.group < 256 =
+          omega (arith, level_at_most (rest_of row aside) brackets tops x kept inside there, kept.queued.levels x inside there) in
+          right (nat_eq (entrant_at row x).group aside.group) (nat_lt (level_of tops (entrant_at row x).group) 256)
+          (ap (λ (f : Entrant). nat_lt (level_of tops f.group) 256) rest ∙ less (level_of tops e.group) 256 level)
+    ])

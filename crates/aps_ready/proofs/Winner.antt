@@ -14,17 +14,17 @@ use Rattle.aps_levels.specs.Bits.{has}
 use Rattle.aps_ready.specs.declared.entrant.Entrant.{Entrant}
 use Rattle.aps_ready.specs.declared.gates.Gates.{Gates}
 use Rattle.aps_ready.specs.Entrant.{entrant_at, goes_before}
-use Rattle.aps_ready.specs.Ready.{members, facts_of, contender_of, seat_of, AreDrawn, IsQueued}
-use Rattle.aps_ready.specs.Topped.{AreTopped}
+use Rattle.aps_ready.specs.Ready.{members, facts_of, contender_of, seat_of, IsQueued}
 use Rattle.aps_ready.specs.Gates.{is_first, is_open, AreGates}
 use Rattle.aps_ready.specs.Index.{level_of, AreLeast, AreEmpty}
 use Rattle.aps_ready.specs.Likely.{AreOccupied, AreLikely}
 use Rattle.aps_ready.specs.Choice.{is_ahead}
 use Rattle.aps_ready.specs.Best.{Sits, IsBest}
+use Rattle.aps_ready.specs.Winner.{is_above, is_candidate_at, IsWinner}
 use Rattle.aps_ready.proofs.Queued.{seat_at, seat_in}
-use Rattle.aps_ready.proofs.Content.{is_candidate_at, open_from, open_group, open_among, all_candidates}
+use Rattle.aps_ready.proofs.Content.{open_from, open_group, open_among, all_candidates}
 use Rattle.aps_ready.proofs.Tops.{IsKept, level_at_most, Occupant, occupant, sits_level}
-use Rattle.aps_ready.proofs.Ahead.{is_above, class_at, ahead_in_group, above_tie, above_by_ratio, above_lower_first, above_lower_second, above_class}
+use Rattle.aps_ready.proofs.Ahead.{class_at, ahead_in_group, above_tie, above_by_ratio, above_lower_first, above_lower_second, above_class}
 
 -- ---- what the gates say of somebody
 
@@ -99,12 +99,6 @@ in_one parts gates e are here = by_test (is_first part (nat_lt 31 e.group)) refl
         ∙ pair (is_open part (nat_lt 31 e.group)) (not (is_first part (nat_lt 31 e.group))) opened (ap not h))
 
 -- ---- nobody is above the best
-
-pub record IsWinner (free : Free) (parts : List PartFacts) (row : List Entrant) (best : Entrant) : Type 0 where
-  pub open_here : best.group < 64 → is_candidate_at parts best ≡ true
-  pub sits : best.group < 64 → Sits row best
-  pub others : (x : ℕ) → x < length row → is_candidate_at parts (entrant_at row x) ≡ true
-      → (best.group < 64) × (is_above free parts (entrant_at row x) best ≡ false)
 
 below_or_not : (a b : ℕ) → (a < b) ⊎ (b ≤ a)
 below_or_not a b = search arith
@@ -417,18 +411,6 @@ place_by row best x queued sits g is =
   where
     is_some : (c : Contender) → Some c ≡ None → ⊥
     is_some c h = cc
-
--- ---- the look at the likely groups
-
-pub look_wins : (free : Free) (parts : List PartFacts) (row : List Entrant) (brackets looked : List (List Entrant)) (tops : List ℕ)
-    (gates : Gates) (groups : Bits64) (best : Entrant)
-    → AreDrawn row brackets → IsQueued row → AreTopped brackets tops → looked ≡ brackets → AreGates parts gates
-    → AreLikely free tops gates groups
-    → ((row : List Entrant) → AreDrawn row looked → IsQueued row → IsBest parts row (has groups) best)
-    → IsWinner free parts row best
-look_wins free parts row brackets looked tops gates groups best drawn queued topped same are likely is_best =
-    likely_wins free parts row brackets tops gates groups best are (record { drawn = drawn; queued = queued; topped = topped }) likely
-    (is_best row (subst (AreDrawn row) (sym same) drawn) queued)
 
 pub thread_small : (row : List Entrant) (best : Entrant) → length row ≤ 1024 → IsQueued row → Sits row best → best.group < 64
     → best.thread ≤ 1023

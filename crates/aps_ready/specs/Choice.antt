@@ -1,4 +1,4 @@
-use Rattle.std.specs.Prelude.{◌%◌, Bool, true, false, ◌&&◌, nat_lt, if◌then◌else◌, List}
+use Rattle.std.specs.Prelude.{◌%◌, Bool, true, false, ◌&&◌, nat_eq, nat_lt, if◌then◌else◌, List}
 use Rattle.aps_model.specs.declared.merit.PartFacts.{PartFacts}
 use Rattle.aps_model.specs.Merit.{smaller}
 use Rattle.aps_model.specs.Budget.{part_at}
@@ -16,6 +16,10 @@ ahead_by a b rest =
 -- the order of candidates of one class, where they have one level too or free time goes by ratio
 abbrev pub is_ahead : List PartFacts → Entrant → Entrant → Bool
 is_ahead parts a b = ahead_by (part_at parts (a.group % 32)) (part_at parts (b.group % 32)) (goes_before a b)
+
+-- the order of candidates of one class, where the level comes first
+abbrev pub is_ahead_by_level : List PartFacts → Entrant → Entrant → Bool
+is_ahead_by_level parts a b = if nat_eq a.level b.level then is_ahead parts a b else nat_lt a.level b.level
 
 -- the best so far, or the first of one more group, if somebody is there and ahead of it
 abbrev pub ahead_of : List PartFacts → Entrant → Entrant → Entrant

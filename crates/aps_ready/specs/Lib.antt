@@ -8,3 +8,5 @@ pub mod Topped
 pub mod Choice
 pub mod Likely
 pub mod Best
+pub mod Winner
+pub mod Aside

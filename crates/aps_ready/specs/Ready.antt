@@ -1,4 +1,4 @@
-use Rattle.std.specs.Prelude.{◌≡◌, ◌≢◌, ℕ, ◌-◌, ◌%◌, ◌<◌, ◌≤◌, nat_lt, nat_eq, if◌then◌else◌, List, [], ◌∷◌, length, map, slice_index_or, Option, Some, None}
+use Rattle.std.specs.Prelude.{◌≡◌, ◌≢◌, ℕ, ◌-◌, ◌%◌, ◌<◌, ◌≤◌, nat_lt, nat_eq, if◌then◌else◌, List, [], ◌∷◌, length, map, slice_index_or, slice_set, Option, Some, None}
 use Rattle.aps_model.specs.declared.state.Facts.{Facts}
 use Rattle.aps_model.specs.declared.merit.Contender.{Contender}
 use Rattle.aps_ready.specs.declared.entrant.Entrant.{Entrant}
@@ -9,6 +9,11 @@ abbrev pub members : List (Option Contender) → List Contender
 members [] = []
 members (None ∷ row) = members row
 members (Some c ∷ row) = c ∷ members row
+
+-- the row with this one out, if there is one
+abbrev pub without : Option Contender → List (Option Contender) → List (Option Contender)
+without None row = row
+without (Some c) row = slice_set row c.thread None
 
 -- no one who is in has the stamp
 abbrev pub IsFree : ℕ → Option Contender → Type 0
@@ -35,6 +40,10 @@ entrant_in g e = if nat_eq e.group g then e else vacant
 
 abbrev pub bracket_at : List (List Entrant) → ℕ → List Entrant
 bracket_at brackets g = slice_index_or brackets g []
+
+-- a place of the bracket of a group is set
+abbrev pub with_place : List (List Entrant) → ℕ → ℕ → Entrant → List (List Entrant)
+with_place brackets g x e = slice_set brackets g (slice_set (bracket_at brackets g) x e)
 
 -- each group has its bracket
 pub record AreDrawn (row : List Entrant) (brackets : List (List Entrant)) : Type 0 where

@@ -28,7 +28,7 @@ pub fn part_at(parts: &[PartFacts], p: usize) -> PartFacts
 /// Whether `a` is ahead of `b`: the smaller fraction of the budget is used, or neither fraction is smaller and it goes
 /// before `b`.
 #[inline(always)]
-fn is_ahead(parts: &[PartFacts], a: &Entrant, b: &Entrant) -> bool
+pub fn is_ahead(parts: &[PartFacts], a: &Entrant, b: &Entrant) -> bool
     requires { All IsSmall parts.now }
     ensures { result ≡ is_ahead parts.now a.now b.now }
 {

@@ -4,11 +4,13 @@
 
 mod bracket;
 mod choice;
+mod contest;
 mod entrant;
 mod gates;
 mod index;
+mod look;
 mod ready;
 mod seat;
 
 pub use gates::Gates;
-pub use ready::Ready;
+pub use ready::{Drawn, Ready};

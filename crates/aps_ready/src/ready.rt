@@ -1,36 +1,46 @@
 //! The ready threads, and the greatest candidate among them.
-ghost use Rattle.std.specs.Prelude.{◌≡◌, ◌≢◌, ℕ, ◌<◌, ◌≤◌, All, List, length, slice_set, slice_index_or, replicate, IfOk, IfSome, Some, None};
+ghost use Rattle.std.specs.Prelude.{◌≡◌, ◌≢◌, ℕ, ◌<◌, ◌≤◌, ◌||◌, nat_eq, nat_lt, All, List, length, slice_set, slice_index_or, replicate, IfOk, IfSome, Some, None};
 ghost use Rattle.std.specs.Option.{option_map};
 ghost use Rattle.aps_model.specs.Pick.{greatest, missing};
+ghost use Rattle.aps_model.specs.declared.merit.Contender.{Contender};
 ghost use Rattle.aps_model.specs.declared.merit.PartFacts.{PartFacts};
 ghost use Rattle.aps_levels.specs.Bits.{has};
-ghost use Rattle.aps_ready.specs.Best.{IsBest};
 ghost use Rattle.aps_ready.specs.Entrant.{vacant};
 ghost use Rattle.aps_ready.specs.Gates.{AreGates};
-ghost use Rattle.aps_ready.specs.Likely.{AreLikely, AreLikelySecond};
-ghost use Rattle.aps_ready.specs.Ready.{members, IsFree, with_facts, AreDrawn, IsQueued};
+ghost use Rattle.aps_ready.specs.Index.{level_of};
+ghost use Rattle.aps_ready.specs.Ready.{contender_of, members, seat_of, without, IsFree, with_facts};
 ghost use Rattle.aps_ready.specs.Small.{IsSmall};
-ghost use Rattle.aps_ready.specs.declared.entrant.Entrant.{Entrant};
 
 use crate::bracket::Bracket;
-use crate::choice::ahead_of;
+use crate::contest::wins;
 use crate::entrant::{Entrant, entrant_of, seat_of, vacant};
 use crate::gates::{Gates, PARTITIONS};
 use crate::index::Index;
-use crate::seat::{GROUPS, seat};
+use crate::look::look;
+use crate::seat::{GROUPS, enter, leave};
 use aps_levels::Bits64;
 use aps_model::{Contender, Facts, Free, NoMemory, PartFacts, PartitionId, ThreadId};
 use std::alloc::Global;
 use std::marker::Model;
 
+/// What was drawn: the greatest candidate, which is out from then on, and the greatest of those that were left.
+#[derive(Clone, Copy, Debug, PartialEq, Eq)]
+pub struct Drawn {
+    pub picked: Option<Contender>,
+    pub left: Option<Contender>,
+}
+
 /// The ready threads, each with its inherited values and its stamp. Contracts see a row with a place for each thread: what
 /// is known of it where it is in.
 ///
 /// Threads of one partition, critical or not, are a group, and all of a group are candidates or none. Each group has a
-/// bracket over all threads, whose first has its highest priority and the smallest stamp there.
+/// bracket over all threads, whose first has its highest priority and the smallest stamp there. The thread that was put in
+/// last stands aside: it is in the row and in no bracket, so that one that runs on is put in and drawn at no bracket's cost.
 #[derive(Drop)]
 pub struct Ready {
     row: Vec<Entrant>,
+    /// nobody, or who was put in last
+    aside: Entrant,
     brackets: Vec<Bracket>,
     /// the level of the first of each bracket
     index: Index,
@@ -39,14 +49,15 @@ pub struct Ready {
 impl Model for Ready {
     ghost use Rattle.std.specs.Prelude.{List, Option, map};
     ghost use Rattle.aps_model.specs.declared.merit.Contender.{Contender};
-    ghost use Rattle.aps_ready.specs.Ready.{seat_of, AreDrawn, IsQueued};
+    ghost use Rattle.aps_ready.specs.Aside.{IsDrawnBut};
+    ghost use Rattle.aps_ready.specs.Ready.{seat_of, IsQueued};
     ghost use Rattle.aps_ready.specs.Topped.{AreTopped};
 
     ghost Value = { List (Option Contender) };
 
     ghost view = { λ r. map seat_of r.row.items };
 
-    ghost invariant = { λ r. AreDrawn r.row.items r.brackets.items × IsQueued r.row.items × AreTopped r.brackets.items r.index };
+    ghost invariant = { λ r. IsDrawnBut r.row.items r.aside r.brackets.items × IsQueued r.row.items × AreTopped r.brackets.items r.index };
 }
 
 impl Ready {
@@ -67,6 +78,7 @@ impl Ready {
         let index = Index::new(alloc)?;
         Ok(Ready {
             row,
+            aside: vacant(),
             brackets,
             index,
         })
@@ -91,14 +103,10 @@ impl Ready {
         requires stamp { All (IsFree stamp) self.old }
         ensures { self.new ≡ slice_set self.old x (Some (record { thread = x; facts = facts; stamp = stamp })) }
     {
+        enter(&mut self.brackets, &mut self.index, self.aside);
         let entrant = entrant_of(x, facts, stamp);
-        seat(
-            &mut self.row,
-            &mut self.brackets,
-            &mut self.index,
-            x.index(),
-            entrant,
-        );
+        self.row[x.index()] = entrant;
+        self.aside = entrant;
     }
 
     /// Takes a thread out.
@@ -107,13 +115,15 @@ impl Ready {
         requires present { slice_index_or self.old x None ≢ None }
         ensures { self.new ≡ slice_set self.old x None }
     {
-        seat(
-            &mut self.row,
+        let index = x.index();
+        let entrant = self.row[index];
+        leave(
             &mut self.brackets,
             &mut self.index,
-            x.index(),
-            vacant(),
+            &mut self.aside,
+            entrant,
         );
+        self.row[index] = vacant();
     }
 
     /// Gives a thread that is in other values: the same as `take` and then `put` with the stamp that it has.
@@ -123,14 +133,8 @@ impl Ready {
         ensures { self.new ≡ slice_set self.old x (option_map (with_facts facts) (slice_index_or self.old x None)) }
     {
         let stamp = self.row[x.index()].stamp;
-        let entrant = entrant_of(x, facts, stamp);
-        seat(
-            &mut self.row,
-            &mut self.brackets,
-            &mut self.index,
-            x.index(),
-            entrant,
-        );
+        self.take(x);
+        self.put(x, facts, stamp);
     }
 }
 
@@ -155,11 +159,73 @@ impl Ready {
         ensures inside { IfSome result (λ x. x < length self.now) }
         ensures present { IfSome result (λ x. slice_index_or self.now x None ≢ None) }
     {
-        let best = best_among(&self.brackets, parts, likely(&self.index, gates, free));
+        let best = self.greatest(gates, parts, free);
         if best.group < 64 {
             Some(ThreadId::at(best.thread as usize))
         } else {
             None
+        }
+    }
+
+    /// Takes the greatest candidate out, if there is one, and tells it, and the greatest of those that are left. The gates of
+    /// the partitions are kept, as for `best_by`.
+    pub fn draw(&mut self, gates: Gates, parts: &[PartFacts], free: Free) -> Drawn
+        requires gates { AreGates parts.now gates }
+        requires small { All IsSmall parts.now }
+        ensures picked { result.picked ≡ greatest free parts.now (members self.old) }
+        ensures out { self.new ≡ without result.picked self.old }
+        ensures left { result.left ≡ greatest free parts.now (members self.new) }
+    {
+        let found = look(&self.brackets, &self.index, gates, parts, free);
+        let aside = self.aside;
+        if wins(gates, parts, free, &aside, &found) {
+            return Drawn {
+                picked: self.pop(&aside),
+                left: known(&found),
+            };
+        }
+        if found.group >= 64 {
+            return Drawn {
+                picked: None,
+                left: None,
+            };
+        }
+        let picked = self.pop(&found);
+        let left = self.greatest(gates, parts, free);
+        Drawn {
+            picked,
+            left: known(&left),
+        }
+    }
+
+    /// Takes somebody out, and tells what is known of it.
+    fn pop(&mut self, one: &Entrant) -> Option<Contender>
+        requires group { one.now.group < 64 }
+        requires thread { one.now.thread ≤ 1023 }
+        requires inside { one.now.thread < length self.old }
+        requires present { slice_index_or self.old one.now.thread None ≢ None }
+        ensures picked { result ≡ Some (contender_of one.now) }
+        ensures out { self.new ≡ slice_set self.old one.now.thread None }
+    {
+        let x = ThreadId::at(one.thread as usize);
+        self.take(x);
+        seat_of(one, x)
+    }
+
+    /// The greatest candidate of those in the brackets and the one who stands aside; nobody where there is none.
+    fn greatest(&self, gates: Gates, parts: &[PartFacts], free: Free) -> Entrant
+        requires gates { AreGates parts.now gates }
+        requires small { All IsSmall parts.now }
+        ensures greatest { seat_of result ≡ greatest free parts.now (members self.now) }
+        ensures thread { result.group < 64 → result.thread ≤ 1023 }
+        ensures inside { result.group < 64 → result.thread < length self.now }
+        ensures present { result.group < 64 → slice_index_or self.now result.thread None ≢ None }
+    {
+        let found = look(&self.brackets, &self.index, gates, parts, free);
+        if wins(gates, parts, free, &self.aside, &found) {
+            self.aside
+        } else {
+            found
         }
     }
 
@@ -176,7 +242,8 @@ impl Ready {
     pub fn missing_by(&self, gates: Gates) -> Option<PartitionId>
         ensures { (parts : List PartFacts) → AreGates parts gates → length parts ≤ 32 → result ≡ missing parts (members self.now) }
     {
-        let groups = gates.first.join(gates.second).meet(self.index.occupied());
+        let occupied = occupied(&self.index, &self.aside);
+        let groups = gates.first.join(gates.second).meet(occupied);
         let starved = gates.budgeted.minus(groups.join(groups.upper_half()));
         match starved.least() {
             Some(p) if p < PARTITIONS => Some(PartitionId::at(p)),
@@ -185,46 +252,27 @@ impl Ready {
     }
 }
 
-/// The groups that can have the greatest candidate.
+/// The groups that somebody is of: in their brackets, or the one who stands aside.
 #[inline(always)]
-fn likely(index: &Index, gates: Gates, free: Free) -> Bits64
-    ensures { AreLikely free index.now gates result }
+fn occupied(index: &Index, aside: &Entrant) -> Bits64
+    ensures { (g : ℕ) → g < 64 → has result g ≡ (nat_eq g aside.now.group || nat_lt (level_of index.now g) 256) }
 {
-    match index.least(gates.first) {
-        Some(found) => found,
-        None => likely_second(index, gates.second, free),
+    let groups = index.occupied();
+    if aside.group < 64 {
+        groups.with(aside.group as usize)
+    } else {
+        groups
     }
 }
 
-/// The same, where no group of class 1 has a candidate.
-#[inline(always)]
-fn likely_second(index: &Index, second: Bits64, free: Free) -> Bits64
-    ensures { AreLikelySecond free index.now second result }
+/// What is known of the thread that an entrant stands for, if it is anybody.
+fn known(e: &Entrant) -> Option<Contender>
+    requires { e.now.group < 64 → e.now.thread ≤ 1023 }
+    ensures { result ≡ seat_of e.now }
 {
-    match free {
-        Free::Ratio => second.meet(index.occupied()),
-        Free::Priority => match index.least(second) {
-            Some(found) => found,
-            None => Bits64::none(),
-        },
+    if e.group < 64 {
+        seat_of(e, ThreadId::at(e.thread as usize))
+    } else {
+        None
     }
-}
-
-/// The one that is ahead of the others, of the first of these groups.
-#[inline(always)]
-fn best_among(brackets: &[Bracket], parts: &[PartFacts], groups: Bits64) -> Entrant
-    requires small { All IsSmall parts.now }
-    requires count { length brackets.now ≡ 64 }
-    ensures { (row : List Entrant) → AreDrawn row brackets.now → IsQueued row → IsBest parts.now row (has groups) result }
-{
-    let mut best = vacant();
-    let mut left = groups;
-    for _ in 0..GROUPS {
-        let Some(group) = left.least() else {
-            return best;
-        };
-        best = ahead_of(parts, best, brackets[group].first());
-        left = left.without(group);
-    }
-    best
 }

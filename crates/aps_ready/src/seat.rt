@@ -1,8 +1,10 @@
-//! A thread's place: in the row, in the bracket of its group, and in the index.
-ghost use Rattle.std.specs.Prelude.{◌≡◌, ◌≢◌, ℕ, ◌<◌, length, slice_set};
-ghost use Rattle.aps_ready.specs.Entrant.{entrant_at};
-ghost use Rattle.aps_ready.specs.Ready.{entrant_in, AreDrawn};
+//! Who is in a bracket, and who stands aside: in the row, and in no bracket.
+ghost use Rattle.std.specs.Prelude.{◌≡◌, ◌<◌, List, length, slice_set};
+ghost use Rattle.aps_ready.specs.Aside.{IsDrawnBut};
+ghost use Rattle.aps_ready.specs.Entrant.{entrant_at, vacant};
+ghost use Rattle.aps_ready.specs.Ready.{bracket_at, with_place, AreDrawn};
 ghost use Rattle.aps_ready.specs.Topped.{AreTopped};
+ghost use Rattle.aps_ready.specs.declared.entrant.Entrant.{Entrant};
 
 use crate::bracket::Bracket;
 use crate::entrant::{Entrant, vacant};
@@ -11,48 +13,53 @@ use crate::index::Index;
 /// Plain threads of 32 partitions, and critical threads of 32 partitions.
 pub const GROUPS: usize = 64;
 
-/// Sets a thread's place in the row, in the bracket that it leaves and in the one that it enters.
-pub fn seat(
-    row: &mut Vec<Entrant>,
-    brackets: &mut Vec<Bracket>,
-    index: &mut Index,
-    x: usize,
-    entrant: Entrant,
-)
-    requires drawn { AreDrawn row.old.items brackets.old.items }
+/// Whoever stands aside, if anybody does, enters the bracket of its group.
+pub fn enter(brackets: &mut Vec<Bracket>, index: &mut Index, aside: Entrant)
+    requires count { length brackets.old.items ≡ 64 }
+    requires inside { aside.group < 64 → aside.thread < length (bracket_at brackets.old.items aside.group) }
     requires topped { AreTopped brackets.old.items index.old }
-    requires inside { x < length row.old.items }
-    ensures row { row.new.items ≡ slice_set row.old.items x entrant }
-    ensures drawn { AreDrawn row.new.items brackets.new.items }
+    ensures drawn { (row : List Entrant) → IsDrawnBut row aside brackets.old.items → AreDrawn row brackets.new.items }
     ensures topped { AreTopped brackets.new.items index.new }
 {
-    let left = row[x].group as usize;
-    place(row, brackets, index, x, left, vacant());
-    place(row, brackets, index, x, entrant.group as usize, entrant);
+    let group = aside.group as usize;
+    if group < GROUPS {
+        place(brackets, index, group, aside.thread as usize, aside);
+    }
 }
 
-/// Sets a thread's place in the row and in the bracket of this group, if it is one. In each other bracket the place
-/// already stands as it should.
-fn place(
-    row: &mut Vec<Entrant>,
-    brackets: &mut Vec<Bracket>,
-    index: &mut Index,
-    x: usize,
-    group: usize,
-    entrant: Entrant,
-)
-    requires drawn { AreDrawn row.old.items brackets.old.items }
+/// Somebody who is in stands aside no longer, or leaves the bracket of its group.
+pub fn leave(brackets: &mut Vec<Bracket>, index: &mut Index, aside: &mut Entrant, one: Entrant)
+    requires count { length brackets.old.items ≡ 64 }
+    requires group { one.group < 64 }
+    requires inside { one.thread < length (bracket_at brackets.old.items one.group) }
     requires topped { AreTopped brackets.old.items index.old }
-    requires inside { x < length row.old.items }
-    requires own { group < 64 → entrant_in group entrant ≡ entrant }
-    requires others { (g : ℕ) → g < 64 → g ≢ group → entrant_in g entrant ≡ entrant_in g (entrant_at row.old.items x) }
-    ensures row { row.new.items ≡ slice_set row.old.items x entrant }
-    ensures drawn { AreDrawn row.new.items brackets.new.items }
+    ensures drawn { (row : List Entrant) → IsDrawnBut row aside.old brackets.old.items → entrant_at row one.thread ≡ one
+        → IsDrawnBut (slice_set row one.thread vacant) aside.new brackets.new.items }
     ensures topped { AreTopped brackets.new.items index.new }
 {
-    row[x] = entrant;
-    if group < GROUPS {
-        brackets[group].set(x, entrant);
-        index.set(group, brackets[group].first().level);
+    if aside.group < 64 && aside.thread == one.thread {
+        *aside = vacant();
+    } else {
+        place(
+            brackets,
+            index,
+            one.group as usize,
+            one.thread as usize,
+            vacant(),
+        );
     }
+}
+
+/// Sets a place in the bracket of this group, and the level of the group.
+#[inline(always)]
+fn place(brackets: &mut Vec<Bracket>, index: &mut Index, group: usize, x: usize, entrant: Entrant)
+    requires count { length brackets.old.items ≡ 64 }
+    requires group { group < 64 }
+    requires inside { x < length (bracket_at brackets.old.items group) }
+    requires topped { AreTopped brackets.old.items index.old }
+    ensures set { brackets.new.items ≡ with_place brackets.old.items group x entrant }
+    ensures topped { AreTopped brackets.new.items index.new }
+{
+    brackets[group].set(x, entrant);
+    index.set(group, brackets[group].first().level);
 }

@@ -1,5 +1,5 @@
-ghost use Rattle.std.specs.Prelude.{◌≡◌, ◌≢◌, ℕ, ◌<◌, length, IfOk, IfSome, Some, None, true, false};
-ghost use Rattle.aps_core.specs.Seats.{seat_at, seats_of, who_at, without, IsRight, IsSeated};
+ghost use Rattle.std.specs.Prelude.{◌≡◌, ◌≢◌, ℕ, length, IfOk, Some, true, false};
+ghost use Rattle.aps_core.specs.Seats.{seat_at, seats_of, IsRight, IsSeated};
 ghost use Rattle.aps_laws.specs.Stamps.{IsStamped};
 
 use super::Machine;
@@ -88,16 +88,5 @@ impl Machine {
         if let Some(seat) = self.seat_at(x) {
             ready.put(x, seat.facts, seat.stamp);
         }
-    }
-}
-
-/// The thread, if there is one, is out.
-pub fn take_picked(ready: &mut Ready, picked: &Option<ThreadId>)
-    requires inside { IfSome picked.now (λ x. x < length ready.old) }
-    requires present { IfSome picked.now (λ x. who_at ready.old x ≢ None) }
-    ensures { ready.new ≡ without picked.now ready.old }
-{
-    if let Some(x) = picked {
-        ready.take(*x);
     }
 }

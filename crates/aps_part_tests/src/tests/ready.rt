@@ -138,3 +138,19 @@ fn gates_are_set_one_at_a_time(rt: HostRuntime) -> Result<(), Fail> {
     );
     Ok(())
 }
+
+#[test]
+fn a_drawn_thread_is_out_and_the_next_is_left(rt: HostRuntime) -> Result<(), Fail> {
+    let parts = both(part(IN_BUDGET, 10, 50), part(IN_BUDGET, 10, 50));
+    let mut ready = two(rt.alloc(), facts(0, 10, PLAIN), facts(1, 10, PLAIN))?;
+    let last_in = ready.at(ThreadId::at(1));
+    let other = ready.at(ThreadId::at(0));
+    let drawn = ready.draw(Gates::of(&parts), &parts, Free::Priority);
+    assert_eq!(rt; drawn.picked, last_in);
+    assert_eq!(rt; drawn.left, other);
+    assert_eq!(rt; ready.at(ThreadId::at(1)), None);
+    let rest = ready.draw(Gates::of(&parts), &parts, Free::Priority);
+    assert_eq!(rt; rest.picked, other);
+    assert_eq!(rt; rest.left, None);
+    Ok(())
+}

@@ -3,7 +3,7 @@ use Rattle.aps_model.specs.declared.merit.Contender.{Contender}
 use Rattle.aps_model.specs.Pick.{missing}
 use Rattle.aps_levels.specs.Bits.{has}
 use Rattle.aps_ready.specs.Ready.{members}
-use Rattle.aps_ready.proofs.Starved.{starved_found, none_starved, not_past}
+use Rattle.aps_ready.proofs.Starved.{groups_occupied, starved_found, none_starved, not_past}
 use Rattle.aps_ready.proofs.ready.Ready.missing_by.Goals.{in_default-via-in-Some+else-p-lt-PARTITIONS, in_default-via-in_default}
 use Rattle.aps_ready.proofs.ready.Ready.missing_by.Goals as goal
 
@@ -13,12 +13,12 @@ clash t p q = cc
 pub returns-in-Some : goal.returns-in-Some
 returns-in-Some c parts are few =
     let row = c.self.inside.row.items in
-    let found = starved_found parts row c.self.inside.brackets.items c.self.inside.index c.args.gates
-    c.join.result c.occupied.result c.meet-groups.result c.upper_half.result c.join-2.result c.minus-starved.result c.in-Some.p
-    are (record { drawn = c.self.invariant.0; queued = c.self.invariant.1; topped = c.self.invariant.2 })
+    let found = starved_found parts row c.args.gates
+    c.join.result c.occupied-occupied.result c.meet-groups.result c.upper_half.result c.join-2.result c.minus-starved.result c.in-Some.p
+    are (groups_occupied c.self.inside.row.items c.self.inside.aside c.self.inside.brackets.items c.self.inside.index c.occupied-occupied.result
+    c.self.invariant.0 c.self.invariant.1 c.self.invariant.2 c.occupied-occupied.ensures)
     (record {
       opened = c.join.ensures;
-      occupied = c.occupied.ensures;
       groups = c.meet-groups.ensures;
       upper = c.upper_half.ensures;
       held = c.join-2.ensures;
@@ -38,12 +38,12 @@ returns-in_default c parts are few =
       | in_default-via-in_default w ↦ λ k below. w.in_default.ensures.none k
     ] in
     sym (ap (λ (seats : List (Option Contender)). missing parts (members seats)) (sym c.self.view_is)
-    ∙ none_starved parts c.self.inside.row.items c.self.inside.brackets.items c.self.inside.index c.args.gates
-    c.join.result c.occupied.result c.meet-groups.result c.upper_half.result c.join-2.result c.minus-starved.result
-    are (record { drawn = c.self.invariant.0; queued = c.self.invariant.1; topped = c.self.invariant.2 })
+    ∙ none_starved parts c.self.inside.row.items c.args.gates
+    c.join.result c.occupied-occupied.result c.meet-groups.result c.upper_half.result c.join-2.result c.minus-starved.result
+    are (groups_occupied c.self.inside.row.items c.self.inside.aside c.self.inside.brackets.items c.self.inside.index c.occupied-occupied.result
+    c.self.invariant.0 c.self.invariant.1 c.self.invariant.2 c.occupied-occupied.ensures)
     (record {
       opened = c.join.ensures;
-      occupied = c.occupied.ensures;
       groups = c.meet-groups.ensures;
       upper = c.upper_half.ensures;
       held = c.join-2.ensures;

@@ -1,6 +1,7 @@
 use Rattle.std.proofs.Common.{◌≡◌, ◌∙◌, ap, map, replicate, arith}
 use Rattle.aps_ready.specs.Ready.{seat_of}
-use Rattle.aps_ready.proofs.Drawn.{drawn_replicate}
+use Rattle.aps_ready.proofs.BracketLaws.{drawn_replicate}
+use Rattle.aps_ready.proofs.Aside.{none_aside}
 use Rattle.aps_ready.proofs.Topped.{topped_replicate}
 use Rattle.aps_ready.proofs.Queued.{queued_replicate, replicate_seats}
 use Rattle.aps_ready.specs.Entrant.{vacant}
@@ -12,8 +13,12 @@ invariant_of-result c =
     let groups : c.brackets.counter ≡ 64 = omega arith in
     let row_is = c.row.invariant ∙ ap (λ n. replicate n vacant) all in
     let brackets_are = c.brackets.invariant ∙ ap (λ n. replicate n (replicate c.args.threads vacant)) groups in
-    rw (row_is, brackets_are, c.in_ok-index.ensures)
-    (drawn_replicate c.args.threads (omega arith), queued_replicate c.args.threads, topped_replicate c.args.threads)
+    rw (row_is, brackets_are, c.in_ok-index.ensures) (
+      none_aside (replicate c.args.threads vacant) (replicate 64 (replicate c.args.threads vacant)) c.vacant-2.result c.vacant-2.ensures
+          (drawn_replicate c.args.threads (omega arith)),
+      queued_replicate c.args.threads,
+      topped_replicate c.args.threads,
+    )
 
 pub returns : goal.returns
 returns c =

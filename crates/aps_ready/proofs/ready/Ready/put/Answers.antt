@@ -1,28 +1,35 @@
-use Rattle.std.proofs.Common.{◌<◌, ◌∙◌, ap, sym, arith, length}
+use Rattle.std.proofs.Common.{◌<◌, ◌≤◌, ◌∙◌, ap, sym, arith, length, refl}
 use Rattle.aps_ready.specs.declared.entrant.Entrant.{Entrant}
+use Rattle.aps_ready.specs.Entrant.{entrant_at}
 use Rattle.aps_ready.specs.Ready.{seat_of}
-use Rattle.aps_ready.proofs.Queued.{seats_set, seen, queued_set, free_stamp, place_in_row}
+use Rattle.aps_ready.proofs.Aside.{put_aside}
+use Rattle.aps_ready.proofs.Queued.{seats_set, seen, seen_at, queued_set, free_stamp, place_in_row, in_group, is_out}
 use Rattle.aps_ready.proofs.ready.Ready.put.Goals as goal
-
-within : (c : goal.After-seat) → c.index.result < length c.self.inside.row.items
-within c = place_in_row c.self.inside.row.items c.args.self.now c.args.x c.index.result c.self.view_is c.requires.inside c.index.ensures.same
 
 pub invariant_of-self : goal.invariant_of-self
 invariant_of-self c =
     let row = c.self.inside.row.items in
-    let is = c.entrant_of-entrant.ensures.same in (
-      c.seat.ensures.drawn,
-      rw (c.seat.ensures.row) (queued_set row c.index.result c.entrant_of-entrant.result c.self.invariant.1 (within c) (λ g. record {
+    let i = c.index.result in
+    let e = c.entrant_of-entrant.result in
+    let is = c.entrant_of-entrant.ensures.same in
+    let within : i < length row = place_in_row row c.args.self.now c.args.x i c.self.view_is c.requires.inside c.index.ensures.same in
+    let out : 64 ≤ (entrant_at row i).group =
+    is_out (entrant_at row i) (seen_at row c.args.self.now c.args.x i c.self.view_is c.requires.inside c.index.ensures.same ∙ c.requires.out) in
+    let there : e.group < 64 =
+    omega (arith, ap (λ (f : Entrant). f.group) is, in_group c.args.facts c.entrant_of-entrant.ensures.partition) in
+    let thread = ap (λ (f : Entrant). f.thread) is ∙ sym c.index.ensures.same in (
+      put_aside row c.enter.new.brackets.items i e (c.enter.ensures.drawn row c.self.invariant.0) within out there thread,
+      queued_set row i e c.self.invariant.1 within (λ g. record {
         level = rw is (omega arith);
-        thread = ap (λ (e : Entrant). e.thread) is ∙ sym c.index.ensures.same;
+        thread = thread;
         stamp = λ y below ne h. rw is (free_stamp row c.args.self.now c.args.stamp y c.self.view_is c.requires.stamp below h);
-      })),
-      c.seat.ensures.topped,
+      }),
+      c.enter.ensures.topped,
     )
 
 pub returns : goal.returns
 returns c =
     let e = c.entrant_of-entrant in
-    seats_set c.self.inside.row.items c.args.self.now c.seat.new.row.items c.args.x c.index.result e.result _
-    c.self.view_is c.seat.ensures.row c.index.ensures.same
+    seats_set c.self.inside.row.items c.args.self.now _ c.args.x c.index.result e.result _
+    c.self.view_is refl c.index.ensures.same
     (ap seat_of e.ensures.same ∙ seen c.args.x c.args.facts c.args.stamp e.ensures.partition e.ensures.priority)

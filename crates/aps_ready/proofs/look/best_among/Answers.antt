@@ -3,7 +3,7 @@ use Rattle.aps_levels.specs.Bits.{has}
 use Rattle.aps_ready.specs.Best.{IsBest}
 use Rattle.aps_ready.proofs.Tops.{top_by}
 use Rattle.aps_ready.proofs.Among.{best_of_none, best_of_same, best_more, one_more, none_yet, all_done, left_less, least_passed}
-use Rattle.aps_ready.proofs.ready.best_among.Goals as goal
+use Rattle.aps_ready.proofs.look.best_among.Goals as goal
 
 pub loop-init : goal.loop-init
 loop-init c = record {

@@ -3,7 +3,7 @@ use Rattle.aps_levels.specs.Bits.{has}
 use Rattle.aps_ready.specs.declared.entrant.Entrant.{Entrant}
 use Rattle.aps_ready.specs.Best.{IsBest}
 use Rattle.aps_ready.specs.Ready.{AreDrawn, IsQueued}
-use Rattle.aps_ready.proofs.ready.best_among.Given as goal
+use Rattle.aps_ready.proofs.look.best_among.Given as goal
 
 -- the best of the groups that are no longer left; the numbers below the count of turns aren't left
 abbrev pub invariant-loop : goal.invariant-loop

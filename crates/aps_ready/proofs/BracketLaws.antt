@@ -3,12 +3,8 @@ use Rattle.std.proofs.lemmas.Bool.{cases_eq}
 use Rattle.std.proofs.lemmas.Bool.Decides.{nat_tests}
 use Rattle.std.proofs.lemmas.List.{map-set, set-get_or, set_past, get_or-map, get_or-replicate, length-replicate}
 use Rattle.aps_ready.specs.declared.entrant.Entrant.{Entrant}
-use Rattle.aps_ready.specs.Ready.{entrant_in, bracket_at, AreDrawn}
+use Rattle.aps_ready.specs.Ready.{entrant_in, bracket_at, with_place, AreDrawn}
 use Rattle.aps_ready.specs.Entrant.{entrant_at, vacant}
-
--- a place of the bracket k is set
-abbrev pub with_place : List (List Entrant) → ℕ → ℕ → Entrant → List (List Entrant)
-with_place brackets k x e = set brackets k (set (bracket_at brackets k) x e)
 
 pub drawn_place : (row : List Entrant) (brackets : List (List Entrant)) (x k : ℕ) (e : Entrant) → AreDrawn row brackets → x < length row
     → (k < 64 → entrant_in k e ≡ e) → ((g : ℕ) → g < 64 → g ≢ k → entrant_in g e ≡ entrant_in g (entrant_at row x))

@@ -1,0 +1,35 @@
+use Rattle.std.specs.Prelude.{◌≡◌, ℕ, ◌%◌, ◌<◌, ◌≤◌, Bool, true, false, ◌&&◌, ◌||◌, not, nat_lt, List, length}
+use Rattle.aps_model.specs.declared.shape.Free.{Free}
+use Rattle.aps_model.specs.declared.merit.PartFacts.{PartFacts}
+use Rattle.aps_model.specs.Merit.{is_candidate, is_greater}
+use Rattle.aps_model.specs.Budget.{part_at}
+use Rattle.aps_model.specs.Pick.{merit_among}
+use Rattle.aps_ready.specs.declared.entrant.Entrant.{Entrant}
+use Rattle.aps_ready.specs.Entrant.{entrant_at}
+use Rattle.aps_ready.specs.Ready.{facts_of, contender_of}
+use Rattle.aps_ready.specs.Best.{Sits}
+
+-- somebody is there, and is a candidate
+abbrev pub is_candidate_at : List PartFacts → Entrant → Bool
+is_candidate_at parts e = nat_lt e.group 64 && is_candidate (facts_of e) (part_at parts (e.group % 32))
+
+-- the merit of the first is greater
+abbrev pub is_above : Free → List PartFacts → Entrant → Entrant → Bool
+is_above free parts a b = is_greater free (merit_among parts (contender_of a)) (merit_among parts (contender_of b))
+
+-- a candidate above whom no candidate of the row is; nobody exactly where the row has no candidate
+pub record IsWinner (free : Free) (parts : List PartFacts) (row : List Entrant) (best : Entrant) : Type 0 where
+  pub open_here : best.group < 64 → is_candidate_at parts best ≡ true
+  pub sits : best.group < 64 → Sits row best
+  pub others : (x : ℕ) → x < length row → is_candidate_at parts (entrant_at row x) ≡ true
+      → (best.group < 64) × (is_above free parts (entrant_at row x) best ≡ false)
+
+-- a candidate, of a level that there is
+pub record IsContestant (parts : List PartFacts) (e : Entrant) : Type 0 where
+  pub there : e.group < 64
+  pub level : e.level ≤ 255
+  pub candidate : is_candidate_at parts e ≡ true
+
+-- one more takes the place of the best so far: it is a candidate, and nobody is the best so far, or it is above
+abbrev pub wins : Free → List PartFacts → Entrant → Entrant → Bool
+wins free parts one best = is_candidate_at parts one && (not (nat_lt best.group 64) || is_above free parts one best)
