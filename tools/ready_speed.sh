@@ -1,10 +1,12 @@
 #!/usr/bin/env bash
-# Times the calls of `aps_ready` with 16, 128 and 1,024 threads, and prints a row for each.
+# Times the calls of `aps_ready` with 16, 128 and 1,024 threads, and prints a table: nanoseconds for each call, the least of
+# fifteen times a million calls.
 #
 #   tools/ready_speed.sh [FOLDER]    FOLDER keeps what was built; without one a new folder is made, and removed at the end
 #
 # The program that times them is made in that folder, over copies of the crates that it stands on (with what was built of
-# them, if anything was), and is proved before it is built: two to ten minutes the first time.
+# them, if anything was), and is proved before it is built: one minute where those are built, else up to ten. What that says
+# goes to standard error.
 set -eu
 root=$(cd "$(dirname "${BASH_SOURCE[0]}")/.." && pwd)
 if [ $# -ge 1 ]; then
@@ -14,7 +16,21 @@ else
     trap 'rm -rf "$folder"' EXIT
 fi
 mkdir -p "$folder/crates"
-for crate in aps_model aps_levels aps_ready; do
+
+# `aps_ready` and the crates of this repository that it stands on.
+crates=()
+collect() {
+    local below
+    [[ " ${crates[*]-} " != *" $1 "* ]] || return 0
+    for below in $(sed -n "s/^$1://p" "$root/crates.txt"); do
+        [ ! -d "$root/crates/$below" ] || collect "$below"
+    done
+    crates+=("$1")
+}
+collect aps_ready
+
+: >"$folder/crates.txt"
+for crate in "${crates[@]}"; do
     mkdir -p "$folder/crates/$crate"
     for part in src specs proofs; do
         rm -rf "$folder/crates/$crate/$part"
@@ -23,8 +39,8 @@ for crate in aps_model aps_levels aps_ready; do
     if [ ! -d "$folder/crates/$crate/out" ] && [ -d "$root/crates/$crate/out" ]; then
         cp -r "$root/crates/$crate/out" "$folder/crates/$crate/out"
     fi
+    grep "^$crate:" "$root/crates.txt" >>"$folder/crates.txt"
 done
-grep -E '^(aps_model|aps_levels|aps_ready):' "$root/crates.txt" >"$folder/crates.txt"
 echo 'ready_speed: aps_model aps_ready anyhow' >>"$folder/crates.txt"
 program=$folder/crates/ready_speed
 mkdir -p "$program/src" "$program/specs" "$program/proofs"
@@ -44,10 +60,10 @@ use std::alloc::Global;
 use std::time::Instant;
 
 /// How many calls are timed at once.
-const TURNS: u64 = 2_000_000;
+const TURNS: u64 = 1_000_000;
 
 /// How often each is timed; the least counts.
-const TIMES: u64 = 7;
+const TIMES: u64 = 15;
 
 /// Who stands at the highest priority: a few threads, or all.
 #[derive(Clone, Copy, PartialEq, Eq)]
@@ -95,6 +111,16 @@ fn all_parts(alloc: Global) -> Result<Vec<PartFacts>, NoMemory>
     Ok(parts)
 }
 
+/// The gates, twice.
+fn twice(alloc: Global, gates: Gates) -> Result<Vec<Gates>, NoMemory>
+    ensures { IfOk result (λ both. both.items ≡ replicate 2 gates) }
+{
+    let mut both = Vec::with_capacity(alloc, 2)?;
+    both.push(gates)?;
+    both.push(gates)?;
+    Ok(both)
+}
+
 /// Puts all threads in, with the stamps 0, 1, 2 and so on.
 fn fill(ready: &mut Ready, count: usize, load: Load)
     requires few { count ≤ 1024 }
@@ -127,7 +153,7 @@ fn renew_all(ready: &mut Ready, count: usize, load: Load, first: u64)
     requires stamps { first ≤ 1000000000 }
     requires inside { All (IsIn first) ready.old }
     requires size { length ready.old ≡ count }
-    ensures inside { All (IsIn (first + 2000000)) ready.new }
+    ensures inside { All (IsIn (first + 1000000)) ready.new }
     ensures size { length ready.new ≡ count }
 {
     let mut x = 0usize;
@@ -152,14 +178,16 @@ fn look(ready: &Ready, parts: &[PartFacts]) -> u64
     sum
 }
 
-/// Looks for the best, where the gates are kept.
-fn look_by(ready: &Ready, gates: Gates, parts: &[PartFacts]) -> u64
-    requires gates { AreGates parts.now gates }
+/// Looks for the best, where the gates are kept. They are kept twice and taken in turn, so that no look can stand for the
+/// next one.
+fn look_by(ready: &Ready, gates: &[Gates], parts: &[PartFacts]) -> u64
+    requires gates { All (AreGates parts.now) gates.now }
+    requires two { length gates.now ≡ 2 }
     requires small { All IsSmall parts.now }
 {
     let mut sum = 0u64;
     for i in 0..TURNS {
-        let best = ready.best_by(gates, parts, Free::Priority);
+        let best = ready.best_by(gates[(i % 2) as usize], parts, Free::Priority);
         sum = sum.wrapping_add(number_of(best, i));
     }
     sum
@@ -189,7 +217,7 @@ fn measure(rt: &HostRuntime, count: usize, load: Load) -> anyhow::Result<()>
 {
     let alloc = rt.alloc();
     let parts = all_parts(alloc)?;
-    let gates = Gates::of(&parts);
+    let gates = twice(alloc, Gates::of(&parts))?;
     let mut ready = Ready::new(alloc, count as u16)?;
     fill(&mut ready, count, load);
     let (mut best, mut best_by, mut renewed) = (u64::MAX, u64::MAX, u64::MAX);
@@ -199,14 +227,14 @@ fn measure(rt: &HostRuntime, count: usize, load: Load) -> anyhow::Result<()>
         sum = sum.wrapping_add(look(&ready, &parts));
         best = best.min(tenths(start.elapsed(rt)?.as_micros()));
         let start = Instant::now(rt)?;
-        sum = sum.wrapping_add(look_by(&ready, gates, &parts));
+        sum = sum.wrapping_add(look_by(&ready, &gates, &parts));
         best_by = best_by.min(tenths(start.elapsed(rt)?.as_micros()));
         let start = Instant::now(rt)?;
         renew_all(&mut ready, count, load, 1024 + TURNS * i);
         renewed = renewed.min(tenths(start.elapsed(rt)?.as_micros()));
     }
     let ties = if load == Load::AllTie { "all tie" } else { "few ties" };
-    println!(rt; "| {count} | {ties} | {}.{} | {}.{} | {}.{} | {} |", best / 10, best % 10, best_by / 10, best_by % 10, renewed / 10, renewed % 10, sum % 1000)?;
+    println!(rt; "| {count} | {ties} | {}.{} | {}.{} | {}.{} | {} |", best / 10, best % 10, best_by / 10, best_by % 10, renewed / 10, renewed % 10, sum % 9973)?;
     Ok(())
 }
 
@@ -226,88 +254,22 @@ cat >"$program/specs/Lib.antt" <<'END'
 pub mod Inside
 END
 cat >"$program/specs/Inside.antt" <<'END'
-use Rattle.std.specs.Prelude.{⊥, ℕ, ◌<◌, Option, Some, None}
+use Rattle.std.specs.Prelude.{◌≡◌, ℕ, ◌<◌, ◌≤◌, List, Option, Some, None, slice_index_or}
 use Rattle.aps_model.specs.declared.merit.Contender.{Contender}
 
 -- somebody is in, with a smaller stamp
 abbrev pub IsIn : ℕ → Option Contender → Type 0
 IsIn stamp None = ⊥
 IsIn stamp (Some c) = c.stamp < stamp
+
+-- the threads below x are in, and no other
+pub record AreFirst (row : List (Option Contender)) (x : ℕ) : Type 0 where
+  pub inside : (k : ℕ) → k < x → IsIn x (slice_index_or row k None)
+  pub rest : (k : ℕ) → x ≤ k → slice_index_or row k None ≡ None
 END
 cat >"$program/proofs/Lib.antt" <<'END'
 END
 mkdir -p "$program/proofs/fill" "$program/proofs/renew" "$program/proofs/renew_all" "$program/proofs/all_parts" "$program/proofs/measure"
-cat >"$program/proofs/Lib.antt" <<'END'
-pub mod Inside
-END
-cat >"$program/proofs/Inside.antt" <<'END'
--- What a row keeps where a thread is put in or renewed.
-use Rattle.std.proofs.Common.{◌≡◌, ◌≢◌, ℕ, zero, suc, ◌+◌, ◌<◌, ◌≤◌, All, List, length, get_or, replicate, slice_set, Option, Some, None, refl, sym, ap, ◌∙◌, subst, arith, inl, inr}
-use Rattle.std.proofs.lemmas.Bool.{cases_eq, cases_lt}
-use Rattle.std.proofs.lemmas.List.{get_or-set_same, get_or-set_other, set-set}
-use Rattle.std.proofs.lemmas.List.Elements.{All-from_get_or, All-set, All-weaker}
-use Rattle.aps_model.specs.declared.merit.Contender.{Contender}
-use Rattle.aps_ready.specs.Ready.{IsFree}
-use Rattle.ready_speed.specs.Inside.{IsIn}
-
-free : (stamp : ℕ) (o : Option Contender) → IsIn stamp o → IsFree stamp o
-free stamp None h = absurd h
-free stamp (Some c) h = λ e. omega (arith, e, h)
-
-later : (stamp : ℕ) (o : Option Contender) → IsIn stamp o → IsIn (stamp + 1) o
-later stamp None h = absurd h
-later stamp (Some c) h = omega (arith, h)
-
-pub present : (row : List (Option Contender)) (stamp x : ℕ) → x < length row → All (IsIn stamp) row → get_or row x None ≢ None
-present row stamp x lt all e = subst (IsIn stamp) e (all x None lt)
-
-pub free_without : (row : List (Option Contender)) (stamp x : ℕ) → All (IsIn stamp) row → All (IsFree stamp) (slice_set row x None)
-free_without row stamp x all = All-set (IsFree stamp) row x None tt (All-weaker (IsIn stamp) (IsFree stamp) (free stamp) row all)
-
-pub renewed : (row : List (Option Contender)) (stamp x : ℕ) (c : Contender) → c.stamp ≡ stamp → All (IsIn stamp) row
-    → All (IsIn (stamp + 1)) (slice_set (slice_set row x None) x (Some c))
-renewed row stamp x c e all =
-    subst (All (IsIn (stamp + 1))) (sym (set-set row x None (Some c)))
-    (All-set (IsIn (stamp + 1)) row x (Some c) (omega (arith, e)) (All-weaker (IsIn stamp) (IsIn (stamp + 1)) (later stamp) row all))
-
--- the threads below x are in, and no other
-pub record AreFirst (row : List (Option Contender)) (x : ℕ) : Type 0 where
-  pub inside : (k : ℕ) → k < x → IsIn x (get_or row k None)
-  pub rest : (k : ℕ) → x ≤ k → get_or row k None ≡ None
-
-pub free_among : (row : List (Option Contender)) (x : ℕ) → AreFirst row x → All (IsFree x) row
-free_among row x first = All-from_get_or (IsFree x) row None each
-  where
-    each : (k : ℕ) → k < length row → IsFree x (get_or row k None)
-    each k lt = elim (cases_lt k x) [
-      | inl below ↦ free x (get_or row k None) (first.inside k below)
-      | inr from ↦ subst (IsFree x) (sym (first.rest k from)) tt
-    ]
-
-pub one_more : (row : List (Option Contender)) (x : ℕ) (c : Contender) → x < length row → c.stamp ≡ x → AreFirst row x → AreFirst (slice_set row x (Some c)) (x + 1)
-one_more row x c lt e first = record {
-  inside = λ k below. elim (cases_eq k x) [
-    | inl same ↦ subst (λ j. IsIn (x + 1) (get_or (slice_set row x (Some c)) j None)) (sym same)
-      (subst (IsIn (x + 1)) (sym (get_or-set_same row x (Some c) None lt)) (omega (arith, e)))
-    | inr ne ↦ subst (IsIn (x + 1)) (sym (get_or-set_other row x k (Some c) None ne)) (later x (get_or row k None) (first.inside k (omega (arith, below, ne))))
-  ];
-  rest = λ k from. get_or-set_other row x k (Some c) None (λ same. omega (arith, from, same)) ∙ first.rest k (omega (arith, from));
-}
-
-pub all_in : (row : List (Option Contender)) (x : ℕ) → length row ≡ x → AreFirst row x → All (IsIn x) row
-all_in row x size first = All-from_get_or (IsIn x) row None (λ k lt. first.inside k (omega (arith, lt, size)))
-
-nobody : (n k : ℕ) → get_or {A = Option Contender} (replicate n None) k None ≡ None
-nobody zero k = refl
-nobody (suc n) zero = refl
-nobody (suc n) (suc k) = nobody n k
-
-pub none_first : (row : List (Option Contender)) (n : ℕ) → row ≡ replicate n None → AreFirst row 0
-none_first row n e = record {
-  inside = λ k below. absurd (omega (arith, below));
-  rest = λ k from. ap (λ (r : List (Option Contender)). get_or r k None) e ∙ nobody n k;
-}
-END
 cat >"$program/proofs/all_parts/Invariants.antt" <<'END'
 use Rattle.std.proofs.Common.{All}
 use Rattle.aps_ready.specs.Small.{IsSmall}
@@ -318,7 +280,7 @@ invariant-loop-p l = All IsSmall l.parts.items
 END
 cat >"$program/proofs/fill/Invariants.antt" <<'END'
 use Rattle.std.proofs.Common.{◌≡◌, length}
-use Rattle.ready_speed.proofs.Inside.{AreFirst}
+use Rattle.ready_speed.specs.Inside.{AreFirst}
 use Rattle.ready_speed.proofs.fill.Given as goal
 
 abbrev pub invariant-loop-x : goal.invariant-loop-x
@@ -338,7 +300,7 @@ use Rattle.ready_speed.specs.Inside.{IsIn}
 use Rattle.ready_speed.proofs.measure.Given as goal
 
 abbrev pub invariant-loop-i : goal.invariant-loop-i
-invariant-loop-i l = record { inside : All (IsIn (1024 + 2000000 * l.i)) l.ready; size : length l.ready ≡ l.count }
+invariant-loop-i l = record { inside : All (IsIn (1024 + 1000000 * l.i)) l.ready; size : length l.ready ≡ l.count }
 END
 cd "$program"
 rt run
