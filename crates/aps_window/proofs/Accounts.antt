@@ -1,17 +1,15 @@
 -- From the accounts to the window that they stand for.
-use Rattle.std.proofs.Common.{◌≡◌, ℕ, ◌+◌, ◌-◌, ◌<◌, ◌≤◌, ◌++◌, lit≤, List, [], ◌∷◌, Bool, length, map, min, take, drop, replicate, get_or, set, sum_by, refl, sym, ap, ◌∙◌, subst, arith, length-set, zero, suc}
+use Rattle.std.proofs.Common.{◌≡◌, ℕ, ◌+◌, ◌-◌, ◌<◌, ◌≤◌, List, [], ◌∷◌, Bool, length, map, max, min, drop, replicate, get_or, set, refl, sym, ap, ◌∙◌, subst, arith, length-set, zero, suc}
 use Rattle.std.specs.List.{All}
-use Rattle.std.proofs.lemmas.List.{append-nil, drop_all, get_or-map, length-map, length-replicate, map-set, take-replicate, take_all}
-use Rattle.std.proofs.lemmas.List.Elements.{All-get_or, All-map, All-replicate, All-set, All-weaker}
-use Rattle.std.proofs.lemmas.List.Folds.{sum_by-replicate}
+use Rattle.std.proofs.lemmas.List.{get_or-map, length-map, length-replicate, map-set}
+use Rattle.std.proofs.lemmas.List.Elements.{All-drop, All-get_or, All-map, All-replicate, All-set, All-weaker}
 use Rattle.std.proofs.lemmas.Simd.{map-map}
-use Rattle.circular_buffer.specs.Buffer.{buffer}
 use Rattle.aps_window.specs.declared.slot.Slot.{Slot}
 use Rattle.aps_window.specs.declared.account.Account.{Account}
 use Rattle.aps_window.specs.declared.window.Window.TheInside.{Inside}
-use Rattle.aps_window.specs.Account.{IsAccount, account_moved, account_of, account_resized, slots_in}
+use Rattle.aps_window.specs.Account.{IsAccount, IsUnused, account_moved, account_of, account_resized, no_account, slots_in}
 use Rattle.aps_window.specs.Bills.{Bill, bills_critical, bills_used}
-use Rattle.aps_window.specs.Slots.{IsSlot, no_slot, no_slots, slot_at, slots_billed, slots_moved, slots_total}
+use Rattle.aps_window.specs.Slots.{no_slots, slot_at, slots_billed, slots_moved, slots_total}
 use Rattle.aps_window.specs.StandsFor.{StandsFor}
 use Rattle.aps_window.specs.Whole.{IsWhole}
 use Rattle.aps_window.specs.Window.{Window, advanced, billed, billed_on, opened, resized, slots_of, total_of}
@@ -19,6 +17,7 @@ use Rattle.aps_window.specs.WindowView.{Keeps, window_of}
 use Rattle.aps_window.proofs.Moves.{advanced_is, map_moved_min}
 use Rattle.aps_window.proofs.Stands.{total_stands}
 use Rattle.aps_window.proofs.Totals.{account_total, billed_are_slots, is_account, length-moved, moved_are_slots}
+use Rattle.aps_window.proofs.Unused.{no_account_is, no_account_moved, no_account_resized, unused_kept, unused_rest}
 
 pub whole_of : (inside : Inside) (window : Window) → Keeps inside → window_of inside ≡ window → IsWhole window
 whole_of inside window keeps view =
@@ -90,9 +89,9 @@ pub billed_keeps : (inside after : Inside) (q age ns : ℕ) (critical : Bool) (a
     → account ≡ get_or inside.accounts.items q account → age < 400
     → (slot_at account.ring.items age).billed + ns ≤ 160000000
     → next ≡ account_of inside.span (slots_billed account.ring.items age ns critical)
-    → after.tick ≡ inside.tick → after.span ≡ inside.span → after.accounts.items ≡ set inside.accounts.items q next
-    → Keeps after
-billed_keeps inside after q age ns critical account next keeps few e kept fits is tick span accounts =
+    → after.tick ≡ inside.tick → after.span ≡ inside.span → after.in_use ≡ max inside.in_use (q + 1)
+    → after.accounts.items ≡ set inside.accounts.items q next → Keeps after
+billed_keeps inside after q age ns critical account next keeps few e kept fits is tick span used accounts =
     let was = account_at inside q account keeps few e in
     let slots = slots_billed account.ring.items age ns critical in
     let full : length slots ≡ 400 = length-set account.ring.items age _ ∙ was.full in
@@ -109,6 +108,9 @@ billed_keeps inside after q age ns critical account next keeps few e kept fits i
       accounts = subst (λ (n : ℕ). All (IsAccount n) after.accounts.items) (sym span)
           (subst (All (IsAccount inside.span)) (sym accounts)
           (All-set (IsAccount inside.span) inside.accounts.items q next stays keeps.accounts));
+      few = omega (arith, used, keeps.few);
+      rest = subst (λ (l : List Account). All IsUnused (drop after.in_use l)) (sym accounts)
+          (unused_rest inside.accounts.items inside.in_use after.in_use q next (omega (arith, used)) (omega (arith, used)) keeps.rest);
     }
 
 pub billed_view : (inside after : Inside) (window : Window) (p q tick ns : ℕ) (critical : Bool)
@@ -127,16 +129,12 @@ billed_view inside after window p q tick ns critical account next keeps view sam
     ap (map slots_in) accounts ∙ map-set slots_in items q next ∙ ap (set (map slots_in items) q) mine in
     (λ i. record { tick = at i; span = span i; slots = slots i }) ∙ (λ i. billed (view i) (same i) tick ns critical)
 
--- all accounts, one after another
-pub all_done : (f : Account → Account) (xs ys : List Account) (i : ℕ) → length xs ≤ i
-    → ys ≡ map f (take i xs) ++ drop i xs → ys ≡ map f xs
-all_done f xs ys i done e =
-    e ∙ (λ j. map f (take_all i xs done j) ++ drop_all i xs done j) ∙ append-nil (map f xs)
-
+-- all accounts move or count anew
 same_keeps : (inside after : Inside) → Keeps inside → after.tick ≤ 100000000 → 8 ≤ after.span → after.span ≤ 400
-    → (f : Account → Account) → after.accounts.items ≡ map f inside.accounts.items
+    → after.in_use ≡ inside.in_use → (f : Account → Account) → f no_account ≡ no_account
+    → after.accounts.items ≡ map f inside.accounts.items
     → ((a : Account) → IsAccount inside.span a → IsAccount after.span (f a)) → Keeps after
-same_keeps inside after keeps tick least most f accounts stays = record {
+same_keeps inside after keeps tick least most used f empty accounts stays = record {
   count = ap (λ (l : List Account). length l) accounts ∙ length-map inside.accounts.items f ∙ keeps.count;
   least = least;
   most = most;
@@ -145,18 +143,21 @@ same_keeps inside after keeps tick least most f accounts stays = record {
       (All-map (IsAccount after.span) f inside.accounts.items
       (All-weaker (IsAccount inside.span) (λ (a : Account). IsAccount after.span
       (f a)) stays inside.accounts.items keeps.accounts));
+  few = omega (arith, used, keeps.few);
+  rest = subst (λ (n : ℕ). All IsUnused (drop n after.accounts.items)) (sym used)
+      (unused_kept f inside.accounts.items after.accounts.items inside.in_use empty accounts keeps.rest);
 }
 
 pub moved_keeps : (inside after : Inside) (ticks moves : ℕ) → Keeps inside → inside.tick + ticks ≤ 100000000
-    → after.tick ≡ inside.tick + ticks → after.span ≡ inside.span
+    → after.tick ≡ inside.tick + ticks → after.span ≡ inside.span → after.in_use ≡ inside.in_use
     → after.accounts.items ≡ map (account_moved moves inside.span) inside.accounts.items → Keeps after
-moved_keeps inside after ticks moves keeps early tick span accounts =
+moved_keeps inside after ticks moves keeps early tick span used accounts =
     same_keeps inside after keeps (omega (arith, tick, early)) (omega (arith, span, keeps.least)) (omega (
       arith,
       span,
       keeps.most,
     ))
-    (account_moved moves inside.span) accounts
+    used (account_moved moves inside.span) (no_account_moved moves inside.span keeps.most) accounts
     (λ a is. subst (λ (n : ℕ). IsAccount n (account_moved moves inside.span a)) (sym span)
     (is_account inside.span (slots_moved moves a.ring.items) (length-moved moves a.ring.items
     ∙ is.full) (moved_are_slots moves a.ring.items is.small)))
@@ -179,15 +180,15 @@ moved_view inside after window ticks moves keeps view least tick span accounts =
     ∙ ap (advanced ticks) view
 
 pub resized_keeps : (inside after : Inside) (span : ℕ) → Keeps inside → 8 ≤ span → span ≤ 400
-    → after.tick ≡ inside.tick → after.span ≡ span
+    → after.tick ≡ inside.tick → after.span ≡ span → after.in_use ≡ inside.in_use
     → after.accounts.items ≡ map (account_resized span) inside.accounts.items → Keeps after
-resized_keeps inside after span keeps least most tick same accounts =
+resized_keeps inside after span keeps least most tick same used accounts =
     same_keeps inside after keeps (omega (arith, tick, keeps.tick)) (omega (arith, same, least)) (omega (
       arith,
       same,
       most,
     ))
-    (account_resized span) accounts
+    used (account_resized span) (no_account_resized span most) accounts
     (λ a is. subst (λ (n : ℕ). IsAccount n (account_resized span a)) (sym same)
     (is_account span a.ring.items is.full is.small))
 
@@ -200,45 +201,26 @@ resized_view inside after window span view tick same accounts =
     (λ i. record { tick = tick i; span = same i; slots = slots i }) ∙ ap (resized span) view
 
 -- at the start
-first_total : (span : ℕ) → span ≤ 400 → no_slot ≡ slots_total span no_slots
-unfolding no_slots
-first_total span few =
-    let newest : take span (replicate 400 no_slot) ≡ replicate span no_slot = take-replicate span 400 no_slot few in
-    let all : 0 ≡ sum_by (λ (s : Slot). s.billed) (take span (replicate 400 no_slot)) =
-    rw newest (omega (arith, sum_by-replicate (λ (s : Slot). s.billed) span no_slot)) in
-    let part : 0 ≡ sum_by (λ (s : Slot). s.critical) (take span (replicate 400 no_slot)) =
-    rw newest (omega (arith, sum_by-replicate (λ (s : Slot). s.critical) span no_slot)) in
-    λ i. record { billed = all i; critical = part i }
-
-first_account : (span : ℕ) → span ≤ 400 → IsAccount span (record { ring = buffer no_slots 400; total = no_slot })
-unfolding no_slots
-first_account span few = record {
-  same = λ i. record { ring = buffer no_slots 400; total = first_total span few i };
-  full = length-replicate 400 no_slot;
-  small = All-replicate IsSlot 400 no_slot (record { small = lit≤ tt; within = lit≤ tt });
+pub opened_keeps : (after : Inside) (n : ℕ) → after.tick ≡ 0 → 8 ≤ after.span → after.span ≤ 400 → after.in_use ≡ 0
+    → n ≡ 32 → after.accounts.items ≡ replicate n no_account → Keeps after
+opened_keeps after n tick least most used count accounts = record {
+  count = ap (λ (l : List Account). length l) accounts ∙ length-replicate n no_account ∙ count;
+  least = least;
+  most = most;
+  tick = omega (arith, tick);
+  accounts = subst (All (IsAccount after.span)) (sym accounts)
+      (All-replicate (IsAccount after.span) n no_account (no_account_is after.span most));
+  few = omega (arith, used);
+  rest = subst (λ (l : List Account). All IsUnused (drop after.in_use l)) (sym accounts)
+      (All-drop IsUnused after.in_use (replicate n no_account) (All-replicate IsUnused n no_account refl));
 }
 
-pub opened_keeps : (after : Inside) (n : ℕ) → after.tick ≡ 0 → 8 ≤ after.span → after.span ≤ 400 → n ≡ 32
-    → after.accounts.items ≡ replicate n (record { ring = buffer no_slots 400; total = no_slot }) → Keeps after
-opened_keeps after n tick least most count accounts =
-    let first : Account = record { ring = buffer no_slots 400; total = no_slot } in
-    record {
-      count = ap (λ (l : List Account). length l) accounts ∙ length-replicate n first ∙ count;
-      least = least;
-      most = most;
-      tick = omega (arith, tick);
-      accounts = subst (All (IsAccount after.span)) (sym accounts)
-          (All-replicate (IsAccount after.span) n first (first_account after.span most));
-    }
-
-map_first : (n : ℕ) → map slots_in (replicate n (record { ring = buffer no_slots 400; total = no_slot }))
-    ≡ replicate n no_slots
+map_first : (n : ℕ) → map slots_in (replicate n no_account) ≡ replicate n no_slots
 map_first zero = refl
 map_first (suc n) = ap (λ (rest : List (List Slot)). no_slots ∷ rest) (map_first n)
 
 pub opened_view : (after : Inside) (span n : ℕ) → after.tick ≡ 0 → after.span ≡ span → n ≡ 32
-    → after.accounts.items ≡ replicate n (record { ring = buffer no_slots 400; total = no_slot })
-    → window_of after ≡ opened span
+    → after.accounts.items ≡ replicate n no_account → window_of after ≡ opened span
 opened_view after span n tick same count accounts =
     let slots : map slots_in after.accounts.items ≡ replicate 32 no_slots =
     ap (map slots_in) accounts ∙ map_first n ∙ ap (λ (m : ℕ). replicate m no_slots) count in

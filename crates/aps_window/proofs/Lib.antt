@@ -4,3 +4,4 @@ pub mod Moves
 pub mod Stands
 pub mod Sums
 pub mod Totals
+pub mod Unused

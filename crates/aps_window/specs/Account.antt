@@ -4,7 +4,7 @@ use Rattle.std.specs.List.{All}
 use Rattle.circular_buffer.specs.Buffer.{buffer}
 use Rattle.aps_window.specs.declared.slot.Slot.{Slot}
 use Rattle.aps_window.specs.declared.account.Account.{Account}
-use Rattle.aps_window.specs.Slots.{IsSlot, slots_moved, slots_total}
+use Rattle.aps_window.specs.Slots.{IsSlot, no_slot, no_slots, slots_moved, slots_total}
 
 -- the account with these slots, whose total is of the newest
 abbrev pub account_of : ℕ → List Slot → Account
@@ -21,6 +21,13 @@ account_moved ticks span account = account_of span (slots_moved ticks account.ri
 -- the account where another number of slots counts
 abbrev pub account_resized : ℕ → Account → Account
 account_resized span account = account_of span account.ring.items
+
+-- the account with no bill
+abbrev pub no_account : Account
+no_account = record { ring = buffer no_slots 400; total = no_slot }
+
+abbrev pub IsUnused : Account → Type 0
+IsUnused account = account ≡ no_account
 
 -- an account has 400 slots, and its total is that of the newest
 pub record IsAccount (span : ℕ) (account : Account) : Type 0 where

@@ -19,6 +19,8 @@ const PARTITIONS: usize = 32;
 pub struct Window {
     tick: u32,
     span: usize,
+    /// One more than the greatest partition that was ever billed: the accounts from there on have no bill.
+    in_use: usize,
     accounts: Vec<Account>,
 }
 
@@ -50,6 +52,7 @@ impl Window {
         Ok(Window {
             tick: 0,
             span: window as usize,
+            in_use: 0,
             accounts,
         })
     }
@@ -85,7 +88,9 @@ impl Window {
             → StandsFor self.new (record { partition = p; tick = tick; ns = ns; critical = critical } ∷ bills) }
     {
         let age = (self.tick - tick) as usize;
-        let account = &mut self.accounts[p.index()];
+        let place = p.index();
+        self.in_use = self.in_use.max(place + 1);
+        let account = &mut self.accounts[place];
         account.bill(age, ns, critical, self.span);
     }
 
@@ -106,7 +111,7 @@ impl Window {
         ensures stands { (bills : List Bill) → StandsFor self.old bills → StandsFor self.new bills }
     {
         let moves = (ticks as usize).min(SLOTS);
-        for p in 0..PARTITIONS {
+        for p in 0..self.in_use {
             let account = &mut self.accounts[p];
             account.advance(moves, self.span);
         }
@@ -121,7 +126,7 @@ impl Window {
         ensures stands { (bills : List Bill) → StandsFor self.old bills → StandsFor self.new bills }
     {
         let span = window as usize;
-        for p in 0..PARTITIONS {
+        for p in 0..self.in_use {
             let account = &mut self.accounts[p];
             account.resize(span);
         }
