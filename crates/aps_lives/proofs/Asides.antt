@@ -1,5 +1,5 @@
 -- Lives told with what stands aside.
-use Rattle.std.proofs.Common.{◌≡◌, ℕ, ◌+◌, ◌<◌, ◌≤◌, List, [], ◌∷◌, ◌++◌, length, get_or, replicate, set, true, false, refl, sym, ap, ◌∙◌, inl, inr, arith}
+use Rattle.std.proofs.Common.{◌≡◌, ℕ, ◌+◌, ◌<◌, ◌≤◌, List, [], ◌∷◌, ◌++◌, length, get_or, replicate, set, true, false, refl, sym, ap, subst, ◌∙◌, inl, inr, arith}
 use Rattle.std.proofs.lemmas.Bool.{and_parts, cases_Bool, cases_eq, cases_lt, eqb-true, leb-true, le-ltb, lt-ltb}
 use Rattle.std.proofs.lemmas.List.{get_or_default, get_or-replicate, get_or-set_other, get_or-set_same, length_push, length-replicate, same_lists}
 use Rattle.std.proofs.lemmas.List.FromFn.{get_or-map-range_with_len, length-map-range_with_len}
@@ -74,6 +74,24 @@ passed_on until from doing life aside keeps = λ to after.
     told_on life aside from to past after
     ∙ ap (λ u. with_piece (told u life aside) (record { from = from; to = to; doing = aside.doing })) (sym same)
     ∙ ap (λ d. with_piece (told until life aside) (record { from = from; to = to; doing = d })) (same_true aside.doing doing parts.1)
+
+-- as are all threads up to one, where those from another on stand as they stood, and go on with the same
+pub passed_more : (s : SchedulerState) (until from i j : ℕ) (start later : List (List Segment)) (start_aside later_aside : List Aside)
+    → ((k : ℕ) → k < i → IsPassed until from (doing_of s k) (get_or start k []) (get_or start_aside k nothing_aside) (get_or later k []) (get_or later_aside k nothing_aside))
+    → ((k : ℕ) → i ≤ k → get_or later k [] ≡ get_or start k []) → ((k : ℕ) → i ≤ k → get_or later_aside k nothing_aside ≡ get_or start_aside k nothing_aside)
+    → ((k : ℕ) → i ≤ k → k < j → keeps_on until from (get_or later_aside k nothing_aside) (doing_of s k) ≡ true)
+    → (k : ℕ) → k < j → IsPassed until from (doing_of s k) (get_or start k []) (get_or start_aside k nothing_aside) (get_or later k []) (get_or later_aside k nothing_aside)
+passed_more s until from i j start later start_aside later_aside done same same_aside kept k less =
+    let life = get_or start k [] in
+    let aside = get_or start_aside k nothing_aside in
+    let Passed : List Segment → Aside → Type 0 = λ l a. IsPassed until from (doing_of s k) life aside l a in
+    elim (cases_lt k i) [
+      | inl before ↦ done k before
+      | inr past ↦
+          let keeps : keeps_on until from aside (doing_of s k) ≡ true = subst (λ a. keeps_on until from a (doing_of s k) ≡ true) (same_aside k past) (kept k past less) in
+          subst (λ l. Passed l (get_or later_aside k nothing_aside)) (sym (same k past))
+          (subst (λ a. Passed life a) (sym (same_aside k past)) (passed_on until from (doing_of s k) life aside keeps))
+    ]
 
 -- ---- all lives
 

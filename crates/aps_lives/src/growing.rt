@@ -1,5 +1,5 @@
 //! The lives of all threads as they grow beside a core that makes its steps again.
-ghost use Rattle.std.specs.Prelude.{◌≡◌, ℕ, ◌<◌, ◌≤◌, [], length, replicate, slice_index_or, IfOk, OnOk};
+ghost use Rattle.std.specs.Prelude.{◌≡◌, ℕ, ◌<◌, ◌≤◌, [], length, replicate, slice_index_or, true, IfOk, OnOk};
 ghost use Rattle.aps_core.specs.Run.{state_of};
 ghost use Rattle.aps_lives.specs.Doing as spec;
 ghost use Rattle.aps_lives.specs.Growing.{IsPassed, keeps_on, nothing_aside, told_of};
@@ -105,7 +105,7 @@ fn nothing_aside(alloc: Global, count: usize) -> Result<Vec<Aside>, NoMemory>
 }
 
 /// Each life, told up to one moment with what stands aside, goes on from another with what its thread does after the entries
-/// of the core.
+/// of the core. A thread that goes on with the same is only looked at.
 fn pass(
     lives: &mut Vec<Life>,
     aside: &mut Vec<Aside>,
@@ -121,44 +121,50 @@ fn pass(
         → IsPassed until from (spec.doing_of (state_of core.now) x) (slice_index_or lives.old.items x []) (slice_index_or aside.old.items x nothing_aside)
         (slice_index_or lives.new.items x []) (slice_index_or aside.new.items x nothing_aside)) }
 {
-    for x in 0..lives.len() {
+    let mut x = next_other(aside, core, 0, until, from);
+    while x < lives.len() {
         let thread = core.thread(ThreadId::at(x));
-        pass_one(
-            &mut lives[x],
-            &mut aside[x],
-            core,
-            &thread.state,
-            until,
-            from,
-        )?;
+        let doing = doing_by(core, &thread.state);
+        turn(&mut lives[x], &mut aside[x], doing, until, from)?;
+        x = next_other(aside, core, x + 1, until, from);
     }
     Ok(())
 }
 
-/// A life, told up to one moment with what stands aside, goes on from another with what a thread does that is in this state.
-/// A thread that goes on with the same is only looked at.
-fn pass_one(
+/// The first thread from this one on that doesn't go on with what stands aside, or the number of threads where each does.
+fn next_other(aside: &Vec<Aside>, core: &Core, start: usize, until: Nanos, from: Nanos) -> usize
+    requires few { length aside.now.items ≤ 1024 }
+    requires start { start ≤ length aside.now.items }
+    ensures later { start ≤ result }
+    ensures inside { result ≤ length aside.now.items }
+    ensures kept { (x : ℕ) → start ≤ x → x < result
+        → keeps_on until from (slice_index_or aside.now.items x nothing_aside) (spec.doing_of (state_of core.now) x) ≡ true }
+{
+    for x in start..aside.len() {
+        let thread = core.thread(ThreadId::at(x));
+        if !keeps_on(&aside[x], core, &thread.state, until, from) {
+            return x;
+        }
+    }
+    aside.len()
+}
+
+/// A life, told up to one moment with what stands aside, goes on from another with this.
+fn turn(
     life: &mut Life,
     aside: &mut Aside,
-    core: &Core,
-    state: &State,
+    doing: Doing,
     until: Nanos,
     from: Nanos,
 ) -> Result<(), NoMemory>
-    ensures { OnOk result (IsPassed until from (spec.doing_by (state_of core.now) state.now) life.old aside.old life.new aside.new) }
+    ensures { OnOk result (IsPassed until from doing life.old aside.old life.new aside.new) }
 {
-    if keeps_on(aside, core, state, until, from) {
-        return Ok(());
-    }
     life.add(Segment {
         from: aside.from,
         to: until,
         doing: aside.doing,
     })?;
-    *aside = Aside {
-        from,
-        doing: doing_by(core, state),
-    };
+    *aside = Aside { from, doing };
     Ok(())
 }
 
