@@ -1,0 +1,157 @@
+//! Sleepers in buckets by their moment, and one further list of all others.
+ghost use Rattle.std.specs.Prelude.{◌≡◌, ◌≢◌, ℕ, ◌%◌, ◌≤◌, true, length, IfSome, Some, false};
+ghost use Rattle.aps_timer.specs.Buckets.{IsFurther, IsNear, IsPlaced, bucket_of};
+ghost use Rattle.aps_timer.specs.Lines.{stands_in};
+ghost use Rattle.aps_timer.specs.Order.{goes_before};
+ghost use Rattle.aps_timer.specs.Sleepers.{SleepsUntil};
+
+use crate::lines::{WORDS, first_in, place};
+use crate::sleeper::{Sleeper, first_of};
+use aps_levels::Bits64;
+use aps_model::{Nanos, NoMemory, ThreadId};
+use std::alloc::Global;
+
+/// How long a bucket is, in ns.
+const SPAN: u64 = 1_000_000;
+
+/// How many buckets there are.
+const BUCKETS: u64 = 1024;
+
+/// The line of the further list, behind those of the buckets.
+const FURTHER: usize = 1024;
+
+/// Where the threads stand that sleep: in the bucket of their moment, where that is one of the buckets from `base` on, and
+/// else in the further list, whether their moment is a later or an earlier one.
+#[derive(Drop)]
+pub struct Buckets {
+    lines: Vec<Bits64>,
+    base: u64,
+    /// nobody in the further list wakes before this moment
+    further: Nanos,
+    ghost room: { length lines.items ≡ 16400 },
+}
+
+impl Buckets {
+    /// Nobody stands anywhere.
+    pub fn new(alloc: Global) -> Result<Buckets, NoMemory> {
+        let lines = vec![in alloc; Bits64::none(); WORDS * (FURTHER + 1)]?;
+        Ok(Buckets {
+            lines,
+            base: 0,
+            further: Nanos::MAX,
+        })
+    }
+
+    /// The thread, which sleeps until this moment, stands where it is looked for.
+    pub fn put(&mut self, x: ThreadId, until: Nanos)
+        ensures here { IsPlaced self.new.lines.items self.new.base self.new.further x until }
+        ensures others { (y other : ℕ) → y ≤ 1023 → IsPlaced self.old.lines.items self.old.base self.old.further y other
+            → IsPlaced self.new.lines.items self.new.base self.new.further y other }
+    {
+        let bucket = until / SPAN;
+        if self.base <= bucket && bucket - self.base < BUCKETS {
+            place(&mut self.lines, line_of(bucket), x, true);
+        } else {
+            place(&mut self.lines, FURTHER, x, true);
+            self.further = self.further.min(until);
+        }
+    }
+
+    /// The thread, which slept until this moment, stands nowhere.
+    pub fn take(&mut self, x: ThreadId, until: Nanos)
+        ensures { (y other : ℕ) → y ≤ 1023 → y ≢ x → IsPlaced self.old.lines.items self.old.base self.old.further y other
+            → IsPlaced self.new.lines.items self.new.base self.new.further y other }
+    {
+        place(&mut self.lines, line_of(until / SPAN), x, false);
+        place(&mut self.lines, FURTHER, x, false);
+    }
+
+    /// The sleeper of the row before which nobody goes whose moment is at or before `now`.
+    pub fn first(&mut self, row: &[Option<Nanos>], now: Nanos) -> Option<Sleeper>
+        ensures one { IfSome result (λ s. SleepsUntil row.now s.1 s.0) }
+        ensures still { (x until : ℕ) → x ≤ 1023 → SleepsUntil row.now x until
+            → IsPlaced self.old.lines.items self.old.base self.old.further x until
+            → IsPlaced self.new.lines.items self.new.base self.new.further x until }
+        ensures others { (x until : ℕ) → x ≤ 1023 → SleepsUntil row.now x until
+            → IsPlaced self.old.lines.items self.old.base self.old.further x until → until ≤ now
+            → goes_before (Some (until, x)) result ≡ false }
+    {
+        let (base, near) = first_near(row, &self.lines, self.base, now / SPAN);
+        let (further, late) = first_further(row, &self.lines, self.further, now);
+        self.base = base;
+        self.further = further;
+        first_of(near, late)
+    }
+}
+
+/// The line of a bucket.
+fn line_of(bucket: u64) -> usize
+    ensures { result ≡ bucket % 1024 }
+{
+    (bucket % BUCKETS) as usize
+}
+
+/// The first sleeper of the first bucket, at or before the last one, in which anybody stands; and where the buckets begin from
+/// then on: with that one, or where there is none with the last.
+fn first_near(
+    row: &[Option<Nanos>],
+    lines: &[Bits64],
+    base: u64,
+    last: u64,
+) -> (u64, Option<Sleeper>)
+    requires room { length lines.now ≡ 16400 }
+    requires last { last ≤ 18446744073709 }
+    ensures one { IfSome result.1 (λ s. SleepsUntil row.now s.1 s.0) }
+    ensures still { (x until : ℕ) → x ≤ 1023 → SleepsUntil row.now x until → IsNear lines.now base x until → IsNear lines.now result.0 x until }
+    ensures others { (x until : ℕ) → x ≤ 1023 → SleepsUntil row.now x until → IsNear lines.now base x until → bucket_of until ≤ last
+        → goes_before (Some (until, x)) result.1 ≡ false }
+{
+    let mut bucket = base;
+    while bucket <= last && bucket - base < BUCKETS {
+        let first = first_in_bucket(row, lines, bucket);
+        if first.is_some() {
+            return (bucket, first);
+        }
+        bucket += 1;
+    }
+    (base.max(last), None)
+}
+
+/// The first sleeper of a bucket. Whoever stands in its line until a later moment isn't of this bucket.
+fn first_in_bucket(row: &[Option<Nanos>], lines: &[Bits64], bucket: u64) -> Option<Sleeper>
+    requires room { length lines.now ≡ 16400 }
+    ensures one { IfSome result (λ s. SleepsUntil row.now s.1 s.0 × (bucket_of s.0 ≤ bucket)) }
+    ensures others { (x until : ℕ) → x ≤ 1023 → stands_in lines.now (bucket % 1024) x ≡ true → SleepsUntil row.now x until
+        → bucket_of until ≡ bucket → goes_before (Some (until, x)) result ≡ false }
+{
+    let first = first_in(row, lines, line_of(bucket))?;
+    if first.until / SPAN <= bucket {
+        Some(first)
+    } else {
+        None
+    }
+}
+
+/// The first sleeper of the further list, looked for only where `now` is at or after the moment before which nobody of it
+/// wakes; and that moment from then on.
+fn first_further(
+    row: &[Option<Nanos>],
+    lines: &[Bits64],
+    further: Nanos,
+    now: Nanos,
+) -> (Nanos, Option<Sleeper>)
+    requires room { length lines.now ≡ 16400 }
+    ensures one { IfSome result.1 (λ s. SleepsUntil row.now s.1 s.0) }
+    ensures still { (x until : ℕ) → x ≤ 1023 → SleepsUntil row.now x until → IsFurther lines.now further x until
+        → IsFurther lines.now result.0 x until }
+    ensures others { (x until : ℕ) → x ≤ 1023 → SleepsUntil row.now x until → IsFurther lines.now further x until → until ≤ now
+        → goes_before (Some (until, x)) result.1 ≡ false }
+{
+    if now < further {
+        return (further, None);
+    }
+    match first_in(row, lines, FURTHER) {
+        Some(first) => (first.until, Some(first)),
+        None => (Nanos::MAX, None),
+    }
+}
