@@ -4,7 +4,7 @@ use Rattle.std.proofs.lemmas.Bool.{cases_eq}
 use Rattle.std.proofs.lemmas.Bool.Decides.{nat_tests}
 use Rattle.aps_levels.specs.declared.bits.Bits64.{Bits64}
 use Rattle.aps_levels.specs.Bits.{has, IsLeast}
-use Rattle.aps_timer.specs.Lines.{no_bits, sleeper_of, stands_in}
+use Rattle.aps_timer.specs.Lines.{IsOfLine, IsOfWord, no_bits, sleeper_of, stands_in}
 use Rattle.aps_timer.specs.Order.{first_of, goes_before}
 use Rattle.aps_timer.specs.Sleepers.{SleepsUntil}
 use Rattle.aps_timer.proofs.Order.{before_chain, first_left, first_right}
@@ -21,27 +21,20 @@ before_neither p a b h = before_chain p a (first_of a b) h (first_left a b)
 pub before_nor : (p a b : Option (ℕ × ℕ)) → goes_before p b ≡ false → goes_before p (first_of a b) ≡ false
 before_nor p a b h = before_chain p b (first_of a b) h (first_right a b)
 
--- the first of two sleepers sleeps
-abbrev pub Sleeps : List (Option ℕ) → Option (ℕ × ℕ) → Type 0
-Sleeps row o = IfSome o (λ s. SleepsUntil row s.1 s.0)
-
-pub one_of : (row : List (Option ℕ)) (a b : Option (ℕ × ℕ)) → Sleeps row a → Sleeps row b → Sleeps row (first_of a b)
-one_of row a b h k = by (goes_before b a)
+-- what holds of two holds of the first of them
+pub one_of : (P : ℕ × ℕ → Type 0) (a b : Option (ℕ × ℕ)) → IfSome a P → IfSome b P → IfSome (first_of a b) P
+one_of P a b h k = by (goes_before b a)
   where
-    by : (t : Bool) → Sleeps row (cond t b a)
+    by : (t : Bool) → IfSome (cond t b a) P
     by true = k
     by false = h
-
--- a thread as it sleeps, if it does
-pub sleeps : (row : List (Option ℕ)) (x : ℕ) (o : Option ℕ) → o ≡ get_or row x None → Sleeps row (sleeper_of x o)
-sleeps row x None is = tt
-sleeps row x (Some until) is = sym is
 
 -- ---- the threads of one word
 
 -- all bits below this one are done with, and of those that are the first is this one
 pub record IsDone (row : List (Option ℕ)) (bits left : Bits64) (word from : ℕ) (first : Option (ℕ × ℕ)) : Type 0 where
-  pub one : IfSome first (λ s. SleepsUntil row s.1 s.0)
+  pub one : IfSome first (IsOfWord row bits word)
+  pub fewer : (k : ℕ) → has left k ≡ true → has bits k ≡ true
   pub below : (k : ℕ) → k < from → has left k ≡ false
   pub done : (k until : ℕ) → k < 64 → has bits k ≡ true → has left k ≡ false → SleepsUntil row (64 * word + k) until
       → goes_before (Some (until, 64 * word + k)) first ≡ false
@@ -49,13 +42,14 @@ pub record IsDone (row : List (Option ℕ)) (bits left : Bits64) (word from : �
 pub done_at_first : (row : List (Option ℕ)) (bits : Bits64) (word : ℕ) → IsDone row bits bits word 0 None
 done_at_first row bits word = record {
   one = tt;
+  fewer = λ k is. is;
   below = λ k less. absurd (omega (arith, less));
   done = λ k until within is not asleep. (let never : true ≡ false = sym is ∙ not in absurd cc);
 }
 
 pub all_done : (row : List (Option ℕ)) (bits left : Bits64) (word from : ℕ) (first : Option (ℕ × ℕ))
     → IsDone row bits left word from first → ((k : ℕ) → has left k ≡ false) → IsDone row bits left word 64 first
-all_done row bits left word from first is none = record { one = is.one; below = λ k less. none k; done = is.done }
+all_done row bits left word from first is none = record { one = is.one; fewer = is.fewer; below = λ k less. none k; done = is.done }
 
 gone : (k bit : ℕ) (h : Bool) → (not (nat_eq k bit) && h) ≡ false → (k ≡ bit) ⊎ (h ≡ false)
 gone k bit h e = by (cases_eq k bit)
@@ -67,18 +61,35 @@ gone k bit h e = by (cases_eq k bit)
         not_same : nat_eq k bit ≡ false
         not_same = grind (arith, nat_tests)
 
+-- a thread of the word as it sleeps, if it does
+of_word : (row : Row) (bits : Bits64) (word bit : ℕ) (o : Option ℕ) → bit < 64 → has bits bit ≡ true → o ≡ get_or row (64 * word + bit) None
+    → IfSome (sleeper_of (64 * word + bit) o) (IsOfWord row bits word)
+of_word row bits word bit None within here read = tt
+of_word row bits word bit (Some until) within here read =
+    let rest : bit ≡ (64 * word + bit) % 64 = omega (arith, within) in
+    record {
+      asleep = sym read;
+      place = omega (arith, within);
+      bit = subst (λ (k : ℕ). has bits k ≡ true) rest here;
+    }
+
 -- one bit more
 pub more_done : (row : List (Option ℕ)) (bits left rest : Bits64) (word from bit : ℕ) (first : Option (ℕ × ℕ)) (o : Option ℕ)
     → IsDone row bits left word from first → IsLeast 64 (has left) bit → ((k : ℕ) → has rest k ≡ (not (nat_eq k bit) && has left k))
     → o ≡ get_or row (64 * word + bit) None
     → IsDone row bits rest word (bit + 1) (first_of first (sleeper_of (64 * word + bit) o))
 more_done row bits left rest word from bit first o is least without read = record {
-  one = one_of row first (sleeper_of (64 * word + bit) o) is.one (sleeps row (64 * word + bit) o read);
+  one = one_of (IsOfWord row bits word) first (sleeper_of (64 * word + bit) o) is.one (of_word row bits word bit o least.below (is.fewer bit least.here) read);
+  fewer = λ k more. is.fewer k (still (nat_eq k bit) (has left k) (sym (without k) ∙ more));
   below = λ k less. without k ∙ below k less (cases_eq k bit);
   done = λ k until within in_bits not asleep.
       done k until within in_bits asleep (gone k bit (has left k) (sym (without k) ∙ not));
 }
   where
+    still : (t h : Bool) → (not t && h) ≡ true → h ≡ true
+    still true h more = absurd cc
+    still false h more = more
+
     below : (k : ℕ) → k < bit + 1 → (k ≡ bit) ⊎ (k ≢ bit) → (not (nat_eq k bit) && has left k) ≡ false
     below k less (inl same) = grind (arith, nat_tests)
     below k less (inr other) = rw (least.earlier k (omega (arith, less, other))) (either (not (nat_eq k bit)))
@@ -101,20 +112,30 @@ more_done row bits left rest word from bit first o is least without read = recor
 
 -- the words below this one are done with
 pub record IsPast (row : List (Option ℕ)) (lines : List Bits64) (line word : ℕ) (first : Option (ℕ × ℕ)) : Type 0 where
-  pub one : IfSome first (λ s. SleepsUntil row s.1 s.0)
+  pub one : IfSome first (IsOfLine row lines line)
   pub done : (x until : ℕ) → x ≤ 1023 → x / 64 < word → stands_in lines line x ≡ true → SleepsUntil row x until
       → goes_before (Some (until, x)) first ≡ false
 
 pub past_at_first : (row : List (Option ℕ)) (lines : List Bits64) (line : ℕ) → IsPast row lines line 0 None
 past_at_first row lines line = record { one = tt; done = λ x until few below. absurd (omega (arith, below)) }
 
+of_line : (row : Row) (lines : List Bits64) (line word : ℕ) (bits : Bits64) (o : Option (ℕ × ℕ)) → word < 16 → bits ≡ get_or lines (16 * line + word) no_bits
+    → IfSome o (IsOfWord row bits word) → IfSome o (IsOfLine row lines line)
+of_line row lines line word bits None few read is = tt
+of_line row lines line word bits (Some s) few read is = record {
+  asleep = is.asleep;
+  few = omega (arith, is.place, few);
+  stands = ap (λ (w : ℕ). has (get_or lines (16 * line + w) no_bits) (s.1 % 64)) is.place
+      ∙ ap (λ (b : Bits64). has b (s.1 % 64)) (sym read) ∙ is.bit;
+}
+
 pub more_past : (row : List (Option ℕ)) (lines : List Bits64) (line word : ℕ) (bits : Bits64) (first second : Option (ℕ × ℕ))
-    → IsPast row lines line word first → bits ≡ get_or lines (16 * line + word) no_bits
-    → IfSome second (λ s. SleepsUntil row s.1 s.0)
+    → word < 16 → IsPast row lines line word first → bits ≡ get_or lines (16 * line + word) no_bits
+    → IfSome second (IsOfWord row bits word)
     → ((k until : ℕ) → k < 64 → has bits k ≡ true → SleepsUntil row (64 * word + k) until → goes_before (Some (until, 64 * word + k)) second ≡ false)
     → IsPast row lines line (word + 1) (first_of first second)
-more_past row lines line word bits first second is read one others = record {
-  one = one_of row first second is.one one;
+more_past row lines line word bits first second few is read one others = record {
+  one = one_of (IsOfLine row lines line) first second is.one (of_line row lines line word bits second few read one);
   done = λ x until few below stands asleep. done x until few stands asleep (here_or_before x below);
 }
   where

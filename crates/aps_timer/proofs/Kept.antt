@@ -1,14 +1,17 @@
 -- Where sleepers stand while threads come and go and the buckets go on, and that they are found there.
-use Rattle.std.proofs.Common.{◌≡◌, ◌≢◌, ◌⊎◌, inl, inr, ℕ, ◌+◌, ◌/◌, ◌%◌, ◌<◌, ◌≤◌, Bool, true, false, cond, ◌&&◌, nat_eq, List, length, get_or, set, refl, sym, ◌∙◌, ap, subst, Option, Some, None, IfSome, arith, get_or-set_same, get_or-set_other}
+use Rattle.std.proofs.Common.{◌≡◌, ◌≢◌, ◌⊎◌, inl, inr, ℕ, ◌+◌, ◌*◌, ◌/◌, ◌%◌, ◌<◌, ◌≤◌, Bool, true, false, cond, ◌&&◌, nat_eq, List, length, get_or, replicate, set, refl, sym, ◌∙◌, ap, subst, Option, Some, None, IfSome, arith, get_or-set_same, get_or-set_other}
 use Rattle.std.proofs.lemmas.Bool.{cases_eq}
 use Rattle.std.proofs.lemmas.Bool.Decides.{nat_tests}
+use Rattle.std.proofs.lemmas.List.{get_or-replicate, length-replicate}
+use Rattle.std.proofs.lemmas.Nat.Bits.{bit_at-zero}
+use Rattle.std.proofs.Math.ListN.{get_or-eq_default}
+use Rattle.aps_levels.specs.Bits.{has}
 use Rattle.aps_levels.specs.declared.bits.Bits64.{Bits64}
 use Rattle.aps_model.specs.TickWork.{is_earlier}
-use Rattle.aps_timer.specs.Buckets.{AreKept, IsFurther, IsNear, IsPlaced, bucket_of}
-use Rattle.aps_timer.specs.Lines.{stands_in}
+use Rattle.aps_timer.specs.Buckets.{AreKept, AreNear, IsFurther, IsNear, IsPlaced, bucket_of}
+use Rattle.aps_timer.specs.Lines.{IsOfLine, no_bits, stands_in}
 use Rattle.aps_timer.specs.Order.{goes_before}
 use Rattle.aps_timer.specs.Sleepers.{IsFirstDue, SleepsUntil}
-use Rattle.aps_timer.proofs.Places.{taken_within}
 
 abbrev Row : Type 0
 Row = List (Option ℕ)
@@ -23,82 +26,156 @@ abbrev pub IsSet : List Bits64 → List Bits64 → ℕ → ℕ → Bool → Type
 IsSet lines lines' line x is_in = (l y : ℕ) → y ≤ 1023
     → stands_in lines' l y ≡ cond (nat_eq l line && nat_eq y x) is_in (stands_in lines l y)
 
-pub stands_here : (lines lines' : List Bits64) (line x : ℕ) → x ≤ 1023 → IsSet lines lines' line x true → stands_in lines' line x ≡ true
-stands_here lines lines' line x few is = is line x few ∙ ap (λ t. cond t true (stands_in lines line x)) here
-  where
-    here : (nat_eq line line && nat_eq x x) ≡ true
-    here = grind (arith, nat_tests)
+same_here : (x : ℕ) → nat_eq x x ≡ true
+same_here x = grind (arith, nat_tests)
 
--- whoever stands in a line stands there still, where one more comes
-pub stands_still : (lines lines' : List Bits64) (line x l y : ℕ) → y ≤ 1023 → IsSet lines lines' line x true
-    → stands_in lines l y ≡ true → stands_in lines' l y ≡ true
-stands_still lines lines' line x l y few is stands = is l y few ∙ either (nat_eq l line && nat_eq y x) (stands_in lines l y) stands
+-- where the thread stood nowhere it stands in this line alone
+pub stands_alone : (lines lines' : List Bits64) (line x : ℕ) → x ≤ 1023 → IsSet lines lines' line x true
+    → ((l : ℕ) → stands_in lines l x ≡ false) → (l : ℕ) → stands_in lines' l x ≡ nat_eq l line
+stands_alone lines lines' line x few is nowhere l = is l x few ∙ rw (same_here x, nowhere l) (either (nat_eq l line))
   where
-    either : (t h : Bool) → h ≡ true → cond t true h ≡ true
-    either true h e = refl
-    either false h e = e
+    either : (t : Bool) → cond (t && true) true false ≡ t
+    either true = refl
+    either false = refl
 
--- and where another leaves
-pub others_stand : (lines lines' : List Bits64) (line x l y : ℕ) → y ≤ 1023 → y ≢ x → IsSet lines lines' line x false
-    → stands_in lines l y ≡ true → stands_in lines' l y ≡ true
-others_stand lines lines' line x l y few other is stands =
-    is l y few ∙ ap (λ t. cond (nat_eq l line && t) false (stands_in lines l y)) not_same ∙ neither (nat_eq l line) (stands_in lines l y) ∙ stands
+-- no other thread stands elsewhere than before
+pub others_same : (lines lines' : List Bits64) (line x y : ℕ) (is_in : Bool) → y ≤ 1023 → y ≢ x → IsSet lines lines' line x is_in
+    → (l : ℕ) → stands_in lines' l y ≡ stands_in lines l y
+others_same lines lines' line x y is_in few other is l =
+    is l y few ∙ ap (λ t. cond (nat_eq l line && t) is_in (stands_in lines l y)) not_same ∙ neither (nat_eq l line) (stands_in lines l y)
   where
     not_same : nat_eq y x ≡ false
     not_same = grind (arith, nat_tests)
 
-    neither : (t h : Bool) → cond (t && false) false h ≡ h
+    neither : (t h : Bool) → cond (t && false) is_in h ≡ h
     neither true h = refl
     neither false h = refl
 
-pub placed_still : (lines lines' : List Bits64) (base further further' y other : ℕ) → ((l : ℕ) → stands_in lines l y ≡ true → stands_in lines' l y ≡ true)
+-- a thread that stands in its bucket or in the further list and leaves both stands nowhere
+pub stands_nowhere : (lines between lines' : List Bits64) (base further x until : ℕ) → x ≤ 1023
+    → IsSet lines between (bucket_of until % 1024) x false → IsSet between lines' 1024 x false
+    → IsPlaced lines base further x (Some until) → (l : ℕ) → stands_in lines' l x ≡ false
+stands_nowhere lines between lines' base further x until few one two placed l =
+    two l x few ∙ rw (same_here x, one l x few, same_here x) (by placed)
+  where
+    left : (s t : Bool) → cond (s && true) false (cond (t && true) false t) ≡ false
+    left true t = refl
+    left false true = refl
+    left false false = refl
+
+    right : (s t : Bool) → cond (s && true) false (cond (t && true) false s) ≡ false
+    right true t = refl
+    right false true = refl
+    right false false = refl
+
+    by : IsPlaced lines base further x (Some until)
+        → cond (nat_eq l 1024 && true) false (cond (nat_eq l (bucket_of until % 1024) && true) false (stands_in lines l x)) ≡ false
+    by (inl near) = rw (near.stands l) (left (nat_eq l 1024) (nat_eq l (bucket_of until % 1024)))
+    by (inr late) = rw (late.stands l) (right (nat_eq l 1024) (nat_eq l (bucket_of until % 1024)))
+
+pub placed_still : (lines lines' : List Bits64) (base further further' y : ℕ) (other : Option ℕ) → ((l : ℕ) → stands_in lines' l y ≡ stands_in lines l y)
     → further' ≤ further → IsPlaced lines base further y other → IsPlaced lines' base further' y other
-placed_still lines lines' base further further' y other still less (inl near) =
-    inl (record { from = near.from; before = near.before; stands = still (bucket_of other % 1024) near.stands })
-placed_still lines lines' base further further' y other still less (inr late) =
-    inr (record { from = omega (arith, less, late.from); stands = still 1024 late.stands })
+placed_still lines lines' base further further' y None same less placed = λ l. same l ∙ placed l
+placed_still lines lines' base further further' y (Some until) same less (inl near) =
+    inl (record { from = near.from; before = near.before; stands = λ l. same l ∙ near.stands l })
+placed_still lines lines' base further further' y (Some until) same less (inr late) =
+    inr (record { from = omega (arith, less, late.from); stands = λ l. same l ∙ late.stands l })
+
+-- nobody stands anywhere at first
+pub kept_at_first : (lines : List Bits64) (bits : Bits64) (threads words further : ℕ) → lines ≡ replicate words bits → ((k : ℕ) → has bits k ≡ false)
+    → AreKept (replicate threads None) lines 0 further
+kept_at_first lines bits threads words further are none = record {
+  few = λ x until asleep. (let never : None ≡ Some until = sym (awake x) ∙ asleep in absurd cc);
+  each = λ x few. subst (IsPlaced lines 0 further x) (sym (awake x)) (λ line. nowhere line x);
+}
+  where
+    within_or_not : (i n : ℕ) → (i < n) ⊎ (n ≤ i)
+    within_or_not i n = search arith
+
+    read : {A : Type 0} (n i : ℕ) (a d : A) → (get_or (replicate n a) i d ≡ a) ⊎ (get_or (replicate n a) i d ≡ d)
+    read n i a d = elim (within_or_not i n) [
+      | inl within ↦ inl (get_or-replicate n i a d within)
+      | inr past ↦ inr (get_or-eq_default (replicate n a) d (omega (arith, past, length-replicate n a)))
+    ]
+
+    nobody : List (Option ℕ)
+    nobody = replicate threads None
+
+    awake : (x : ℕ) → get_or nobody x None ≡ None
+    awake x = elim (read threads x None None) [
+      | inl e ↦ e
+      | inr e ↦ e
+    ]
+
+    nowhere : (line x : ℕ) → stands_in lines line x ≡ false
+    nowhere line x =
+        ap (λ (l : Lines). stands_in l line x) are ∙ (elim (read words (16 * line + x / 64) bits no_bits) [
+          | inl e ↦ ap (λ (b : Bits64). has b (x % 64)) e ∙ none (x % 64)
+          | inr e ↦ ap (λ (b : Bits64). has b (x % 64)) e ∙ ap (λ (b : ℕ). nat_eq b 1) (bit_at-zero (x % 64))
+        ])
 
 -- ---- a thread falls asleep, or wakes
 
-pub kept_asleep : (row : List (Option ℕ)) (lines lines' : List Bits64) (base base' further further' x until : ℕ) → AreKept row lines base further
-    → x < length row → x ≤ 1023 → IsPlaced lines' base' further' x until
-    → ((y other : ℕ) → y ≤ 1023 → IsPlaced lines base further y other → IsPlaced lines' base' further' y other)
-    → AreKept (set row x (Some until)) lines' base' further'
-kept_asleep row lines lines' base base' further further' x until kept within few here others y other asleep = by (cases_eq y x)
+pub kept_set : (row : List (Option ℕ)) (lines lines' : List Bits64) (base base' further further' x : ℕ) (o : Option ℕ) → AreKept row lines base further
+    → x < length row → x ≤ 1023 → IsPlaced lines' base' further' x o
+    → ((y : ℕ) (other : Option ℕ) → y ≤ 1023 → y ≢ x → IsPlaced lines base further y other → IsPlaced lines' base' further' y other)
+    → AreKept (set row x o) lines' base' further'
+kept_set row lines lines' base base' further further' x o kept within few here others = record {
+  few = λ y until asleep. by y until asleep (cases_eq y x);
+  each = λ y fits. stands y fits (cases_eq y x);
+}
   where
-    by : (y ≡ x) ⊎ (y ≢ x) → (y ≤ 1023) × IsPlaced lines' base' further' y other
-    by (inl same) =
-        let now : Some until ≡ Some other =
-        sym (get_or-set_same row x (Some until) None within) ∙ subst (λ (z : ℕ). SleepsUntil (set row x (Some until)) z other) same asleep in
-        let moment : until ≡ other = cc in
-        (omega (arith, same, few), subst (λ (z : ℕ). IsPlaced lines' base' further' z other) (sym same) (subst (IsPlaced lines' base' further' x) moment here))
-    by (inr apart) =
-        let before = kept y other (sym (get_or-set_other row x y (Some until) None apart) ∙ asleep) in
-        (before.0, others y other before.0 before.1)
+    by : (y until : ℕ) → SleepsUntil (set row x o) y until → (y ≡ x) ⊎ (y ≢ x) → y ≤ 1023
+    by y until asleep (inl same) = omega (arith, same, few)
+    by y until asleep (inr apart) = kept.few y until (sym (get_or-set_other row x y o None apart) ∙ asleep)
 
-pub kept_awake : (row : List (Option ℕ)) (lines lines' : List Bits64) (base base' further further' x : ℕ) → AreKept row lines base further
-    → x < length row
-    → ((y other : ℕ) → y ≤ 1023 → y ≢ x → IsPlaced lines base further y other → IsPlaced lines' base' further' y other)
-    → AreKept (set row x None) lines' base' further'
-kept_awake row lines lines' base base' further further' x kept within others y other asleep = by (cases_eq y x)
-  where
-    by : (y ≡ x) ⊎ (y ≢ x) → (y ≤ 1023) × IsPlaced lines' base' further' y other
-    by (inl same) =
-        let never : None ≡ Some other =
-        sym (get_or-set_same row x None None within) ∙ subst (λ (z : ℕ). SleepsUntil (set row x None) z other) same asleep in
-        absurd cc
-    by (inr apart) =
-        let before = kept y other (sym (get_or-set_other row x y None None apart) ∙ asleep) in
-        (before.0, others y other before.0 apart before.1)
+    stands : (y : ℕ) → y ≤ 1023 → (y ≡ x) ⊎ (y ≢ x) → IsPlaced lines' base' further' y (get_or (set row x o) y None)
+    stands y fits (inl same) =
+        subst (λ (z : ℕ). IsPlaced lines' base' further' z (get_or (set row x o) z None)) (sym same)
+        (subst (IsPlaced lines' base' further' x) (sym (get_or-set_same row x o None within)) here)
+    stands y fits (inr apart) =
+        subst (IsPlaced lines' base' further' y) (sym (get_or-set_other row x y o None apart)) (others y (get_or row y None) fits apart (kept.each y fits))
+
+-- where whoever sleeps stands
+pub placed : (row : List (Option ℕ)) (lines : List Bits64) (base further x until : ℕ) → AreKept row lines base further → SleepsUntil row x until
+    → IsPlaced lines base further x (Some until)
+placed row lines base further x until kept asleep = subst (IsPlaced lines base further x) asleep (kept.each x (kept.few x until asleep))
 
 -- whoever sleeps still stands where it is looked for
-pub kept_still : (row seen : List (Option ℕ)) (lines lines' : List Bits64) (base base' further further' : ℕ) → AreKept row lines base further
-    → seen ≡ row
-    → ((x until : ℕ) → x ≤ 1023 → SleepsUntil seen x until → IsPlaced lines base further x until → IsPlaced lines' base' further' x until)
-    → AreKept row lines' base' further'
-kept_still row seen lines lines' base base' further further' kept same still x until asleep =
-    let before = kept x until asleep in
-    (before.0, still x until before.0 (subst (λ (r : Row). SleepsUntil r x until) (sym same) asleep) before.1)
+pub kept_still : (row : List (Option ℕ)) (lines : List Bits64) (base base' further further' : ℕ) → AreKept row lines base further
+    → ((x until : ℕ) → x ≤ 1023 → SleepsUntil row x until → IsNear lines base x until → IsNear lines base' x until)
+    → ((x until : ℕ) → x ≤ 1023 → SleepsUntil row x until → IsFurther lines further x until → IsFurther lines further' x until)
+    → AreKept row lines base' further'
+kept_still row lines base base' further further' kept near late = record {
+  few = kept.few;
+  each = λ x few. by x few (get_or row x None) refl (kept.each x few);
+}
+  where
+    by : (x : ℕ) → x ≤ 1023 → (o : Option ℕ) → get_or row x None ≡ o → IsPlaced lines base further x (get_or row x None)
+        → IsPlaced lines base' further' x (get_or row x None)
+    by x few None is stands = subst (IsPlaced lines base' further' x) (sym is) (subst (IsPlaced lines base further x) is stands)
+    by x few (Some until) is stands =
+        subst (IsPlaced lines base' further' x) (sym is) (elim (subst (IsPlaced lines base further x) is stands) [
+          | inl at ↦ inl (near x until few is at)
+          | inr at ↦ inr (late x until few is at)
+        ])
+
+-- whoever stands in a bucket sleeps until a moment of it
+pub kept_near : (row : List (Option ℕ)) (lines : List Bits64) (base further : ℕ) → AreKept row lines base further → AreNear row lines base
+kept_near row lines base further kept line x below few stands = by (get_or row x None) refl (kept.each x few)
+  where
+    by : (o : Option ℕ) → get_or row x None ≡ o → IsPlaced lines base further x (get_or row x None)
+        → (until : ℕ) × SleepsUntil row x until × IsNear lines base x until
+    by None is at =
+        let nowhere : IsPlaced lines base further x None = subst (IsPlaced lines base further x) is at in
+        let never : true ≡ false = sym stands ∙ nowhere line in
+        absurd cc
+    by (Some until) is at = elim (subst (IsPlaced lines base further x) is at) [
+      | inl near ↦ (until, is, near)
+      | inr late ↦
+          let never : nat_eq line 1024 ≡ true = sym (late.stands line) ∙ stands in
+          absurd (grind (arith, nat_tests))
+    ]
 
 -- ---- the buckets go on
 
@@ -109,11 +186,16 @@ pub record IsPassed (row : List (Option ℕ)) (lines : List Bits64) (base bucket
   pub none : (x until : ℕ) → x ≤ 1023 → SleepsUntil row x until → IsNear lines base x until → bucket ≤ bucket_of until
 
 abbrev pub IsFirstIn : List (Option ℕ) → List Bits64 → ℕ → Option (ℕ × ℕ) → Type 0
-IsFirstIn row lines bucket first = (x until : ℕ) → x ≤ 1023 → stands_in lines (bucket % 1024) x ≡ true → SleepsUntil row x until
-    → bucket_of until ≡ bucket → goes_before (Some (until, x)) first ≡ false
+IsFirstIn row lines line first = (x until : ℕ) → x ≤ 1023 → stands_in lines line x ≡ true → SleepsUntil row x until
+    → goes_before (Some (until, x)) first ≡ false
+
+-- it stands in the line of its bucket
+stands_near : (lines : Lines) (base bucket x until : ℕ) → IsNear lines base x until → bucket_of until ≡ bucket → stands_in lines (bucket % 1024) x ≡ true
+stands_near lines base bucket x until near same =
+    ap (λ (b : ℕ). stands_in lines (b % 1024) x) (sym same) ∙ near.stands (bucket_of until % 1024) ∙ same_here (bucket_of until % 1024)
 
 pub one_passed : (row : List (Option ℕ)) (lines : List Bits64) (base bucket : ℕ) → IsPassed row lines base bucket → bucket < base + 1024
-    → IsFirstIn row lines bucket None → IsPassed row lines base (bucket + 1)
+    → IsFirstIn row lines (bucket % 1024) None → IsPassed row lines base (bucket + 1)
 one_passed row lines base bucket is below first = record {
   from = omega (arith, is.from);
   few = omega (arith, below);
@@ -123,7 +205,7 @@ one_passed row lines base bucket is below first = record {
     by : (x until : ℕ) → x ≤ 1023 → SleepsUntil row x until → IsNear lines base x until → (bucket_of until ≡ bucket) ⊎ (bucket_of until ≢ bucket)
         → bucket + 1 ≤ bucket_of until
     by x until few asleep near (inl same) =
-        let never : true ≡ false = first x until few (subst (λ (b : ℕ). stands_in lines (b % 1024) x ≡ true) same near.stands) asleep same in
+        let never : true ≡ false = first x until few (stands_near lines base bucket x until near same) asleep in
         absurd cc
     by x until few asleep near (inr other) = omega (arith, other, is.none x until few asleep near)
 
@@ -139,15 +221,33 @@ near_on row lines base bucket x until is few asleep near = record {
 earlier_bucket : (until x : ℕ) (s : ℕ × ℕ) → bucket_of s.0 < bucket_of until → goes_before (Some (until, x)) (Some s) ≡ false
 earlier_bucket until x (moment, y) less = let before : moment < until = omega (arith, less) in grind (arith, nat_tests)
 
+-- of 1,024 buckets in a row no two have the same line
+one_line : (base a b : ℕ) → base ≤ a → a < base + 1024 → base ≤ b → b < base + 1024 → a % 1024 ≡ b % 1024 → a ≡ b
+one_line base a b from before from' before' same = omega arith
+
+-- whoever stands in the line of the bucket at hand is of that bucket
+of_bucket : (row : Row) (lines : Lines) (base bucket : ℕ) (s : ℕ × ℕ) → AreNear row lines base → base ≤ bucket → bucket < base + 1024
+    → IsOfLine row lines (bucket % 1024) s → bucket_of s.0 ≡ bucket
+of_bucket row lines base bucket s near from before is = by (near (bucket % 1024) s.1 (omega arith) is.few is.stands)
+  where
+    by : ((until : ℕ) × SleepsUntil row s.1 until × IsNear lines base s.1 until) → bucket_of s.0 ≡ bucket
+    by (until, asleep, at) =
+        let both : Some until ≡ Some s.0 = sym asleep ∙ is.asleep in
+        let moment : until ≡ s.0 = cc in
+        let line : nat_eq (bucket % 1024) (bucket_of until % 1024) ≡ true = sym (at.stands (bucket % 1024)) ∙ is.stands in
+        let same : bucket % 1024 ≡ bucket_of until % 1024 = grind (arith, nat_tests, line) in
+        sym (ap bucket_of moment) ∙ one_line base (bucket_of until) bucket at.from at.before from before (sym same)
+
 -- the first of the bucket at hand is the first of all buckets
-pub first_of_near : (row : List (Option ℕ)) (lines : List Bits64) (base bucket : ℕ) (s : ℕ × ℕ) → IsPassed row lines base bucket
-    → bucket_of s.0 ≤ bucket → IsFirstIn row lines bucket (Some s)
+pub first_of_near : (row : List (Option ℕ)) (lines : List Bits64) (base bucket : ℕ) (s : ℕ × ℕ) → AreNear row lines base → IsPassed row lines base bucket
+    → bucket < base + 1024 → IsOfLine row lines (bucket % 1024) s → IsFirstIn row lines (bucket % 1024) (Some s)
     → (x until : ℕ) → x ≤ 1023 → SleepsUntil row x until → IsNear lines base x until → goes_before (Some (until, x)) (Some s) ≡ false
-first_of_near row lines base bucket s is here first x until few asleep near = by (cases_eq (bucket_of until) bucket)
+first_of_near row lines base bucket s all is before one first x until few asleep near = by (cases_eq (bucket_of until) bucket)
   where
     by : (bucket_of until ≡ bucket) ⊎ (bucket_of until ≢ bucket) → goes_before (Some (until, x)) (Some s) ≡ false
-    by (inl same) = first x until few (subst (λ (b : ℕ). stands_in lines (b % 1024) x ≡ true) same near.stands) asleep same
-    by (inr other) = earlier_bucket until x s (omega (arith, other, here, is.none x until few asleep near))
+    by (inl same) = first x until few (stands_near lines base bucket x until near same) asleep
+    by (inr other) =
+        earlier_bucket until x s (omega (arith, other, of_bucket row lines base bucket s all is.from before one, is.none x until few asleep near))
 
 -- ---- who is taken out
 
@@ -164,13 +264,12 @@ due_or_not : (until now : ℕ) → (until ≤ now) ⊎ (now < until)
 due_or_not until now = search arith
 
 -- nobody whose moment has come goes before this one
-abbrev pub IsFirst : List (Option ℕ) → List Bits64 → ℕ → ℕ → ℕ → Option (ℕ × ℕ) → Type 0
-IsFirst row lines base further now o = (x until : ℕ) → x ≤ 1023 → SleepsUntil row x until → IsPlaced lines base further x until → until ≤ now
-    → goes_before (Some (until, x)) o ≡ false
+abbrev pub IsFirst : List (Option ℕ) → ℕ → Option (ℕ × ℕ) → Type 0
+IsFirst row now o = (x until : ℕ) → SleepsUntil row x until → until ≤ now → goes_before (Some (until, x)) o ≡ false
 
-pub first_due : (row : List (Option ℕ)) (lines : List Bits64) (base further now : ℕ) (s : ℕ × ℕ) → AreKept row lines base further
-    → SleepsUntil row s.1 s.0 → IsFirst row lines base further now (Some s) → s.0 ≤ now → IsFirstDue row now s.1
-first_due row lines base further now s kept asleep first due = record {
+pub first_due : (row : List (Option ℕ)) (now : ℕ) (s : ℕ × ℕ) → SleepsUntil row s.1 s.0 → IsFirst row now (Some s) → s.0 ≤ now
+    → IsFirstDue row now s.1
+first_due row now s asleep first due = record {
   until = s.0;
   asleep = asleep;
   due = due;
@@ -178,22 +277,17 @@ first_due row lines base further now s kept asleep first due = record {
 }
   where
     by : (y other : ℕ) → y ≢ s.1 → SleepsUntil row y other → (other ≤ now) ⊎ (now < other) → is_earlier s (other, y) ≡ true
-    by y other apart sleeps (inl came) =
-        let at = kept y other sleeps in
-        earlier_or_other y other s apart (first y other at.0 sleeps at.1 came)
+    by y other apart sleeps (inl came) = earlier_or_other y other s apart (first y other sleeps came)
     by y other apart sleeps (inr later) = earlier_now y other s (omega (arith, due, later))
 
 -- where the moment of the first hasn't come, no other has
-pub all_later : (row : List (Option ℕ)) (lines : List Bits64) (base further now : ℕ) (o : Option (ℕ × ℕ)) → AreKept row lines base further
-    → IsFirst row lines base further now o → IfSome o (λ s. now < s.0) → (x until : ℕ) → SleepsUntil row x until → now < until
-all_later row lines base further now o kept first later x until asleep = by o first later (due_or_not until now)
+pub all_later : (row : List (Option ℕ)) (now : ℕ) (o : Option (ℕ × ℕ)) → IsFirst row now o → IfSome o (λ s. now < s.0)
+    → (x until : ℕ) → SleepsUntil row x until → now < until
+all_later row now o first later x until asleep = by o first later (due_or_not until now)
   where
-    by : (o : Option (ℕ × ℕ)) → IsFirst row lines base further now o → IfSome o (λ s. now < s.0) → (until ≤ now) ⊎ (now < until) → now < until
+    by : (o : Option (ℕ × ℕ)) → IsFirst row now o → IfSome o (λ s. now < s.0) → (until ≤ now) ⊎ (now < until) → now < until
     by o first later (inr is) = is
     by None first later (inl came) =
-        let at = kept x until asleep in
-        let never : true ≡ false = first x until at.0 asleep at.1 came in
+        let never : true ≡ false = first x until asleep came in
         absurd cc
-    by (Some s) first later (inl came) =
-        let at = kept x until asleep in
-        omega (arith, later, came, not_earlier x until s (first x until at.0 asleep at.1 came))
+    by (Some s) first later (inl came) = omega (arith, later, came, not_earlier x until s (first x until asleep came))

@@ -1,7 +1,6 @@
 //! Sleepers in buckets by their moment, and one further list of all others.
-ghost use Rattle.std.specs.Prelude.{◌≡◌, ◌≢◌, ℕ, ◌%◌, ◌≤◌, true, length, IfSome, Some, false};
-ghost use Rattle.aps_timer.specs.Buckets.{IsFurther, IsNear, IsPlaced, bucket_of};
-ghost use Rattle.aps_timer.specs.Lines.{stands_in};
+ghost use Rattle.std.specs.Prelude.{◌≡◌, ◌≢◌, ℕ, List, Option, ◌%◌, ◌≤◌, length, replicate, IfOk, IfSome, Some, None, false};
+ghost use Rattle.aps_timer.specs.Buckets.{AreKept, AreNear, IsFurther, IsNear, IsPlaced, bucket_of};
 ghost use Rattle.aps_timer.specs.Order.{goes_before};
 ghost use Rattle.aps_timer.specs.Sleepers.{SleepsUntil};
 
@@ -33,7 +32,9 @@ pub struct Buckets {
 
 impl Buckets {
     /// Nobody stands anywhere.
-    pub fn new(alloc: Global) -> Result<Buckets, NoMemory> {
+    pub fn new(alloc: Global) -> Result<Buckets, NoMemory>
+        ensures { IfOk result (λ b. (threads : ℕ) → AreKept (replicate threads None) b.lines.items b.base b.further) }
+    {
         let lines = vec![in alloc; Bits64::none(); WORDS * (FURTHER + 1)]?;
         Ok(Buckets {
             lines,
@@ -42,10 +43,11 @@ impl Buckets {
         })
     }
 
-    /// The thread, which sleeps until this moment, stands where it is looked for.
+    /// The thread, which stands nowhere, sleeps until this moment and stands where it is looked for.
     pub fn put(&mut self, x: ThreadId, until: Nanos)
-        ensures here { IsPlaced self.new.lines.items self.new.base self.new.further x until }
-        ensures others { (y other : ℕ) → y ≤ 1023 → IsPlaced self.old.lines.items self.old.base self.old.further y other
+        requires { IsPlaced self.old.lines.items self.old.base self.old.further x None }
+        ensures here { IsPlaced self.new.lines.items self.new.base self.new.further x (Some until) }
+        ensures others { (y : ℕ) (other : Option ℕ) → y ≤ 1023 → y ≢ x → IsPlaced self.old.lines.items self.old.base self.old.further y other
             → IsPlaced self.new.lines.items self.new.base self.new.further y other }
     {
         let bucket = until / SPAN;
@@ -59,22 +61,21 @@ impl Buckets {
 
     /// The thread, which slept until this moment, stands nowhere.
     pub fn take(&mut self, x: ThreadId, until: Nanos)
-        ensures { (y other : ℕ) → y ≤ 1023 → y ≢ x → IsPlaced self.old.lines.items self.old.base self.old.further y other
+        requires { IsPlaced self.old.lines.items self.old.base self.old.further x (Some until) }
+        ensures here { IsPlaced self.new.lines.items self.new.base self.new.further x None }
+        ensures others { (y : ℕ) (other : Option ℕ) → y ≤ 1023 → y ≢ x → IsPlaced self.old.lines.items self.old.base self.old.further y other
             → IsPlaced self.new.lines.items self.new.base self.new.further y other }
     {
         place(&mut self.lines, line_of(until / SPAN), x, false);
         place(&mut self.lines, FURTHER, x, false);
     }
 
-    /// The sleeper of the row before which nobody goes whose moment is at or before `now`.
+    /// A sleeper of the row before which nobody goes whose moment is at or before `now`.
     pub fn first(&mut self, row: &[Option<Nanos>], now: Nanos) -> Option<Sleeper>
+        requires { AreKept row.now self.old.lines.items self.old.base self.old.further }
+        ensures kept { AreKept row.now self.new.lines.items self.new.base self.new.further }
         ensures one { IfSome result (λ s. SleepsUntil row.now s.1 s.0) }
-        ensures still { (x until : ℕ) → x ≤ 1023 → SleepsUntil row.now x until
-            → IsPlaced self.old.lines.items self.old.base self.old.further x until
-            → IsPlaced self.new.lines.items self.new.base self.new.further x until }
-        ensures others { (x until : ℕ) → x ≤ 1023 → SleepsUntil row.now x until
-            → IsPlaced self.old.lines.items self.old.base self.old.further x until → until ≤ now
-            → goes_before (Some (until, x)) result ≡ false }
+        ensures others { (x until : ℕ) → SleepsUntil row.now x until → until ≤ now → goes_before (Some (until, x)) result ≡ false }
     {
         let (base, near) = first_near(row, &self.lines, self.base, now / SPAN);
         let (further, late) = first_further(row, &self.lines, self.further, now);
@@ -100,6 +101,7 @@ fn first_near(
     last: u64,
 ) -> (u64, Option<Sleeper>)
     requires room { length lines.now ≡ 16400 }
+    requires near { AreNear row.now lines.now base }
     requires last { last ≤ 18446744073709 }
     ensures one { IfSome result.1 (λ s. SleepsUntil row.now s.1 s.0) }
     ensures still { (x until : ℕ) → x ≤ 1023 → SleepsUntil row.now x until → IsNear lines.now base x until → IsNear lines.now result.0 x until }
@@ -108,28 +110,13 @@ fn first_near(
 {
     let mut bucket = base;
     while bucket <= last && bucket - base < BUCKETS {
-        let first = first_in_bucket(row, lines, bucket);
+        let first = first_in(row, lines, line_of(bucket));
         if first.is_some() {
             return (bucket, first);
         }
         bucket += 1;
     }
     (base.max(last), None)
-}
-
-/// The first sleeper of a bucket. Whoever stands in its line until a later moment isn't of this bucket.
-fn first_in_bucket(row: &[Option<Nanos>], lines: &[Bits64], bucket: u64) -> Option<Sleeper>
-    requires room { length lines.now ≡ 16400 }
-    ensures one { IfSome result (λ s. SleepsUntil row.now s.1 s.0 × (bucket_of s.0 ≤ bucket)) }
-    ensures others { (x until : ℕ) → x ≤ 1023 → stands_in lines.now (bucket % 1024) x ≡ true → SleepsUntil row.now x until
-        → bucket_of until ≡ bucket → goes_before (Some (until, x)) result ≡ false }
-{
-    let first = first_in(row, lines, line_of(bucket))?;
-    if first.until / SPAN <= bucket {
-        Some(first)
-    } else {
-        None
-    }
 }
 
 /// The first sleeper of the further list, looked for only where `now` is at or after the moment before which nobody of it
@@ -140,7 +127,7 @@ fn first_further(
     further: Nanos,
     now: Nanos,
 ) -> (Nanos, Option<Sleeper>)
-    requires room { length lines.now ≡ 16400 }
+    requires { length lines.now ≡ 16400 }
     ensures one { IfSome result.1 (λ s. SleepsUntil row.now s.1 s.0) }
     ensures still { (x until : ℕ) → x ≤ 1023 → SleepsUntil row.now x until → IsFurther lines.now further x until
         → IsFurther lines.now result.0 x until }

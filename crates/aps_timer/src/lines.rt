@@ -1,7 +1,7 @@
 //! Lines in which threads stand, a bit for each, and who of a line wakes first.
 ghost use Rattle.std.specs.Prelude.{◌≡◌, ℕ, ◌+◌, ◌*◌, ◌/◌, ◌<◌, ◌≤◌, ◌&&◌, nat_eq, if◌then◌else◌, length, slice_index_or, IfSome, Some, None, true, false};
 ghost use Rattle.aps_levels.specs.Bits.{has};
-ghost use Rattle.aps_timer.specs.Lines.{sleeper_of, stands_in};
+ghost use Rattle.aps_timer.specs.Lines.{IsOfLine, IsOfWord, sleeper_of, stands_in};
 ghost use Rattle.aps_timer.specs.Order.{goes_before};
 ghost use Rattle.aps_timer.specs.Sleepers.{SleepsUntil};
 
@@ -26,7 +26,7 @@ pub fn place(lines: &mut Vec<Bits64>, line: usize, x: ThreadId, is_in: bool)
 /// Of those who stand in a line and sleep the one that wakes first.
 pub fn first_in(row: &[Option<Nanos>], lines: &[Bits64], line: usize) -> Option<Sleeper>
     requires { 16 * line + 15 < length lines.now }
-    ensures one { IfSome result (λ s. SleepsUntil row.now s.1 s.0) }
+    ensures one { IfSome result (IsOfLine row.now lines.now line) }
     ensures others { (x until : ℕ) → x ≤ 1023 → stands_in lines.now line x ≡ true → SleepsUntil row.now x until
         → goes_before (Some (until, x)) result ≡ false }
 {
@@ -52,7 +52,7 @@ fn words_of(threads: usize) -> usize
 /// Of those of one word who sleep the one that wakes first.
 fn first_in_word(row: &[Option<Nanos>], bits: Bits64, word: usize) -> Option<Sleeper>
     requires { word < 16 }
-    ensures one { IfSome result (λ s. SleepsUntil row.now s.1 s.0) }
+    ensures one { IfSome result (IsOfWord row.now bits word) }
     ensures others { (k until : ℕ) → k < 64 → has bits k ≡ true → SleepsUntil row.now (64 * word + k) until
         → goes_before (Some (until, 64 * word + k)) result ≡ false }
 {

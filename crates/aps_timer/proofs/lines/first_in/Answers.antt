@@ -1,4 +1,4 @@
-use Rattle.std.proofs.Common.{◌+◌, ◌*◌, refl, sym, subst, get_or}
+use Rattle.std.proofs.Common.{◌+◌, ◌*◌, refl, sym, subst, get_or, arith}
 use Rattle.aps_timer.specs.Lines.{no_bits}
 use Rattle.aps_timer.proofs.Firsts.{IsPast, more_past}
 use Rattle.aps_timer.proofs.lines.first_in.Goals as goal
@@ -11,4 +11,4 @@ loop-word-preserved c =
     let word = c.loop-word.word in
     subst (IsPast row lines line (word + 1)) (sym c.first_of-first.ensures)
     (more_past row lines line word (get_or lines (16 * line + word) no_bits) c.loop-word.first c.first_in_word.result
-    c.loop-word.invariant refl c.first_in_word.ensures.one c.first_in_word.ensures.others)
+    (omega arith) c.loop-word.invariant refl c.first_in_word.ensures.one c.first_in_word.ensures.others)

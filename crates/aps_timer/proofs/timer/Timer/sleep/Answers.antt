@@ -1,9 +1,15 @@
-use Rattle.std.proofs.Common.{◌≡◌, ◌<◌, ℕ, List, length, set, Option, Some, ap, sym, subst, ◌∙◌, arith}
-use Rattle.aps_timer.specs.Buckets.{AreKept}
+use Rattle.std.proofs.Common.{◌≡◌, ◌<◌, ℕ, List, length, get_or, set, Option, None, Some, sym, subst, ◌∙◌, ap, arith}
+use Rattle.aps_timer.specs.Buckets.{AreKept, IsPlaced}
 use Rattle.aps_timer.specs.Sleepers.{all_due}
 use Rattle.aps_timer.proofs.Due.{later_asleep}
-use Rattle.aps_timer.proofs.Kept.{kept_asleep}
+use Rattle.aps_timer.proofs.Kept.{kept_set}
 use Rattle.aps_timer.proofs.timer.Timer.sleep.Goals as goal
+
+pub put-requires : goal.put-requires
+put-requires c =
+    let before = c.self.inside.buckets in
+    let awake : get_or c.self.inside.row.items c.args.x None ≡ None = ap (λ (r : List (Option ℕ)). get_or r c.args.x None) c.self.view_is ∙ c.requires.awake in
+    subst (IsPlaced before.lines.items before.base before.further c.args.x) awake (c.self.invariant.each c.args.x (omega arith))
 
 pub invariant_of-self : goal.invariant_of-self
 invariant_of-self c =
@@ -12,7 +18,7 @@ invariant_of-self c =
     let after = c.put.new.self in
     let within : c.args.x < length row = subst (λ (r : List (Option ℕ)). c.args.x < length r) (sym c.self.view_is) c.requires.within in
     subst (λ (i : ℕ). AreKept (set row i (Some c.args.until)) after.lines.items after.base after.further) (sym c.index.ensures.same)
-    (kept_asleep row before.lines.items after.lines.items before.base after.base before.further after.further c.args.x c.args.until
+    (kept_set row before.lines.items after.lines.items before.base after.base before.further after.further c.args.x (Some c.args.until)
     c.self.invariant within (omega arith) c.put.ensures.here c.put.ensures.others)
 
 pub returns-clause-due : goal.returns-clause-due
