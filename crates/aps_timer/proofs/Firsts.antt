@@ -5,7 +5,7 @@ use Rattle.std.proofs.lemmas.Bool.Decides.{nat_tests}
 use Rattle.aps_levels.specs.declared.bits.Bits64.{Bits64}
 use Rattle.aps_levels.specs.Bits.{has, IsLeast}
 use Rattle.aps_timer.specs.Lines.{IsOfLine, IsOfWord, no_bits, sleeper_of, stands_in}
-use Rattle.aps_timer.specs.Order.{first_of, goes_before}
+use Rattle.aps_timer.specs.Order.{first_of, goes_before, wakes_by}
 use Rattle.aps_timer.specs.Sleepers.{SleepsUntil}
 use Rattle.aps_timer.proofs.Order.{before_chain, first_left, first_right}
 use Rattle.aps_timer.proofs.Places.{taken_within}
@@ -35,6 +35,7 @@ one_of P a b h k = by (goes_before b a)
 pub record IsDone (row : List (Option ℕ)) (bits left : Bits64) (word from : ℕ) (first : Option (ℕ × ℕ)) : Type 0 where
   pub one : IfSome first (IsOfWord row bits word)
   pub fewer : (k : ℕ) → has left k ≡ true → has bits k ≡ true
+  pub lower : (k : ℕ) → has left k ≡ true → IfSome first (λ s. s.1 < 64 * word + k)
   pub below : (k : ℕ) → k < from → has left k ≡ false
   pub done : (k until : ℕ) → k < 64 → has bits k ≡ true → has left k ≡ false → SleepsUntil row (64 * word + k) until
       → goes_before (Some (until, 64 * word + k)) first ≡ false
@@ -43,13 +44,14 @@ pub done_at_first : (row : List (Option ℕ)) (bits : Bits64) (word : ℕ) → I
 done_at_first row bits word = record {
   one = tt;
   fewer = λ k is. is;
+  lower = λ k is. tt;
   below = λ k less. absurd (omega (arith, less));
   done = λ k until within is not asleep. (let never : true ≡ false = sym is ∙ not in absurd cc);
 }
 
 pub all_done : (row : List (Option ℕ)) (bits left : Bits64) (word from : ℕ) (first : Option (ℕ × ℕ))
     → IsDone row bits left word from first → ((k : ℕ) → has left k ≡ false) → IsDone row bits left word 64 first
-all_done row bits left word from first is none = record { one = is.one; fewer = is.fewer; below = λ k less. none k; done = is.done }
+all_done row bits left word from first is none = record { one = is.one; fewer = is.fewer; lower = is.lower; below = λ k less. none k; done = is.done }
 
 gone : (k bit : ℕ) (h : Bool) → (not (nat_eq k bit) && h) ≡ false → (k ≡ bit) ⊎ (h ≡ false)
 gone k bit h e = by (cases_eq k bit)
@@ -81,6 +83,10 @@ pub more_done : (row : List (Option ℕ)) (bits left rest : Bits64) (word from b
 more_done row bits left rest word from bit first o is least without read = record {
   one = one_of (IsOfWord row bits word) first (sleeper_of (64 * word + bit) o) is.one (of_word row bits word bit o least.below (is.fewer bit least.here) read);
   fewer = λ k more. is.fewer k (still (nat_eq k bit) (has left k) (sym (without k) ∙ more));
+  lower = λ k more.
+      let both = sym (without k) ∙ more in
+      one_of (λ (s : ℕ × ℕ). s.1 < 64 * word + k) first (sleeper_of (64 * word + bit) o) (is.lower k (still (nat_eq k bit) (has left k) both))
+      (higher o k (higher_bit k (still (nat_eq k bit) (has left k) both) (cases_eq k bit) both));
   below = λ k less. without k ∙ below k less (cases_eq k bit);
   done = λ k until within in_bits not asleep.
       done k until within in_bits asleep (gone k bit (has left k) (sym (without k) ∙ not));
@@ -89,6 +95,23 @@ more_done row bits left rest word from bit first o is least without read = recor
     still : (t h : Bool) → (not t && h) ≡ true → h ≡ true
     still true h more = absurd cc
     still false h more = more
+
+    low_or_high : (a b : ℕ) → a ≢ b → (a < b) ⊎ (b < a)
+    low_or_high a b apart = search arith
+
+    apart : (k : ℕ) → has left k ≡ true → (k < bit) ⊎ (bit < k) → bit < k
+    apart k more (inl low) = (let never : true ≡ false = sym more ∙ least.earlier k low in absurd cc)
+    apart k more (inr high) = high
+
+    higher_bit : (k : ℕ) → has left k ≡ true → (k ≡ bit) ⊎ (k ≢ bit) → (not (nat_eq k bit) && has left k) ≡ true → bit < k
+    higher_bit k more (inl same) both = (let is_same : nat_eq k bit ≡ true = grind (arith, nat_tests) in
+        let never : false ≡ true = sym (rw is_same refl) ∙ both in
+        absurd cc)
+    higher_bit k more (inr other) both = apart k more (low_or_high k bit other)
+
+    higher : (o : Option ℕ) (k : ℕ) → bit < k → IfSome (sleeper_of (64 * word + bit) o) (λ s. s.1 < 64 * word + k)
+    higher None k less = tt
+    higher (Some until) k less = omega (arith, less)
 
     below : (k : ℕ) → k < bit + 1 → (k ≡ bit) ⊎ (k ≢ bit) → (not (nat_eq k bit) && has left k) ≡ false
     below k less (inl same) = grind (arith, nat_tests)
@@ -108,16 +131,36 @@ more_done row bits left rest word from bit first o is least without read = recor
     done k until within in_bits asleep (inr not) =
         before_neither (Some (until, 64 * word + k)) first (sleeper_of (64 * word + bit) o) (is.done k until within in_bits not asleep)
 
+not_before_by : (until x begin : ℕ) (s : ℕ × ℕ) → begin ≤ until → s.0 ≤ begin → s.1 < x → goes_before (Some (until, x)) (Some s) ≡ false
+not_before_by until x begin (moment, y) later by lower = grind (arith, nat_tests)
+
+-- the look ends with one who wakes at the earliest moment: all others have higher numbers
+pub ended : (o : Option (ℕ × ℕ)) (begin until x : ℕ) → wakes_by o begin ≡ true → begin ≤ until → IfSome o (λ s. s.1 < x)
+    → goes_before (Some (until, x)) o ≡ false
+ended None begin until x by later lower = absurd cc
+ended (Some s) begin until x by later lower = not_before_by until x begin s later (grind (arith, nat_tests, by)) lower
+
+pub ended_in_word : (row : List (Option ℕ)) (bits left : Bits64) (word from begin : ℕ) (first : Option (ℕ × ℕ))
+    → IsDone row bits left word from first → wakes_by first begin ≡ true
+    → (k until : ℕ) → k < 64 → has bits k ≡ true → SleepsUntil row (64 * word + k) until → begin ≤ until
+    → goes_before (Some (until, 64 * word + k)) first ≡ false
+ended_in_word row bits left word from begin first is by k until within in_bits asleep later = in_left (has left k) refl
+  where
+    in_left : (t : Bool) → has left k ≡ t → goes_before (Some (until, 64 * word + k)) first ≡ false
+    in_left true more = ended first begin until (64 * word + k) by later (is.lower k more)
+    in_left false not = is.done k until within in_bits not asleep
+
 -- ---- the words of one line
 
 -- the words below this one are done with
-pub record IsPast (row : List (Option ℕ)) (lines : List Bits64) (line word : ℕ) (first : Option (ℕ × ℕ)) : Type 0 where
+pub record IsPast (row : List (Option ℕ)) (lines : List Bits64) (line begin word : ℕ) (first : Option (ℕ × ℕ)) : Type 0 where
   pub one : IfSome first (IsOfLine row lines line)
-  pub done : (x until : ℕ) → x ≤ 1023 → x / 64 < word → stands_in lines line x ≡ true → SleepsUntil row x until
+  pub lower : IfSome first (λ s. s.1 / 64 < word)
+  pub done : (x until : ℕ) → x ≤ 1023 → x / 64 < word → stands_in lines line x ≡ true → SleepsUntil row x until → begin ≤ until
       → goes_before (Some (until, x)) first ≡ false
 
-pub past_at_first : (row : List (Option ℕ)) (lines : List Bits64) (line : ℕ) → IsPast row lines line 0 None
-past_at_first row lines line = record { one = tt; done = λ x until few below. absurd (omega (arith, below)) }
+pub past_at_first : (row : List (Option ℕ)) (lines : List Bits64) (line begin : ℕ) → IsPast row lines line begin 0 None
+past_at_first row lines line begin = record { one = tt; lower = tt; done = λ x until few below. absurd (omega (arith, below)) }
 
 of_line : (row : Row) (lines : List Bits64) (line word : ℕ) (bits : Bits64) (o : Option (ℕ × ℕ)) → word < 16 → bits ≡ get_or lines (16 * line + word) no_bits
     → IfSome o (IsOfWord row bits word) → IfSome o (IsOfLine row lines line)
@@ -129,33 +172,59 @@ of_line row lines line word bits (Some s) few read is = record {
       ∙ ap (λ (b : Bits64). has b (s.1 % 64)) (sym read) ∙ is.bit;
 }
 
-pub more_past : (row : List (Option ℕ)) (lines : List Bits64) (line word : ℕ) (bits : Bits64) (first second : Option (ℕ × ℕ))
-    → word < 16 → IsPast row lines line word first → bits ≡ get_or lines (16 * line + word) no_bits
+pub more_past : (row : List (Option ℕ)) (lines : List Bits64) (line begin word : ℕ) (bits : Bits64) (first second : Option (ℕ × ℕ))
+    → word < 16 → IsPast row lines line begin word first → bits ≡ get_or lines (16 * line + word) no_bits
     → IfSome second (IsOfWord row bits word)
-    → ((k until : ℕ) → k < 64 → has bits k ≡ true → SleepsUntil row (64 * word + k) until → goes_before (Some (until, 64 * word + k)) second ≡ false)
-    → IsPast row lines line (word + 1) (first_of first second)
-more_past row lines line word bits first second few is read one others = record {
+    → ((k until : ℕ) → k < 64 → has bits k ≡ true → SleepsUntil row (64 * word + k) until → begin ≤ until
+        → goes_before (Some (until, 64 * word + k)) second ≡ false)
+    → IsPast row lines line begin (word + 1) (first_of first second)
+more_past row lines line begin word bits first second few is read one others = record {
   one = one_of (IsOfLine row lines line) first second is.one (of_line row lines line word bits second few read one);
-  done = λ x until few below stands asleep. done x until few stands asleep (here_or_before x below);
+  lower = one_of (λ (s : ℕ × ℕ). s.1 / 64 < word + 1) first second (lower first is.lower) (here second one);
+  done = λ x until few below stands asleep later. done x until few stands asleep later (here_or_before x below);
 }
   where
+    lower : (o : Option (ℕ × ℕ)) → IfSome o (λ s. s.1 / 64 < word) → IfSome o (λ s. s.1 / 64 < word + 1)
+    lower None is = tt
+    lower (Some s) is = omega (arith, is)
+
+    here : (o : Option (ℕ × ℕ)) → IfSome o (IsOfWord row bits word) → IfSome o (λ s. s.1 / 64 < word + 1)
+    here None is = tt
+    here (Some s) is = omega (arith, is.place)
+
     here_or_before : (x : ℕ) → x / 64 < word + 1 → (x / 64 < word) ⊎ (x / 64 ≡ word)
     here_or_before x below = search arith
 
-    done : (x until : ℕ) → x ≤ 1023 → stands_in lines line x ≡ true → SleepsUntil row x until → (x / 64 < word) ⊎ (x / 64 ≡ word)
+    done : (x until : ℕ) → x ≤ 1023 → stands_in lines line x ≡ true → SleepsUntil row x until → begin ≤ until → (x / 64 < word) ⊎ (x / 64 ≡ word)
         → goes_before (Some (until, x)) (first_of first second) ≡ false
-    done x until few stands asleep (inl below) = before_neither (Some (until, x)) first second (is.done x until few below stands asleep)
-    done x until few stands asleep (inr here) =
+    done x until few stands asleep later (inl below) = before_neither (Some (until, x)) first second (is.done x until few below stands asleep later)
+    done x until few stands asleep later (inr here) =
         let same : 64 * word + x % 64 ≡ x = omega (arith, here) in
         let bit : has bits (x % 64) ≡ true =
         ap (λ (b : Bits64). has b (x % 64)) read
         ∙ ap (λ (w : ℕ). has (get_or lines (16 * line + w) no_bits) (x % 64)) (sym here) ∙ stands in
         before_nor (Some (until, x)) first second
         (subst (λ (y : ℕ). goes_before (Some (until, y)) second ≡ false) same
-        (others (x % 64) until (omega arith) bit (subst (λ (y : ℕ). SleepsUntil row y until) (sym same) asleep)))
+        (others (x % 64) until (omega arith) bit (subst (λ (y : ℕ). SleepsUntil row y until) (sym same) asleep) later))
 
-pub all_past : (row : List (Option ℕ)) (lines : List Bits64) (line words : ℕ) (first : Option (ℕ × ℕ)) → IsPast row lines line words first
+pub all_past : (row : List (Option ℕ)) (lines : List Bits64) (line begin words : ℕ) (first : Option (ℕ × ℕ)) → IsPast row lines line begin words first
     → ((x : ℕ) → x < length row → x ≤ 1023 → x / 64 < words) → (x until : ℕ) → x ≤ 1023 → stands_in lines line x ≡ true → SleepsUntil row x until
-    → goes_before (Some (until, x)) first ≡ false
-all_past row lines line words first is enough x until few stands asleep =
-    is.done x until few (enough x (taken_within row x until asleep) few) stands asleep
+    → begin ≤ until → goes_before (Some (until, x)) first ≡ false
+all_past row lines line begin words first is enough x until few stands asleep later =
+    is.done x until few (enough x (taken_within row x until asleep) few) stands asleep later
+
+pub ended_in_line : (row : List (Option ℕ)) (lines : List Bits64) (line begin words : ℕ) (first : Option (ℕ × ℕ)) → IsPast row lines line begin words first
+    → wakes_by first begin ≡ true → (x until : ℕ) → x ≤ 1023 → stands_in lines line x ≡ true → SleepsUntil row x until
+    → begin ≤ until → goes_before (Some (until, x)) first ≡ false
+ended_in_line row lines line begin words first is by x until few stands asleep later = in_words (past_or_not (x / 64) words)
+  where
+    past_or_not : (a b : ℕ) → (a < b) ⊎ (b ≤ a)
+    past_or_not a b = search arith
+
+    further : (o : Option (ℕ × ℕ)) → words ≤ x / 64 → IfSome o (λ s. s.1 / 64 < words) → IfSome o (λ s. s.1 < x)
+    further None past is = tt
+    further (Some s) past is = omega (arith, past, is)
+
+    in_words : (x / 64 < words) ⊎ (words ≤ x / 64) → goes_before (Some (until, x)) first ≡ false
+    in_words (inl below) = is.done x until few below stands asleep later
+    in_words (inr past) = ended first begin until x by later (further first past is.lower)

@@ -52,10 +52,10 @@ others_same lines lines' line x y is_in few other is l =
     neither false h = refl
 
 -- a thread that stands in its bucket or in the further list and leaves both stands nowhere
-pub stands_nowhere : (lines between lines' : List Bits64) (base further x until : ℕ) → x ≤ 1023
+pub stands_nowhere : (lines between lines' : List Bits64) (begin further x until : ℕ) → x ≤ 1023
     → IsSet lines between (bucket_of until % 1024) x false → IsSet between lines' 1024 x false
-    → IsPlaced lines base further x (Some until) → (l : ℕ) → stands_in lines' l x ≡ false
-stands_nowhere lines between lines' base further x until few one two placed l =
+    → IsPlaced lines begin further x (Some until) → (l : ℕ) → stands_in lines' l x ≡ false
+stands_nowhere lines between lines' begin further x until few one two placed l =
     two l x few ∙ rw (same_here x, one l x few, same_here x) (by placed)
   where
     left : (s t : Bool) → cond (s && true) false (cond (t && true) false t) ≡ false
@@ -68,17 +68,17 @@ stands_nowhere lines between lines' base further x until few one two placed l =
     right false true = refl
     right false false = refl
 
-    by : IsPlaced lines base further x (Some until)
+    by : IsPlaced lines begin further x (Some until)
         → cond (nat_eq l 1024 && true) false (cond (nat_eq l (bucket_of until % 1024) && true) false (stands_in lines l x)) ≡ false
     by (inl near) = rw (near.stands l) (left (nat_eq l 1024) (nat_eq l (bucket_of until % 1024)))
     by (inr late) = rw (late.stands l) (right (nat_eq l 1024) (nat_eq l (bucket_of until % 1024)))
 
-pub placed_still : (lines lines' : List Bits64) (base further further' y : ℕ) (other : Option ℕ) → ((l : ℕ) → stands_in lines' l y ≡ stands_in lines l y)
-    → further' ≤ further → IsPlaced lines base further y other → IsPlaced lines' base further' y other
-placed_still lines lines' base further further' y None same less placed = λ l. same l ∙ placed l
-placed_still lines lines' base further further' y (Some until) same less (inl near) =
+pub placed_still : (lines lines' : List Bits64) (begin further further' y : ℕ) (other : Option ℕ) → ((l : ℕ) → stands_in lines' l y ≡ stands_in lines l y)
+    → further' ≤ further → IsPlaced lines begin further y other → IsPlaced lines' begin further' y other
+placed_still lines lines' begin further further' y None same less placed = λ l. same l ∙ placed l
+placed_still lines lines' begin further further' y (Some until) same less (inl near) =
     inl (record { from = near.from; before = near.before; stands = λ l. same l ∙ near.stands l })
-placed_still lines lines' base further further' y (Some until) same less (inr late) =
+placed_still lines lines' begin further further' y (Some until) same less (inr late) =
     inr (record { from = omega (arith, less, late.from); stands = λ l. same l ∙ late.stands l })
 
 -- nobody stands anywhere at first
@@ -116,11 +116,11 @@ kept_at_first lines bits threads words further are none = record {
 
 -- ---- a thread falls asleep, or wakes
 
-pub kept_set : (row : List (Option ℕ)) (lines lines' : List Bits64) (base base' further further' x : ℕ) (o : Option ℕ) → AreKept row lines base further
-    → x < length row → x ≤ 1023 → IsPlaced lines' base' further' x o
-    → ((y : ℕ) (other : Option ℕ) → y ≤ 1023 → y ≢ x → IsPlaced lines base further y other → IsPlaced lines' base' further' y other)
-    → AreKept (set row x o) lines' base' further'
-kept_set row lines lines' base base' further further' x o kept within few here others = record {
+pub kept_set : (row : List (Option ℕ)) (lines lines' : List Bits64) (begin begin' further further' x : ℕ) (o : Option ℕ) → AreKept row lines begin further
+    → x < length row → x ≤ 1023 → IsPlaced lines' begin' further' x o
+    → ((y : ℕ) (other : Option ℕ) → y ≤ 1023 → y ≢ x → IsPlaced lines begin further y other → IsPlaced lines' begin' further' y other)
+    → AreKept (set row x o) lines' begin' further'
+kept_set row lines lines' begin begin' further further' x o kept within few here others = record {
   few = λ y until asleep. by y until asleep (cases_eq y x);
   each = λ y fits. stands y fits (cases_eq y x);
 }
@@ -129,48 +129,48 @@ kept_set row lines lines' base base' further further' x o kept within few here o
     by y until asleep (inl same) = omega (arith, same, few)
     by y until asleep (inr apart) = kept.few y until (sym (get_or-set_other row x y o None apart) ∙ asleep)
 
-    stands : (y : ℕ) → y ≤ 1023 → (y ≡ x) ⊎ (y ≢ x) → IsPlaced lines' base' further' y (get_or (set row x o) y None)
+    stands : (y : ℕ) → y ≤ 1023 → (y ≡ x) ⊎ (y ≢ x) → IsPlaced lines' begin' further' y (get_or (set row x o) y None)
     stands y fits (inl same) =
-        subst (λ (z : ℕ). IsPlaced lines' base' further' z (get_or (set row x o) z None)) (sym same)
-        (subst (IsPlaced lines' base' further' x) (sym (get_or-set_same row x o None within)) here)
+        subst (λ (z : ℕ). IsPlaced lines' begin' further' z (get_or (set row x o) z None)) (sym same)
+        (subst (IsPlaced lines' begin' further' x) (sym (get_or-set_same row x o None within)) here)
     stands y fits (inr apart) =
-        subst (IsPlaced lines' base' further' y) (sym (get_or-set_other row x y o None apart)) (others y (get_or row y None) fits apart (kept.each y fits))
+        subst (IsPlaced lines' begin' further' y) (sym (get_or-set_other row x y o None apart)) (others y (get_or row y None) fits apart (kept.each y fits))
 
 -- where whoever sleeps stands
-pub placed : (row : List (Option ℕ)) (lines : List Bits64) (base further x until : ℕ) → AreKept row lines base further → SleepsUntil row x until
-    → IsPlaced lines base further x (Some until)
-placed row lines base further x until kept asleep = subst (IsPlaced lines base further x) asleep (kept.each x (kept.few x until asleep))
+pub placed : (row : List (Option ℕ)) (lines : List Bits64) (begin further x until : ℕ) → AreKept row lines begin further → SleepsUntil row x until
+    → IsPlaced lines begin further x (Some until)
+placed row lines begin further x until kept asleep = subst (IsPlaced lines begin further x) asleep (kept.each x (kept.few x until asleep))
 
 -- whoever sleeps still stands where it is looked for
-pub kept_still : (row : List (Option ℕ)) (lines : List Bits64) (base base' further further' : ℕ) → AreKept row lines base further
-    → ((x until : ℕ) → x ≤ 1023 → SleepsUntil row x until → IsNear lines base x until → IsNear lines base' x until)
+pub kept_still : (row : List (Option ℕ)) (lines : List Bits64) (begin begin' further further' : ℕ) → AreKept row lines begin further
+    → ((x until : ℕ) → x ≤ 1023 → SleepsUntil row x until → IsNear lines begin x until → IsNear lines begin' x until)
     → ((x until : ℕ) → x ≤ 1023 → SleepsUntil row x until → IsFurther lines further x until → IsFurther lines further' x until)
-    → AreKept row lines base' further'
-kept_still row lines base base' further further' kept near late = record {
+    → AreKept row lines begin' further'
+kept_still row lines begin begin' further further' kept near late = record {
   few = kept.few;
   each = λ x few. by x few (get_or row x None) refl (kept.each x few);
 }
   where
-    by : (x : ℕ) → x ≤ 1023 → (o : Option ℕ) → get_or row x None ≡ o → IsPlaced lines base further x (get_or row x None)
-        → IsPlaced lines base' further' x (get_or row x None)
-    by x few None is stands = subst (IsPlaced lines base' further' x) (sym is) (subst (IsPlaced lines base further x) is stands)
+    by : (x : ℕ) → x ≤ 1023 → (o : Option ℕ) → get_or row x None ≡ o → IsPlaced lines begin further x (get_or row x None)
+        → IsPlaced lines begin' further' x (get_or row x None)
+    by x few None is stands = subst (IsPlaced lines begin' further' x) (sym is) (subst (IsPlaced lines begin further x) is stands)
     by x few (Some until) is stands =
-        subst (IsPlaced lines base' further' x) (sym is) (elim (subst (IsPlaced lines base further x) is stands) [
+        subst (IsPlaced lines begin' further' x) (sym is) (elim (subst (IsPlaced lines begin further x) is stands) [
           | inl at ↦ inl (near x until few is at)
           | inr at ↦ inr (late x until few is at)
         ])
 
 -- whoever stands in a bucket sleeps until a moment of it
-pub kept_near : (row : List (Option ℕ)) (lines : List Bits64) (base further : ℕ) → AreKept row lines base further → AreNear row lines base
-kept_near row lines base further kept line x below few stands = by (get_or row x None) refl (kept.each x few)
+pub kept_near : (row : List (Option ℕ)) (lines : List Bits64) (begin further : ℕ) → AreKept row lines begin further → AreNear row lines begin
+kept_near row lines begin further kept line x below few stands = by (get_or row x None) refl (kept.each x few)
   where
-    by : (o : Option ℕ) → get_or row x None ≡ o → IsPlaced lines base further x (get_or row x None)
-        → (until : ℕ) × SleepsUntil row x until × IsNear lines base x until
+    by : (o : Option ℕ) → get_or row x None ≡ o → IsPlaced lines begin further x (get_or row x None)
+        → (until : ℕ) × SleepsUntil row x until × IsNear lines begin x until
     by None is at =
-        let nowhere : IsPlaced lines base further x None = subst (IsPlaced lines base further x) is at in
+        let nowhere : IsPlaced lines begin further x None = subst (IsPlaced lines begin further x) is at in
         let never : true ≡ false = sym stands ∙ nowhere line in
         absurd cc
-    by (Some until) is at = elim (subst (IsPlaced lines base further x) is at) [
+    by (Some until) is at = elim (subst (IsPlaced lines begin further x) is at) [
       | inl near ↦ (until, is, near)
       | inr late ↦
           let never : nat_eq line 1024 ≡ true = sym (late.stands line) ∙ stands in
@@ -179,42 +179,49 @@ kept_near row lines base further kept line x below few stands = by (get_or row x
 
 -- ---- the buckets go on
 
--- nobody stands in the buckets from base on up to this one
-pub record IsPassed (row : List (Option ℕ)) (lines : List Bits64) (base bucket : ℕ) : Type 0 where
-  pub from : base ≤ bucket
-  pub few : bucket ≤ base + 1024
-  pub none : (x until : ℕ) → x ≤ 1023 → SleepsUntil row x until → IsNear lines base x until → bucket ≤ bucket_of until
+-- nobody stands in the buckets from the first on up to this one
+pub record IsPassed (row : List (Option ℕ)) (lines : List Bits64) (begin bucket : ℕ) : Type 0 where
+  pub from : bucket_of begin ≤ bucket
+  pub few : bucket ≤ bucket_of begin + 1024
+  pub none : (x until : ℕ) → x ≤ 1023 → SleepsUntil row x until → IsNear lines begin x until → bucket ≤ bucket_of until
 
-abbrev pub IsFirstIn : List (Option ℕ) → List Bits64 → ℕ → Option (ℕ × ℕ) → Type 0
-IsFirstIn row lines line first = (x until : ℕ) → x ≤ 1023 → stands_in lines line x ≡ true → SleepsUntil row x until
+pub passed_at_first : (row : List (Option ℕ)) (lines : List Bits64) (begin : ℕ) → IsPassed row lines begin (bucket_of begin)
+passed_at_first row lines begin = record {
+  from = omega arith;
+  few = omega arith;
+  none = λ x until few asleep near. (let from = near.from in omega (arith, from));
+}
+
+-- the first of a line in which nobody wakes before this moment
+abbrev pub IsFirstIn : List (Option ℕ) → List Bits64 → ℕ → ℕ → Option (ℕ × ℕ) → Type 0
+IsFirstIn row lines begin line first = (x until : ℕ) → x ≤ 1023 → stands_in lines line x ≡ true → SleepsUntil row x until → begin ≤ until
     → goes_before (Some (until, x)) first ≡ false
 
 -- it stands in the line of its bucket
-stands_near : (lines : Lines) (base bucket x until : ℕ) → IsNear lines base x until → bucket_of until ≡ bucket → stands_in lines (bucket % 1024) x ≡ true
-stands_near lines base bucket x until near same =
+stands_near : (lines : Lines) (begin bucket x until : ℕ) → IsNear lines begin x until → bucket_of until ≡ bucket → stands_in lines (bucket % 1024) x ≡ true
+stands_near lines begin bucket x until near same =
     ap (λ (b : ℕ). stands_in lines (b % 1024) x) (sym same) ∙ near.stands (bucket_of until % 1024) ∙ same_here (bucket_of until % 1024)
 
-pub one_passed : (row : List (Option ℕ)) (lines : List Bits64) (base bucket : ℕ) → IsPassed row lines base bucket → bucket < base + 1024
-    → IsFirstIn row lines (bucket % 1024) None → IsPassed row lines base (bucket + 1)
-one_passed row lines base bucket is below first = record {
+pub one_passed : (row : List (Option ℕ)) (lines : List Bits64) (begin bucket : ℕ) → IsPassed row lines begin bucket → bucket < bucket_of begin + 1024
+    → IsFirstIn row lines begin (bucket % 1024) None → IsPassed row lines begin (bucket + 1)
+one_passed row lines begin bucket is below first = record {
   from = omega (arith, is.from);
   few = omega (arith, below);
   none = λ x until few asleep near. by x until few asleep near (cases_eq (bucket_of until) bucket);
 }
   where
-    by : (x until : ℕ) → x ≤ 1023 → SleepsUntil row x until → IsNear lines base x until → (bucket_of until ≡ bucket) ⊎ (bucket_of until ≢ bucket)
+    by : (x until : ℕ) → x ≤ 1023 → SleepsUntil row x until → IsNear lines begin x until → (bucket_of until ≡ bucket) ⊎ (bucket_of until ≢ bucket)
         → bucket + 1 ≤ bucket_of until
     by x until few asleep near (inl same) =
-        let never : true ≡ false = first x until few (stands_near lines base bucket x until near same) asleep in
+        let never : true ≡ false = first x until few (stands_near lines begin bucket x until near same) asleep near.from in
         absurd cc
     by x until few asleep near (inr other) = omega (arith, other, is.none x until few asleep near)
 
--- the buckets begin with the one at hand
-pub near_on : (row : List (Option ℕ)) (lines : List Bits64) (base bucket x until : ℕ) → IsPassed row lines base bucket
-    → x ≤ 1023 → SleepsUntil row x until → IsNear lines base x until → IsNear lines bucket x until
-near_on row lines base bucket x until is few asleep near = record {
-  from = is.none x until few asleep near;
-  before = omega (arith, near.before, is.from);
+-- the buckets begin later, with a moment before which nobody in them wakes
+pub near_on : (lines : List Bits64) (begin later x until : ℕ) → IsNear lines begin x until → begin ≤ later → later ≤ until → IsNear lines later x until
+near_on lines begin later x until near more still = record {
+  from = still;
+  before = (let before = near.before in omega (arith, before, more));
   stands = near.stands;
 }
 
@@ -226,28 +233,31 @@ one_line : (base a b : ℕ) → base ≤ a → a < base + 1024 → base ≤ b �
 one_line base a b from before from' before' same = omega arith
 
 -- whoever stands in the line of the bucket at hand is of that bucket
-of_bucket : (row : Row) (lines : Lines) (base bucket : ℕ) (s : ℕ × ℕ) → AreNear row lines base → base ≤ bucket → bucket < base + 1024
+of_bucket : (row : Row) (lines : Lines) (begin bucket : ℕ) (s : ℕ × ℕ) → AreNear row lines begin → bucket_of begin ≤ bucket → bucket < bucket_of begin + 1024
     → IsOfLine row lines (bucket % 1024) s → bucket_of s.0 ≡ bucket
-of_bucket row lines base bucket s near from before is = by (near (bucket % 1024) s.1 (omega arith) is.few is.stands)
+of_bucket row lines begin bucket s near from before is = by (near (bucket % 1024) s.1 (omega arith) is.few is.stands)
   where
-    by : ((until : ℕ) × SleepsUntil row s.1 until × IsNear lines base s.1 until) → bucket_of s.0 ≡ bucket
+    later : (until : ℕ) → begin ≤ until → bucket_of begin ≤ bucket_of until
+    later until more = omega (arith, more)
+
+    by : ((until : ℕ) × SleepsUntil row s.1 until × IsNear lines begin s.1 until) → bucket_of s.0 ≡ bucket
     by (until, asleep, at) =
         let both : Some until ≡ Some s.0 = sym asleep ∙ is.asleep in
         let moment : until ≡ s.0 = cc in
         let line : nat_eq (bucket % 1024) (bucket_of until % 1024) ≡ true = sym (at.stands (bucket % 1024)) ∙ is.stands in
         let same : bucket % 1024 ≡ bucket_of until % 1024 = grind (arith, nat_tests, line) in
-        sym (ap bucket_of moment) ∙ one_line base (bucket_of until) bucket at.from at.before from before (sym same)
+        sym (ap bucket_of moment) ∙ one_line (bucket_of begin) (bucket_of until) bucket (later until at.from) at.before from before (sym same)
 
 -- the first of the bucket at hand is the first of all buckets
-pub first_of_near : (row : List (Option ℕ)) (lines : List Bits64) (base bucket : ℕ) (s : ℕ × ℕ) → AreNear row lines base → IsPassed row lines base bucket
-    → bucket < base + 1024 → IsOfLine row lines (bucket % 1024) s → IsFirstIn row lines (bucket % 1024) (Some s)
-    → (x until : ℕ) → x ≤ 1023 → SleepsUntil row x until → IsNear lines base x until → goes_before (Some (until, x)) (Some s) ≡ false
-first_of_near row lines base bucket s all is before one first x until few asleep near = by (cases_eq (bucket_of until) bucket)
+pub first_of_near : (row : List (Option ℕ)) (lines : List Bits64) (begin bucket : ℕ) (s : ℕ × ℕ) → AreNear row lines begin → IsPassed row lines begin bucket
+    → bucket < bucket_of begin + 1024 → IsOfLine row lines (bucket % 1024) s → IsFirstIn row lines begin (bucket % 1024) (Some s)
+    → (x until : ℕ) → x ≤ 1023 → SleepsUntil row x until → IsNear lines begin x until → goes_before (Some (until, x)) (Some s) ≡ false
+first_of_near row lines begin bucket s all is before one first x until few asleep near = by (cases_eq (bucket_of until) bucket)
   where
     by : (bucket_of until ≡ bucket) ⊎ (bucket_of until ≢ bucket) → goes_before (Some (until, x)) (Some s) ≡ false
-    by (inl same) = first x until few (stands_near lines base bucket x until near same) asleep
+    by (inl same) = first x until few (stands_near lines begin bucket x until near same) asleep near.from
     by (inr other) =
-        earlier_bucket until x s (omega (arith, other, of_bucket row lines base bucket s all is.from before one, is.none x until few asleep near))
+        earlier_bucket until x s (omega (arith, other, of_bucket row lines begin bucket s all is.from before one, is.none x until few asleep near))
 
 -- ---- who is taken out
 

@@ -1,5 +1,5 @@
 -- Who of two sleepers goes first.
-use Rattle.std.specs.Prelude.{ℕ, Bool, true, false, if◌then◌else◌, Option, Some, None}
+use Rattle.std.specs.Prelude.{ℕ, nat_le, Bool, true, false, if◌then◌else◌, Option, Some, None}
 use Rattle.aps_model.specs.TickWork.{is_earlier}
 
 -- one sleeper goes before another; where there is none it comes last
@@ -10,3 +10,8 @@ goes_before (Some a) (Some b) = is_earlier a b
 
 abbrev pub first_of : Option (ℕ × ℕ) → Option (ℕ × ℕ) → Option (ℕ × ℕ)
 first_of a b = if goes_before b a then b else a
+
+-- there is a sleeper, and it wakes at or before this moment
+abbrev pub wakes_by : Option (ℕ × ℕ) → ℕ → Bool
+wakes_by None moment = false
+wakes_by (Some s) moment = nat_le s.0 moment

@@ -1,6 +1,6 @@
 //! Sleepers in buckets by their moment, and one further list of all others.
 ghost use Rattle.std.specs.Prelude.{◌≡◌, ◌≢◌, ℕ, List, Option, ◌%◌, ◌≤◌, length, replicate, IfOk, IfSome, Some, None, false};
-ghost use Rattle.aps_timer.specs.Buckets.{AreKept, AreNear, IsFurther, IsNear, IsPlaced, bucket_of};
+ghost use Rattle.aps_timer.specs.Buckets.{AreKept, AreNear, IsFurther, IsNear, IsPlaced};
 ghost use Rattle.aps_timer.specs.Order.{goes_before};
 ghost use Rattle.aps_timer.specs.Sleepers.{SleepsUntil};
 
@@ -19,12 +19,13 @@ const BUCKETS: u64 = 1024;
 /// The line of the further list, behind those of the buckets.
 const FURTHER: usize = 1024;
 
-/// Where the threads stand that sleep: in the bucket of their moment, where that is one of the buckets from `base` on, and
-/// else in the further list, whether their moment is a later or an earlier one.
+/// Where the threads stand that sleep: in the bucket of their moment, where that isn't before `begin` and the bucket is one of
+/// those from `begin` on, and else in the further list, whether their moment is a later or an earlier one.
 #[derive(Drop)]
 pub struct Buckets {
     lines: Vec<Bits64>,
-    base: u64,
+    /// nobody in the buckets wakes before this moment
+    begin: Nanos,
     /// nobody in the further list wakes before this moment
     further: Nanos,
     ghost room: { length lines.items ≡ 16400 },
@@ -33,26 +34,25 @@ pub struct Buckets {
 impl Buckets {
     /// Nobody stands anywhere.
     pub fn new(alloc: Global) -> Result<Buckets, NoMemory>
-        ensures { IfOk result (λ b. (threads : ℕ) → AreKept (replicate threads None) b.lines.items b.base b.further) }
+        ensures { IfOk result (λ b. (threads : ℕ) → AreKept (replicate threads None) b.lines.items b.begin b.further) }
     {
         let lines = vec![in alloc; Bits64::none(); WORDS * (FURTHER + 1)]?;
         Ok(Buckets {
             lines,
-            base: 0,
+            begin: 0,
             further: Nanos::MAX,
         })
     }
 
     /// The thread, which stands nowhere, sleeps until this moment and stands where it is looked for.
     pub fn put(&mut self, x: ThreadId, until: Nanos)
-        requires { IsPlaced self.old.lines.items self.old.base self.old.further x None }
-        ensures here { IsPlaced self.new.lines.items self.new.base self.new.further x (Some until) }
-        ensures others { (y : ℕ) (other : Option ℕ) → y ≤ 1023 → y ≢ x → IsPlaced self.old.lines.items self.old.base self.old.further y other
-            → IsPlaced self.new.lines.items self.new.base self.new.further y other }
+        requires { IsPlaced self.old.lines.items self.old.begin self.old.further x None }
+        ensures here { IsPlaced self.new.lines.items self.new.begin self.new.further x (Some until) }
+        ensures others { (y : ℕ) (other : Option ℕ) → y ≤ 1023 → y ≢ x → IsPlaced self.old.lines.items self.old.begin self.old.further y other
+            → IsPlaced self.new.lines.items self.new.begin self.new.further y other }
     {
-        let bucket = until / SPAN;
-        if self.base <= bucket && bucket - self.base < BUCKETS {
-            place(&mut self.lines, line_of(bucket), x, true);
+        if self.begin <= until && until / SPAN - self.begin / SPAN < BUCKETS {
+            place(&mut self.lines, line_of(until / SPAN), x, true);
         } else {
             place(&mut self.lines, FURTHER, x, true);
             self.further = self.further.min(until);
@@ -61,10 +61,10 @@ impl Buckets {
 
     /// The thread, which slept until this moment, stands nowhere.
     pub fn take(&mut self, x: ThreadId, until: Nanos)
-        requires { IsPlaced self.old.lines.items self.old.base self.old.further x (Some until) }
-        ensures here { IsPlaced self.new.lines.items self.new.base self.new.further x None }
-        ensures others { (y : ℕ) (other : Option ℕ) → y ≤ 1023 → y ≢ x → IsPlaced self.old.lines.items self.old.base self.old.further y other
-            → IsPlaced self.new.lines.items self.new.base self.new.further y other }
+        requires { IsPlaced self.old.lines.items self.old.begin self.old.further x (Some until) }
+        ensures here { IsPlaced self.new.lines.items self.new.begin self.new.further x None }
+        ensures others { (y : ℕ) (other : Option ℕ) → y ≤ 1023 → y ≢ x → IsPlaced self.old.lines.items self.old.begin self.old.further y other
+            → IsPlaced self.new.lines.items self.new.begin self.new.further y other }
     {
         place(&mut self.lines, line_of(until / SPAN), x, false);
         place(&mut self.lines, FURTHER, x, false);
@@ -72,14 +72,14 @@ impl Buckets {
 
     /// A sleeper of the row before which nobody goes whose moment is at or before `now`.
     pub fn first(&mut self, row: &[Option<Nanos>], now: Nanos) -> Option<Sleeper>
-        requires { AreKept row.now self.old.lines.items self.old.base self.old.further }
-        ensures kept { AreKept row.now self.new.lines.items self.new.base self.new.further }
+        requires { AreKept row.now self.old.lines.items self.old.begin self.old.further }
+        ensures kept { AreKept row.now self.new.lines.items self.new.begin self.new.further }
         ensures one { IfSome result (λ s. SleepsUntil row.now s.1 s.0) }
         ensures others { (x until : ℕ) → SleepsUntil row.now x until → until ≤ now → goes_before (Some (until, x)) result ≡ false }
     {
-        let (base, near) = first_near(row, &self.lines, self.base, now / SPAN);
+        let (begin, near) = first_near(row, &self.lines, self.begin, now);
         let (further, late) = first_further(row, &self.lines, self.further, now);
-        self.base = base;
+        self.begin = begin;
         self.further = further;
         first_of(near, late)
     }
@@ -92,31 +92,29 @@ fn line_of(bucket: u64) -> usize
     (bucket % BUCKETS) as usize
 }
 
-/// The first sleeper of the first bucket, at or before the last one, in which anybody stands; and where the buckets begin from
-/// then on: with that one, or where there is none with the last.
+/// The first sleeper of the first bucket, at or before that of `now`, in which anybody stands; and the moment before which nobody
+/// in the buckets wakes.
 fn first_near(
     row: &[Option<Nanos>],
     lines: &[Bits64],
-    base: u64,
-    last: u64,
-) -> (u64, Option<Sleeper>)
+    begin: Nanos,
+    now: Nanos,
+) -> (Nanos, Option<Sleeper>)
     requires room { length lines.now ≡ 16400 }
-    requires near { AreNear row.now lines.now base }
-    requires last { last ≤ 18446744073709 }
+    requires near { AreNear row.now lines.now begin }
     ensures one { IfSome result.1 (λ s. SleepsUntil row.now s.1 s.0) }
-    ensures still { (x until : ℕ) → x ≤ 1023 → SleepsUntil row.now x until → IsNear lines.now base x until → IsNear lines.now result.0 x until }
-    ensures others { (x until : ℕ) → x ≤ 1023 → SleepsUntil row.now x until → IsNear lines.now base x until → bucket_of until ≤ last
+    ensures still { (x until : ℕ) → x ≤ 1023 → SleepsUntil row.now x until → IsNear lines.now begin x until → IsNear lines.now result.0 x until }
+    ensures others { (x until : ℕ) → x ≤ 1023 → SleepsUntil row.now x until → IsNear lines.now begin x until → until ≤ now
         → goes_before (Some (until, x)) result.1 ≡ false }
 {
-    let mut bucket = base;
-    while bucket <= last && bucket - base < BUCKETS {
-        let first = first_in(row, lines, line_of(bucket));
-        if first.is_some() {
-            return (bucket, first);
+    let mut bucket = begin / SPAN;
+    while bucket <= now / SPAN && bucket - begin / SPAN < BUCKETS {
+        match first_in(row, lines, line_of(bucket), begin) {
+            Some(first) => return (begin.max(first.until.min(now)), Some(first)),
+            None => bucket += 1,
         }
-        bucket += 1;
     }
-    (base.max(last), None)
+    (begin.max(now), None)
 }
 
 /// The first sleeper of the further list, looked for only where `now` is at or after the moment before which nobody of it
@@ -137,7 +135,7 @@ fn first_further(
     if now < further {
         return (further, None);
     }
-    match first_in(row, lines, FURTHER) {
+    match first_in(row, lines, FURTHER, further) {
         Some(first) => (first.until, Some(first)),
         None => (Nanos::MAX, None),
     }

@@ -5,7 +5,7 @@ ghost use Rattle.aps_timer.specs.Lines.{IsOfLine, IsOfWord, sleeper_of, stands_i
 ghost use Rattle.aps_timer.specs.Order.{goes_before};
 ghost use Rattle.aps_timer.specs.Sleepers.{SleepsUntil};
 
-use crate::sleeper::{Sleeper, first_of};
+use crate::sleeper::{Sleeper, first_of, wakes_by};
 use aps_levels::Bits64;
 use aps_model::{Nanos, ThreadId};
 
@@ -23,16 +23,25 @@ pub fn place(lines: &mut Vec<Bits64>, line: usize, x: ThreadId, is_in: bool)
     lines[word] = lines[word].put(x.index() % 64, is_in);
 }
 
-/// Of those who stand in a line and sleep the one that wakes first.
-pub fn first_in(row: &[Option<Nanos>], lines: &[Bits64], line: usize) -> Option<Sleeper>
+/// Of those who stand in a line and sleep the one that wakes first, where nobody does before the moment `begin`: the look
+/// ends with the first one who wakes by then.
+pub fn first_in(
+    row: &[Option<Nanos>],
+    lines: &[Bits64],
+    line: usize,
+    begin: Nanos,
+) -> Option<Sleeper>
     requires { 16 * line + 15 < length lines.now }
     ensures one { IfSome result (IsOfLine row.now lines.now line) }
-    ensures others { (x until : ℕ) → x ≤ 1023 → stands_in lines.now line x ≡ true → SleepsUntil row.now x until
+    ensures others { (x until : ℕ) → x ≤ 1023 → stands_in lines.now line x ≡ true → SleepsUntil row.now x until → begin ≤ until
         → goes_before (Some (until, x)) result ≡ false }
 {
     let mut first = None;
     for word in 0..words_of(row.len()) {
-        first = first_of(first, first_in_word(row, lines[WORDS * line + word], word));
+        first = first_of(first, first_in_word(row, lines[WORDS * line + word], word, begin));
+        if wakes_by(&first, begin) {
+            return first;
+        }
     }
     first
 }
@@ -49,11 +58,16 @@ fn words_of(threads: usize) -> usize
     }
 }
 
-/// Of those of one word who sleep the one that wakes first.
-fn first_in_word(row: &[Option<Nanos>], bits: Bits64, word: usize) -> Option<Sleeper>
+/// Of those of one word who sleep the one that wakes first, where nobody does before the moment `begin`.
+fn first_in_word(
+    row: &[Option<Nanos>],
+    bits: Bits64,
+    word: usize,
+    begin: Nanos,
+) -> Option<Sleeper>
     requires { word < 16 }
     ensures one { IfSome result (IsOfWord row.now bits word) }
-    ensures others { (k until : ℕ) → k < 64 → has bits k ≡ true → SleepsUntil row.now (64 * word + k) until
+    ensures others { (k until : ℕ) → k < 64 → has bits k ≡ true → SleepsUntil row.now (64 * word + k) until → begin ≤ until
         → goes_before (Some (until, 64 * word + k)) result ≡ false }
 {
     let mut first = None;
@@ -67,6 +81,9 @@ fn first_in_word(row: &[Option<Nanos>], bits: Bits64, word: usize) -> Option<Sle
                 first = first_of(first, sleeper_of(x, moment_of(row, x)));
                 left = left.without(bit);
                 from = bit + 1;
+                if wakes_by(&first, begin) {
+                    return first;
+                }
             }
         }
     }

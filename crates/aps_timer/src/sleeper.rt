@@ -1,7 +1,7 @@
 //! A thread that sleeps, and who goes before whom.
 ghost use Rattle.std.specs.Prelude.{◌≡◌};
 ghost use Rattle.aps_model.specs.TickWork.{is_earlier};
-ghost use Rattle.aps_timer.specs.Order.{goes_before, first_of};
+ghost use Rattle.aps_timer.specs.Order.{goes_before, first_of, wakes_by};
 
 use aps_model::{Nanos, ThreadId};
 use std::marker::Model;
@@ -38,6 +38,16 @@ fn goes_before(a: &Option<Sleeper>, b: &Option<Sleeper>) -> bool
         (Some(one), Some(other)) => is_earlier(one, other),
         (Some(_), None) => true,
         (None, _) => false,
+    }
+}
+
+/// Whether there is a sleeper, and it wakes at or before this moment.
+pub fn wakes_by(sleeper: &Option<Sleeper>, moment: Nanos) -> bool
+    ensures { result ≡ wakes_by sleeper.now moment }
+{
+    match sleeper {
+        Some(sleeper) => sleeper.until <= moment,
+        None => false,
     }
 }
 

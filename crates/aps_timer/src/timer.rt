@@ -25,7 +25,7 @@ impl Model for Timer {
 
     ghost view = { λ t. t.row.items };
 
-    ghost invariant = { λ t. AreKept t.row.items t.buckets.lines.items t.buckets.base t.buckets.further };
+    ghost invariant = { λ t. AreKept t.row.items t.buckets.lines.items t.buckets.begin t.buckets.further };
 }
 
 impl Timer {

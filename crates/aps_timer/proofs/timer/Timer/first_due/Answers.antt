@@ -12,17 +12,17 @@ Row = List (Option ℕ)
 pub first-requires : goal.first-requires
 first-requires c =
     let before = c.self.inside.buckets in
-    subst (λ (r : Row). AreKept r before.lines.items before.base before.further) (sym c.deref.ensures.value) c.self.invariant
+    subst (λ (r : Row). AreKept r before.lines.items before.begin before.further) (sym c.deref.ensures.value) c.self.invariant
 
 pub invariant_of-self : goal.invariant_of-self
 invariant_of-self c =
     let after = c.first.new.self in
-    subst (λ (r : Row). AreKept r after.lines.items after.base after.further) c.deref.ensures.value c.first.ensures.kept
+    subst (λ (r : Row). AreKept r after.lines.items after.begin after.further) c.deref.ensures.value c.first.ensures.kept
 
 pub invariant_of-self-2 : goal.invariant_of-self-2
 invariant_of-self-2 c =
     let after = c.first.new.self in
-    subst (λ (r : Row). AreKept r after.lines.items after.base after.further) c.deref.ensures.value c.first.ensures.kept
+    subst (λ (r : Row). AreKept r after.lines.items after.begin after.further) c.deref.ensures.value c.first.ensures.kept
 
 pub returns-in_err-sleeper-clause-none : goal.returns-in_err-sleeper-clause-none
 returns-in_err-sleeper-clause-none c none =

@@ -9,7 +9,7 @@ pub take-requires : goal.take-requires
 take-requires c =
     let row = c.self.inside.row.items in
     let before = c.self.inside.buckets in
-    placed row before.lines.items before.base before.further c.args.x c.args.until c.self.invariant
+    placed row before.lines.items before.begin before.further c.args.x c.args.until c.self.invariant
     (subst (λ (r : List (Option ℕ)). SleepsUntil r c.args.x c.args.until) (sym c.self.view_is) c.requires)
 
 pub invariant_of-self : goal.invariant_of-self
@@ -19,6 +19,6 @@ invariant_of-self c =
     let after = c.take.new.self in
     let within : c.args.x < length row =
     subst (λ (r : List (Option ℕ)). c.args.x < length r) (sym c.self.view_is) (taken_within c.args.self.now c.args.x c.args.until c.requires) in
-    subst (λ (i : ℕ). AreKept (set row i None) after.lines.items after.base after.further) (sym c.index.ensures.same)
-    (kept_set row before.lines.items after.lines.items before.base after.base before.further after.further c.args.x None
+    subst (λ (i : ℕ). AreKept (set row i None) after.lines.items after.begin after.further) (sym c.index.ensures.same)
+    (kept_set row before.lines.items after.lines.items before.begin after.begin before.further after.further c.args.x None
     c.self.invariant within (omega arith) c.take.ensures.here c.take.ensures.others)
