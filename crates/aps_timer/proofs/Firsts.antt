@@ -176,7 +176,7 @@ pub more_past : (row : List (Option ℕ)) (lines : List Bits64) (line begin word
     → word < 16 → IsPast row lines line begin word first → bits ≡ get_or lines (16 * line + word) no_bits
     → IfSome second (IsOfWord row bits word)
     → ((k until : ℕ) → k < 64 → has bits k ≡ true → SleepsUntil row (64 * word + k) until → begin ≤ until
-        → goes_before (Some (until, 64 * word + k)) second ≡ false)
+    → goes_before (Some (until, 64 * word + k)) second ≡ false)
     → IsPast row lines line begin (word + 1) (first_of first second)
 more_past row lines line begin word bits first second few is read one others = record {
   one = one_of (IsOfLine row lines line) first second is.one (of_line row lines line word bits second few read one);

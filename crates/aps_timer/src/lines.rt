@@ -38,7 +38,10 @@ pub fn first_in(
 {
     let mut first = None;
     for word in 0..words_of(row.len()) {
-        first = first_of(first, first_in_word(row, lines[WORDS * line + word], word, begin));
+        first = first_of(
+            first,
+            first_in_word(row, lines[WORDS * line + word], word, begin),
+        );
         if wakes_by(&first, begin) {
             return first;
         }
@@ -59,12 +62,7 @@ fn words_of(threads: usize) -> usize
 }
 
 /// Of those of one word who sleep the one that wakes first, where nobody does before the moment `begin`.
-fn first_in_word(
-    row: &[Option<Nanos>],
-    bits: Bits64,
-    word: usize,
-    begin: Nanos,
-) -> Option<Sleeper>
+fn first_in_word(row: &[Option<Nanos>], bits: Bits64, word: usize, begin: Nanos) -> Option<Sleeper>
     requires { word < 16 }
     ensures one { IfSome result (IsOfWord row.now bits word) }
     ensures others { (k until : ℕ) → k < 64 → has bits k ≡ true → SleepsUntil row.now (64 * word + k) until → begin ≤ until

@@ -1,4 +1,4 @@
-use Rattle.std.proofs.Common.{ℕ, false, sym, ◌∙◌, subst, arith}
+use Rattle.std.proofs.Common.{ℕ, false, ◌∙◌, subst, arith}
 use Rattle.aps_timer.proofs.Kept.{IsSet, others_same, placed_still, stands_nowhere}
 use Rattle.aps_timer.proofs.buckets.Buckets.take.Goals as goal
 

@@ -1,4 +1,4 @@
-use Rattle.std.proofs.Common.{◌≡◌, ◌≤◌, ◌<◌, ℕ, [], List, Option, Some, None, IfSome, ap, sym, subst, ◌∙◌, arith}
+use Rattle.std.proofs.Common.{◌≡◌, ◌≤◌, ◌<◌, ℕ, [], List, Option, Some, None, IfSome, sym, subst, ◌∙◌}
 use Rattle.aps_timer.specs.Buckets.{AreKept}
 use Rattle.aps_timer.specs.Sleepers.{IsFirstDue, SleepsUntil, all_due}
 use Rattle.aps_timer.proofs.Due.{none_due}
@@ -37,7 +37,7 @@ pub returns-clause-first : goal.returns-clause-first
 returns-clause-first c = elim c.if-sleeper-now.branch [
   | then-sleeper-now w ↦
       let row = c.self.inside.row.items in
-        let now = c.args.now in
+      let now = c.args.now in
       let s = c.in_ok-sleeper.sleeper in
       let first : IsFirst row now (Some s) =
       subst (λ (r : Row). IsFirst r now (Some s)) c.deref.ensures.value c.in_ok-sleeper.ensures.others in
@@ -54,7 +54,7 @@ returns-clause-none c none = elim c.if-sleeper-now.branch [
   | then-sleeper-now w ↦ (let never : None ≡ Some c.in_ok-sleeper.sleeper = sym none ∙ w.result-is in absurd cc)
   | else-sleeper-now w ↦
       let row = c.self.inside.row.items in
-        let now = c.args.now in
+      let now = c.args.now in
       let s = c.in_ok-sleeper.sleeper in
       let first : IsFirst row now (Some s) =
       subst (λ (r : Row). IsFirst r now (Some s)) c.deref.ensures.value c.in_ok-sleeper.ensures.others in
