@@ -1,80 +1,230 @@
--- The first of a bracket is one of its places, and none goes before it.
-use Rattle.std.proofs.Common.{◌≡◌, ◌⊎◌, inl, inr, ℕ, suc, zero, ◌+◌, ◌*◌, ◌/◌, ◌-◌, ◌<◌, ◌≤◌, false, List, get_or, sym, ◌∙◌, ap, subst, Option, None, arith, length-drop, All}
-use Rattle.std.specs.List.{Contains}
+-- Who wakes first of those that are looked at one after another.
+use Rattle.std.proofs.Common.{◌≡◌, ◌≢◌, ◌⊎◌, inl, inr, ℕ, ◌+◌, ◌*◌, ◌/◌, ◌%◌, ◌<◌, ◌≤◌, Bool, true, false, cond, not, ◌&&◌, nat_eq, List, length, get_or, refl, sym, ◌∙◌, ap, subst, Option, Some, None, IfSome, arith}
 use Rattle.std.proofs.lemmas.Bool.{cases_eq}
-use Rattle.std.proofs.lemmas.List.{get_or-drop, get_or_default}
-use Rattle.std.proofs.lemmas.List.Elements.{Contains-get_or}
-use Rattle.aps_timer.specs.Bracket.{goes_before, first_of, sleeper_at, leaves, IsPlayed}
-use Rattle.aps_timer.proofs.Order.{before_chain, before_itself, first_left, first_right, first_is_one}
+use Rattle.std.proofs.lemmas.Bool.Decides.{nat_tests}
+use Rattle.aps_levels.specs.declared.bits.Bits64.{Bits64}
+use Rattle.aps_levels.specs.Bits.{has, IsLeast}
+use Rattle.aps_timer.specs.Lines.{IsOfLine, IsOfWord, no_bits, sleeper_of, stands_in}
+use Rattle.aps_timer.specs.Order.{first_of, goes_before, wakes_by}
+use Rattle.aps_timer.specs.Sleepers.{SleepsUntil}
+use Rattle.aps_timer.proofs.Order.{before_chain, first_left, first_right}
+use Rattle.aps_timer.proofs.Places.{taken_within}
 
-abbrev Nodes : Type 0
-Nodes = List (Option (ℕ × ℕ))
+abbrev Row : Type 0
+Row = List (Option ℕ)
 
-abbrev first_below : Nodes → ℕ → Option (ℕ × ℕ)
-first_below nodes i = first_of (sleeper_at nodes (2 * i)) (sleeper_at nodes (2 * i + 1))
+-- whoever doesn't go before the one doesn't go before the first of two
+pub before_neither : (p a b : Option (ℕ × ℕ)) → goes_before p a ≡ false → goes_before p (first_of a b) ≡ false
+before_neither p a b h = before_chain p a (first_of a b) h (first_left a b)
 
--- no node goes before node 1
-none_before : (fuel width : ℕ) (nodes : Nodes) → IsPlayed width nodes → (i : ℕ) → i ≤ fuel → 0 < i → i < 2 * width
-    → goes_before (sleeper_at nodes i) (sleeper_at nodes 1) ≡ false
-none_before zero width nodes played i small some within = absurd (omega (arith, small, some))
-none_before (suc fuel) width nodes played i small some within = elim (cases_eq i 1) [
-  | inl e ↦
-      subst (λ (j : ℕ). goes_before (sleeper_at nodes j) (sleeper_at nodes 1) ≡ false) (sym e) (before_itself (sleeper_at nodes 1))
-  | inr ne ↦
-      let above = i / 2 in
-      let positive : 0 < above = omega (arith, ne, some) in
-      let half : above < width = omega (arith, within) in
-      let here = played.inner above positive half in
-      let up : goes_before (sleeper_at nodes above) (sleeper_at nodes 1) ≡ false =
-      none_before fuel width nodes played above (omega (arith, small, ne, some)) positive (omega (arith, within)) in
-      let a = sleeper_at nodes (2 * above) in
-      let b = sleeper_at nodes (2 * above + 1) in
-      let from : goes_before (sleeper_at nodes i) (sleeper_at nodes above) ≡ false = elim (halves i) [
-        | inl even ↦
-            rw here (subst (λ (j : ℕ). goes_before (sleeper_at nodes j) (first_below nodes above) ≡ false) (sym even) (first_left a b))
-        | inr odd ↦
-            rw here (subst (λ (j : ℕ). goes_before (sleeper_at nodes j) (first_below nodes above) ≡ false) (sym odd) (first_right a b))
-      ] in
-      before_chain (sleeper_at nodes i) (sleeper_at nodes above) (sleeper_at nodes 1) from up
-]
+-- nor whoever doesn't go before the other
+pub before_nor : (p a b : Option (ℕ × ℕ)) → goes_before p b ≡ false → goes_before p (first_of a b) ≡ false
+before_nor p a b h = before_chain p b (first_of a b) h (first_right a b)
+
+-- what holds of two holds of the first of them
+pub one_of : (P : ℕ × ℕ → Type 0) (a b : Option (ℕ × ℕ)) → IfSome a P → IfSome b P → IfSome (first_of a b) P
+one_of P a b h k = by (goes_before b a)
   where
-    halves : (i : ℕ) → (i ≡ 2 * (i / 2)) ⊎ (i ≡ 2 * (i / 2) + 1)
-    halves i = search arith
+    by : (t : Bool) → IfSome (cond t b a) P
+    by true = k
+    by false = h
 
--- every node is one of the places
-among_places : (fuel width : ℕ) (nodes : Nodes) → IsPlayed width nodes → (i : ℕ) → 2 * width ≤ i + fuel → 0 < i → i < 2 * width
-    → Contains (leaves width nodes) (sleeper_at nodes i)
-among_places zero width nodes played i big some within = absurd (omega (arith, big, within))
-among_places (suc fuel) width nodes played i big some within = elim (below_or_not i width) [
-  | inr high ↦
-      let place = i - width in
-      let same : get_or (leaves width nodes) place None ≡ sleeper_at nodes i =
-      get_or-drop width nodes place None ∙ ap (sleeper_at nodes) (omega (arith, high)) in
-      subst (Contains (leaves width nodes)) same
-      (Contains-get_or (leaves width nodes) place None (omega (arith, length-drop width nodes, played.both, high, within)))
-  | inl low ↦ elim (first_is_one (sleeper_at nodes (2 * i)) (sleeper_at nodes (2 * i + 1))) [
-    | inl left ↦
-        subst (Contains (leaves width nodes)) (sym (played.inner i some low ∙ left))
-        (among_places fuel width nodes played (2 * i) (omega (arith, big, some)) (omega (arith, some)) (omega (arith, low)))
-    | inr right ↦
-        subst (Contains (leaves width nodes)) (sym (played.inner i some low ∙ right))
-        (among_places fuel width nodes played (2 * i + 1) (omega (arith, big, some)) (omega (arith, some)) (omega (arith, low)))
-  ]
-]
+-- ---- the threads of one word
+
+-- all bits below this one are done with, and of those that are the first is this one
+pub record IsDone (row : List (Option ℕ)) (bits left : Bits64) (word from : ℕ) (first : Option (ℕ × ℕ)) : Type 0 where
+  pub one : IfSome first (IsOfWord row bits word)
+  pub fewer : (k : ℕ) → has left k ≡ true → has bits k ≡ true
+  pub lower : (k : ℕ) → has left k ≡ true → IfSome first (λ s. s.1 < 64 * word + k)
+  pub below : (k : ℕ) → k < from → has left k ≡ false
+  pub done : (k until : ℕ) → k < 64 → has bits k ≡ true → has left k ≡ false → SleepsUntil row (64 * word + k) until
+      → goes_before (Some (until, 64 * word + k)) first ≡ false
+
+pub done_at_first : (row : List (Option ℕ)) (bits : Bits64) (word : ℕ) → IsDone row bits bits word 0 None
+done_at_first row bits word = record {
+  one = tt;
+  fewer = λ k is. is;
+  lower = λ k is. tt;
+  below = λ k less. absurd (omega (arith, less));
+  done = λ k until within is not asleep. (let never : true ≡ false = sym is ∙ not in absurd cc);
+}
+
+pub all_done : (row : List (Option ℕ)) (bits left : Bits64) (word from : ℕ) (first : Option (ℕ × ℕ))
+    → IsDone row bits left word from first → ((k : ℕ) → has left k ≡ false) → IsDone row bits left word 64 first
+all_done row bits left word from first is none = record { one = is.one; fewer = is.fewer; lower = is.lower; below = λ k less. none k; done = is.done }
+
+gone : (k bit : ℕ) (h : Bool) → (not (nat_eq k bit) && h) ≡ false → (k ≡ bit) ⊎ (h ≡ false)
+gone k bit h e = by (cases_eq k bit)
   where
-    below_or_not : (a b : ℕ) → (a < b) ⊎ (b ≤ a)
-    below_or_not a b = search arith
+    by : (k ≡ bit) ⊎ (k ≢ bit) → (k ≡ bit) ⊎ (h ≡ false)
+    by (inl same) = inl same
+    by (inr other) = inr (sym (rw not_same refl) ∙ e)
+      where
+        not_same : nat_eq k bit ≡ false
+        not_same = grind (arith, nat_tests)
 
-pub first_among : (width : ℕ) (nodes : List (Option (ℕ × ℕ))) (first : Option (ℕ × ℕ)) → IsPlayed width nodes → 0 < width
-    → first ≡ sleeper_at nodes 1 → Contains (leaves width nodes) first
-first_among width nodes first played some is =
-    subst (Contains (leaves width nodes)) (sym is) (among_places (2 * width) width nodes played 1 (omega arith) (omega arith) (omega (arith, some)))
+-- a thread of the word as it sleeps, if it does
+of_word : (row : Row) (bits : Bits64) (word bit : ℕ) (o : Option ℕ) → bit < 64 → has bits bit ≡ true → o ≡ get_or row (64 * word + bit) None
+    → IfSome (sleeper_of (64 * word + bit) o) (IsOfWord row bits word)
+of_word row bits word bit None within here read = tt
+of_word row bits word bit (Some until) within here read =
+    let rest : bit ≡ (64 * word + bit) % 64 = omega (arith, within) in
+    record {
+      asleep = sym read;
+      place = omega (arith, within);
+      bit = subst (λ (k : ℕ). has bits k ≡ true) rest here;
+    }
 
-pub first_of_all : (width : ℕ) (nodes : List (Option (ℕ × ℕ))) (first : Option (ℕ × ℕ)) → IsPlayed width nodes
-    → first ≡ sleeper_at nodes 1 → All (λ (other : Option (ℕ × ℕ)). goes_before other first ≡ false) (leaves width nodes)
-first_of_all width nodes first played is k d within =
-    let inside : width + k < 2 * width = omega (arith, within, length-drop width nodes, played.both) in
-    let some : 0 < width + k = omega (arith, inside) in
-    let read : get_or (leaves width nodes) k d ≡ sleeper_at nodes (width + k) =
-    get_or_default (leaves width nodes) k d None within ∙ get_or-drop width nodes k None in
-    rw (read, is) (none_before (width + k) width nodes played (width + k) (omega arith) some inside)
+-- one bit more
+pub more_done : (row : List (Option ℕ)) (bits left rest : Bits64) (word from bit : ℕ) (first : Option (ℕ × ℕ)) (o : Option ℕ)
+    → IsDone row bits left word from first → IsLeast 64 (has left) bit → ((k : ℕ) → has rest k ≡ (not (nat_eq k bit) && has left k))
+    → o ≡ get_or row (64 * word + bit) None
+    → IsDone row bits rest word (bit + 1) (first_of first (sleeper_of (64 * word + bit) o))
+more_done row bits left rest word from bit first o is least without read = record {
+  one = one_of (IsOfWord row bits word) first (sleeper_of (64 * word + bit) o) is.one (of_word row bits word bit o least.below (is.fewer bit least.here) read);
+  fewer = λ k more. is.fewer k (still (nat_eq k bit) (has left k) (sym (without k) ∙ more));
+  lower = λ k more.
+      let both = sym (without k) ∙ more in
+      one_of (λ (s : ℕ × ℕ). s.1 < 64 * word + k) first (sleeper_of (64 * word + bit) o) (is.lower k (still (nat_eq k bit) (has left k) both))
+      (higher o k (higher_bit k (still (nat_eq k bit) (has left k) both) (cases_eq k bit) both));
+  below = λ k less. without k ∙ below k less (cases_eq k bit);
+  done = λ k until within in_bits not asleep.
+      done k until within in_bits asleep (gone k bit (has left k) (sym (without k) ∙ not));
+}
+  where
+    still : (t h : Bool) → (not t && h) ≡ true → h ≡ true
+    still true h more = absurd cc
+    still false h more = more
+
+    low_or_high : (a b : ℕ) → a ≢ b → (a < b) ⊎ (b < a)
+    low_or_high a b apart = search arith
+
+    apart : (k : ℕ) → has left k ≡ true → (k < bit) ⊎ (bit < k) → bit < k
+    apart k more (inl low) = (let never : true ≡ false = sym more ∙ least.earlier k low in absurd cc)
+    apart k more (inr high) = high
+
+    higher_bit : (k : ℕ) → has left k ≡ true → (k ≡ bit) ⊎ (k ≢ bit) → (not (nat_eq k bit) && has left k) ≡ true → bit < k
+    higher_bit k more (inl same) both = (let is_same : nat_eq k bit ≡ true = grind (arith, nat_tests) in
+        let never : false ≡ true = sym (rw is_same refl) ∙ both in
+        absurd cc)
+    higher_bit k more (inr other) both = apart k more (low_or_high k bit other)
+
+    higher : (o : Option ℕ) (k : ℕ) → bit < k → IfSome (sleeper_of (64 * word + bit) o) (λ s. s.1 < 64 * word + k)
+    higher None k less = tt
+    higher (Some until) k less = omega (arith, less)
+
+    below : (k : ℕ) → k < bit + 1 → (k ≡ bit) ⊎ (k ≢ bit) → (not (nat_eq k bit) && has left k) ≡ false
+    below k less (inl same) = grind (arith, nat_tests)
+    below k less (inr other) = rw (least.earlier k (omega (arith, less, other))) (either (not (nat_eq k bit)))
+      where
+        either : (b : Bool) → (b && false) ≡ false
+        either true = refl
+        either false = refl
+
+    done : (k until : ℕ) → k < 64 → has bits k ≡ true → SleepsUntil row (64 * word + k) until → (k ≡ bit) ⊎ (has left k ≡ false)
+        → goes_before (Some (until, 64 * word + k)) (first_of first (sleeper_of (64 * word + bit) o)) ≡ false
+    done k until within in_bits asleep (inl same) =
+        let x = 64 * word + bit in
+        let here : o ≡ Some until = read ∙ subst (λ (j : ℕ). SleepsUntil row (64 * word + j) until) same asleep in
+        subst (λ (j : ℕ). goes_before (Some (until, 64 * word + j)) (first_of first (sleeper_of x o)) ≡ false) (sym same)
+        (subst (λ (p : Option (ℕ × ℕ)). goes_before p (first_of first (sleeper_of x o)) ≡ false) (ap (sleeper_of x) here) (first_right first (sleeper_of x o)))
+    done k until within in_bits asleep (inr not) =
+        before_neither (Some (until, 64 * word + k)) first (sleeper_of (64 * word + bit) o) (is.done k until within in_bits not asleep)
+
+not_before_by : (until x begin : ℕ) (s : ℕ × ℕ) → begin ≤ until → s.0 ≤ begin → s.1 < x → goes_before (Some (until, x)) (Some s) ≡ false
+not_before_by until x begin (moment, y) later by lower = grind (arith, nat_tests)
+
+-- the look ends with one who wakes at the earliest moment: all others have higher numbers
+pub ended : (o : Option (ℕ × ℕ)) (begin until x : ℕ) → wakes_by o begin ≡ true → begin ≤ until → IfSome o (λ s. s.1 < x)
+    → goes_before (Some (until, x)) o ≡ false
+ended None begin until x by later lower = absurd cc
+ended (Some s) begin until x by later lower = not_before_by until x begin s later (grind (arith, nat_tests, by)) lower
+
+pub ended_in_word : (row : List (Option ℕ)) (bits left : Bits64) (word from begin : ℕ) (first : Option (ℕ × ℕ))
+    → IsDone row bits left word from first → wakes_by first begin ≡ true
+    → (k until : ℕ) → k < 64 → has bits k ≡ true → SleepsUntil row (64 * word + k) until → begin ≤ until
+    → goes_before (Some (until, 64 * word + k)) first ≡ false
+ended_in_word row bits left word from begin first is by k until within in_bits asleep later = in_left (has left k) refl
+  where
+    in_left : (t : Bool) → has left k ≡ t → goes_before (Some (until, 64 * word + k)) first ≡ false
+    in_left true more = ended first begin until (64 * word + k) by later (is.lower k more)
+    in_left false not = is.done k until within in_bits not asleep
+
+-- ---- the words of one line
+
+-- the words below this one are done with
+pub record IsPast (row : List (Option ℕ)) (lines : List Bits64) (line begin word : ℕ) (first : Option (ℕ × ℕ)) : Type 0 where
+  pub one : IfSome first (IsOfLine row lines line)
+  pub lower : IfSome first (λ s. s.1 / 64 < word)
+  pub done : (x until : ℕ) → x ≤ 1023 → x / 64 < word → stands_in lines line x ≡ true → SleepsUntil row x until → begin ≤ until
+      → goes_before (Some (until, x)) first ≡ false
+
+pub past_at_first : (row : List (Option ℕ)) (lines : List Bits64) (line begin : ℕ) → IsPast row lines line begin 0 None
+past_at_first row lines line begin = record { one = tt; lower = tt; done = λ x until few below. absurd (omega (arith, below)) }
+
+of_line : (row : Row) (lines : List Bits64) (line word : ℕ) (bits : Bits64) (o : Option (ℕ × ℕ)) → word < 16 → bits ≡ get_or lines (16 * line + word) no_bits
+    → IfSome o (IsOfWord row bits word) → IfSome o (IsOfLine row lines line)
+of_line row lines line word bits None few read is = tt
+of_line row lines line word bits (Some s) few read is = record {
+  asleep = is.asleep;
+  few = omega (arith, is.place, few);
+  stands = ap (λ (w : ℕ). has (get_or lines (16 * line + w) no_bits) (s.1 % 64)) is.place
+      ∙ ap (λ (b : Bits64). has b (s.1 % 64)) (sym read) ∙ is.bit;
+}
+
+pub more_past : (row : List (Option ℕ)) (lines : List Bits64) (line begin word : ℕ) (bits : Bits64) (first second : Option (ℕ × ℕ))
+    → word < 16 → IsPast row lines line begin word first → bits ≡ get_or lines (16 * line + word) no_bits
+    → IfSome second (IsOfWord row bits word)
+    → ((k until : ℕ) → k < 64 → has bits k ≡ true → SleepsUntil row (64 * word + k) until → begin ≤ until
+    → goes_before (Some (until, 64 * word + k)) second ≡ false)
+    → IsPast row lines line begin (word + 1) (first_of first second)
+more_past row lines line begin word bits first second few is read one others = record {
+  one = one_of (IsOfLine row lines line) first second is.one (of_line row lines line word bits second few read one);
+  lower = one_of (λ (s : ℕ × ℕ). s.1 / 64 < word + 1) first second (lower first is.lower) (here second one);
+  done = λ x until few below stands asleep later. done x until few stands asleep later (here_or_before x below);
+}
+  where
+    lower : (o : Option (ℕ × ℕ)) → IfSome o (λ s. s.1 / 64 < word) → IfSome o (λ s. s.1 / 64 < word + 1)
+    lower None is = tt
+    lower (Some s) is = omega (arith, is)
+
+    here : (o : Option (ℕ × ℕ)) → IfSome o (IsOfWord row bits word) → IfSome o (λ s. s.1 / 64 < word + 1)
+    here None is = tt
+    here (Some s) is = omega (arith, is.place)
+
+    here_or_before : (x : ℕ) → x / 64 < word + 1 → (x / 64 < word) ⊎ (x / 64 ≡ word)
+    here_or_before x below = search arith
+
+    done : (x until : ℕ) → x ≤ 1023 → stands_in lines line x ≡ true → SleepsUntil row x until → begin ≤ until → (x / 64 < word) ⊎ (x / 64 ≡ word)
+        → goes_before (Some (until, x)) (first_of first second) ≡ false
+    done x until few stands asleep later (inl below) = before_neither (Some (until, x)) first second (is.done x until few below stands asleep later)
+    done x until few stands asleep later (inr here) =
+        let same : 64 * word + x % 64 ≡ x = omega (arith, here) in
+        let bit : has bits (x % 64) ≡ true =
+        ap (λ (b : Bits64). has b (x % 64)) read
+        ∙ ap (λ (w : ℕ). has (get_or lines (16 * line + w) no_bits) (x % 64)) (sym here) ∙ stands in
+        before_nor (Some (until, x)) first second
+        (subst (λ (y : ℕ). goes_before (Some (until, y)) second ≡ false) same
+        (others (x % 64) until (omega arith) bit (subst (λ (y : ℕ). SleepsUntil row y until) (sym same) asleep) later))
+
+pub all_past : (row : List (Option ℕ)) (lines : List Bits64) (line begin words : ℕ) (first : Option (ℕ × ℕ)) → IsPast row lines line begin words first
+    → ((x : ℕ) → x < length row → x ≤ 1023 → x / 64 < words) → (x until : ℕ) → x ≤ 1023 → stands_in lines line x ≡ true → SleepsUntil row x until
+    → begin ≤ until → goes_before (Some (until, x)) first ≡ false
+all_past row lines line begin words first is enough x until few stands asleep later =
+    is.done x until few (enough x (taken_within row x until asleep) few) stands asleep later
+
+pub ended_in_line : (row : List (Option ℕ)) (lines : List Bits64) (line begin words : ℕ) (first : Option (ℕ × ℕ)) → IsPast row lines line begin words first
+    → wakes_by first begin ≡ true → (x until : ℕ) → x ≤ 1023 → stands_in lines line x ≡ true → SleepsUntil row x until
+    → begin ≤ until → goes_before (Some (until, x)) first ≡ false
+ended_in_line row lines line begin words first is by x until few stands asleep later = in_words (past_or_not (x / 64) words)
+  where
+    past_or_not : (a b : ℕ) → (a < b) ⊎ (b ≤ a)
+    past_or_not a b = search arith
+
+    further : (o : Option (ℕ × ℕ)) → words ≤ x / 64 → IfSome o (λ s. s.1 / 64 < words) → IfSome o (λ s. s.1 < x)
+    further None past is = tt
+    further (Some s) past is = omega (arith, past, is)
+
+    in_words : (x / 64 < words) ⊎ (words ≤ x / 64) → goes_before (Some (until, x)) first ≡ false
+    in_words (inl below) = is.done x until few below stands asleep later
+    in_words (inr past) = ended first begin until x by later (further first past is.lower)

@@ -1,8 +1,7 @@
 pub mod Order
-pub mod Played
-pub mod Firsts
 pub mod Turns
 pub mod Places
+pub mod Firsts
+pub mod Kept
 pub mod Due
-pub mod Seats
 pub mod Wakes

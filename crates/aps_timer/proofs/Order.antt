@@ -2,7 +2,7 @@
 use Rattle.std.proofs.Common.{◌≡◌, ◌⊎◌, inl, inr, ℕ, Bool, true, false, cond, refl, Option, Some, None, arith}
 use Rattle.std.proofs.lemmas.Bool.Decides.{nat_tests}
 use Rattle.aps_model.specs.TickWork.{is_earlier}
-use Rattle.aps_timer.specs.Bracket.{goes_before, first_of}
+use Rattle.aps_timer.specs.Order.{goes_before, first_of}
 
 earlier_chain : (a b c : ℕ × ℕ) → is_earlier a b ≡ false → is_earlier b c ≡ false → is_earlier a c ≡ false
 earlier_chain (a, x) (b, y) (c, z) h k = grind (arith, nat_tests)

@@ -1,4 +1,5 @@
-pub mod Bracket
+pub mod Order
 pub mod Sleepers
-pub mod Seated
+pub mod Lines
+pub mod Buckets
 pub mod Waking

@@ -1,8 +1,9 @@
 //! The threads that sleep, and which of them wakes next: the one with the earliest moment, then with the lowest number.
 #![tactic(auto)]
 
-mod bracket;
+mod buckets;
 pub mod laws;
+mod lines;
 mod sleeper;
 mod timer;
 

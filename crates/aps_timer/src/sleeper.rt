@@ -1,7 +1,7 @@
 //! A thread that sleeps, and who goes before whom.
 ghost use Rattle.std.specs.Prelude.{◌≡◌};
 ghost use Rattle.aps_model.specs.TickWork.{is_earlier};
-ghost use Rattle.aps_timer.specs.Bracket.{goes_before, first_of};
+ghost use Rattle.aps_timer.specs.Order.{goes_before, first_of, wakes_by};
 
 use aps_model::{Nanos, ThreadId};
 use std::marker::Model;
@@ -30,8 +30,8 @@ fn is_earlier(a: &Sleeper, b: &Sleeper) -> bool
     a.until < b.until || (a.until == b.until && a.thread.index() < b.thread.index())
 }
 
-/// Whether the sleeper of one place goes before that of another; a place where nobody sleeps comes last.
-pub fn goes_before(a: &Option<Sleeper>, b: &Option<Sleeper>) -> bool
+/// Whether one sleeper, if there is one, goes before another; where there is none it comes last.
+fn goes_before(a: &Option<Sleeper>, b: &Option<Sleeper>) -> bool
     ensures { result ≡ goes_before a.now b.now }
 {
     match (a, b) {
@@ -39,4 +39,21 @@ pub fn goes_before(a: &Option<Sleeper>, b: &Option<Sleeper>) -> bool
         (Some(_), None) => true,
         (None, _) => false,
     }
+}
+
+/// Whether there is a sleeper, and it wakes at or before this moment.
+pub fn wakes_by(sleeper: &Option<Sleeper>, moment: Nanos) -> bool
+    ensures { result ≡ wakes_by sleeper.now moment }
+{
+    match sleeper {
+        Some(sleeper) => sleeper.until <= moment,
+        None => false,
+    }
+}
+
+/// The one of two that goes first.
+pub fn first_of(a: Option<Sleeper>, b: Option<Sleeper>) -> Option<Sleeper>
+    ensures { result ≡ first_of a b }
+{
+    if goes_before(&b, &a) { b } else { a }
 }

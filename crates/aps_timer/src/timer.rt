@@ -1,9 +1,9 @@
 //! The timer of a run.
 ghost use Rattle.std.specs.Prelude.{◌≡◌, ℕ, ◌<◌, [], length, replicate, slice_index_or, slice_set, IfOk, IfSome, None};
-ghost use Rattle.aps_timer.specs.Seated.{sleeper_of, until_of};
-ghost use Rattle.aps_timer.specs.Sleepers.{IsFirstDue, all_due, later_due, next_due, without};
+ghost use Rattle.aps_timer.specs.Sleepers.{IsFirstDue, SleepsUntil, all_due, later_due, next_due, without};
 
-use crate::bracket::Bracket;
+use crate::buckets::Buckets;
+use crate::lines::moment_of;
 use crate::sleeper::Sleeper;
 use aps_model::{Nanos, NoMemory, ThreadId};
 use std::alloc::Global;
@@ -13,18 +13,19 @@ use std::marker::Model;
 /// it sleeps, or nothing where it doesn't sleep. All room is taken when a timer is made.
 #[derive(Drop)]
 pub struct Timer {
-    row: Bracket,
+    row: Vec<Option<Nanos>>,
+    buckets: Buckets,
 }
 
 impl Model for Timer {
     ghost use Rattle.std.specs.Prelude.{ℕ, List, Option};
-    ghost use Rattle.aps_timer.specs.Seated.{untils, AreSeated};
+    ghost use Rattle.aps_timer.specs.Buckets.{AreKept};
 
     ghost Value = { List (Option ℕ) };
 
-    ghost view = { λ t. untils t.row };
+    ghost view = { λ t. t.row.items };
 
-    ghost invariant = { λ t. AreSeated t.row };
+    ghost invariant = { λ t. AreKept t.row.items t.buckets.lines.items t.buckets.begin t.buckets.further };
 }
 
 impl Timer {
@@ -32,9 +33,10 @@ impl Timer {
     pub fn new(alloc: Global, threads: u16) -> Result<Timer, NoMemory>
         ensures { IfOk result (λ t. t ≡ replicate threads None) }
     {
-        Ok(Timer {
-            row: Bracket::new(alloc, threads)?,
-        })
+        let awake: Option<Nanos> = None;
+        let row = vec![in alloc; awake; usize::from(threads)]?;
+        let buckets = Buckets::new(alloc)?;
+        Ok(Timer { row, buckets })
     }
 
     /// The thread, which is one of the row and doesn't sleep, sleeps until a moment in ns, which may be an earlier one
@@ -45,18 +47,15 @@ impl Timer {
         ensures row { self.new ≡ slice_set self.old x (Some until) }
         ensures due { (now : ℕ) → now < until → all_due self.new now ≡ all_due self.old now }
     {
-        self.row.set(x.index(), Some(Sleeper { until, thread: x }));
+        self.row[x.index()] = Some(until);
+        self.buckets.put(x, until);
     }
 
     /// The moment until which the thread sleeps, in ns; nothing where it doesn't sleep, or isn't one of the row.
     pub fn until(&self, x: ThreadId) -> Option<Nanos>
         ensures { result ≡ slice_index_or self.now x None }
     {
-        let place = x.index();
-        if place >= self.row.len() {
-            return None;
-        }
-        until_of(&self.row.at(place))
+        moment_of(&self.row, x)
     }
 
     /// From now on the thread, if it is one of the row, sleeps until this moment, in ns, or doesn't sleep, whatever it did
@@ -64,10 +63,16 @@ impl Timer {
     pub fn set(&mut self, x: ThreadId, until: Option<Nanos>)
         ensures { self.new ≡ slice_set self.old x until }
     {
-        if self.until(x) == until || x.index() >= self.row.len() {
+        let before = self.until(x);
+        if before == until || x.index() >= self.row.len() {
             return;
         }
-        self.row.set(x.index(), sleeper_of(x, until));
+        if let Some(moment) = before {
+            self.wake(x, moment);
+        }
+        if let Some(moment) = until {
+            self.sleep(x, moment);
+        }
     }
 
     /// Takes out, and answers, the sleeper with the least moment, then the least number, if that moment is at or
@@ -79,41 +84,32 @@ impl Timer {
         ensures others { all_due self.new now ≡ later_due (all_due self.old now) }
         ensures left { self.new ≡ without self.old result }
     {
-        let x = self.first_due(now)?;
-        self.row.set(x.index(), None);
-        Some(x)
+        let sleeper = self.first_due(now)?;
+        self.wake(sleeper.thread, sleeper.until);
+        Some(sleeper.thread)
     }
 
-    /// The thread that `due_at` takes out.
-    fn first_due(&self, now: Nanos) -> Option<ThreadId>
-        ensures first { IfSome result (λ x. IsFirstDue self.now now x) }
-        ensures none { result ≡ None → all_due self.now now ≡ [] }
+    /// The sleeper that `due_at` takes out.
+    fn first_due(&mut self, now: Nanos) -> Option<Sleeper>
+        ensures row { self.new ≡ self.old }
+        ensures asleep { IfSome result (λ s. SleepsUntil self.old s.1 s.0) }
+        ensures first { IfSome result (λ s. IsFirstDue self.old now s.1) }
+        ensures none { result ≡ None → all_due self.old now ≡ [] }
     {
-        let sleeper = self.row.first()?;
+        let sleeper = self.buckets.first(&self.row, now)?;
         if sleeper.until <= now {
-            Some(sleeper.thread)
+            Some(sleeper)
         } else {
             None
         }
     }
-}
 
-/// The moment of a sleeper, if there is one.
-fn until_of(sleeper: &Option<Sleeper>) -> Option<Nanos>
-    ensures { result ≡ until_of sleeper.now }
-{
-    match sleeper {
-        Some(sleeper) => Some(sleeper.until),
-        None => None,
-    }
-}
-
-/// The thread as it sleeps until this moment, if it does.
-fn sleeper_of(x: ThreadId, until: Option<Nanos>) -> Option<Sleeper>
-    ensures { result ≡ sleeper_of x until }
-{
-    match until {
-        Some(until) => Some(Sleeper { until, thread: x }),
-        None => None,
+    /// The thread, which sleeps until this moment, doesn't sleep any longer.
+    fn wake(&mut self, x: ThreadId, until: Nanos)
+        requires { slice_index_or self.old x None ≡ Some until }
+        ensures { self.new ≡ slice_set self.old x None }
+    {
+        self.row[x.index()] = None;
+        self.buckets.take(x, until);
     }
 }

@@ -1,11 +1,15 @@
-use Rattle.std.proofs.Common.{ap, ◌∙◌, set}
-use Rattle.aps_timer.specs.Seated.{until_of, untils}
-use Rattle.aps_timer.proofs.Seats.{moment_of, moments_set}
+use Rattle.std.proofs.Common.{◌≡◌, ℕ, List, Option, set, None, Some, ap, sym, ◌∙◌}
+use Rattle.std.proofs.lemmas.List.{set-set}
+use Rattle.aps_timer.proofs.timer.Timer.set.Goals.{in-Some, in_default}
 use Rattle.aps_timer.proofs.timer.Timer.set.Goals as goal
 
-pub returns : goal.returns
-returns c =
-    ap untils c.set.ensures
-    ∙ moments_set c.self.inside.row c.index-2.result c.sleeper_of.result
-    ∙ (λ j. set (c.self.view_is j) (c.index-2.ensures.same j) (until_of (c.sleeper_of.ensures j)))
-    ∙ ap (set c.args.self.now c.args.x) (moment_of c.args.x c.args.until)
+awake : (c : goal.After-sleep) → set c.match-before.self c.args.x (Some c.in-Some-until.moment) ≡ set c.args.self.now c.args.x (Some c.in-Some-until.moment)
+awake c = elim c.match-before.branch [
+  | in-Some w ↦
+      ap (λ (row : List (Option ℕ)). set row c.args.x (Some c.in-Some-until.moment)) (w.self-is ∙ w.wake.ensures)
+      ∙ set-set c.args.self.now c.args.x None (Some c.in-Some-until.moment)
+  | in_default w ↦ ap (λ (row : List (Option ℕ)). set row c.args.x (Some c.in-Some-until.moment)) w.self-is
+]
+
+pub returns-in-Some-until : goal.returns-in-Some-until
+returns-in-Some-until c = c.sleep.ensures.row ∙ awake c ∙ ap (set c.args.self.now c.args.x) (sym c.in-Some-until.is)
