@@ -1,4 +1,4 @@
-use Rattle.std.proofs.Common.{◌≡◌, ◌≤◌, ◌∙◌, List, length, ap, sym, subst, arith}
+use Rattle.std.proofs.Common.{◌∙◌, List, length, ap, sym, subst, arith}
 use Rattle.aps_core.specs.Run.{state_of}
 use Rattle.aps_lives.specs.declared.life.Segment.{Segment}
 use Rattle.aps_lives.specs.Growing.{all_told}

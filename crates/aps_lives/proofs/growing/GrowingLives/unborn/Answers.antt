@@ -1,4 +1,4 @@
-use Rattle.std.proofs.Common.{◌≡◌, ◌∙◌, List, [], replicate, ap}
+use Rattle.std.proofs.Common.{◌∙◌, List, [], replicate, ap}
 use Rattle.aps_lives.specs.declared.growing.Aside.{Aside}
 use Rattle.aps_lives.specs.declared.life.Segment.{Segment}
 use Rattle.aps_lives.specs.Growing.{all_told}
