@@ -1,5 +1,5 @@
 -- Who wakes first of those that are looked at one after another.
-use Rattle.std.proofs.Common.{◌≡◌, ◌≢◌, ◌⊎◌, inl, inr, ℕ, ◌+◌, ◌*◌, ◌/◌, ◌%◌, ◌<◌, ◌≤◌, Bool, true, false, cond, not, ◌&&◌, nat_eq, List, length, get_or, refl, sym, ◌∙◌, ap, subst, Option, Some, None, IfSome, arith}
+use Rattle.std.proofs.Common.{◌≡◌, ◌≢◌, ◌⊎◌, inl, inr, ℕ, ◌+◌, ◌*◌, ◌/◌, ◌%◌, ◌<◌, ◌≤◌, Bool, true, false, cond, not, ◌&&◌, nat_eq, List, get_or, refl, sym, ◌∙◌, ap, subst, Option, Some, None, IfSome, arith}
 use Rattle.std.proofs.lemmas.Bool.{cases_eq}
 use Rattle.std.proofs.lemmas.Bool.Decides.{nat_tests}
 use Rattle.aps_levels.specs.declared.bits.Bits64.{Bits64}
@@ -8,7 +8,6 @@ use Rattle.aps_timer.specs.Lines.{IsOfLine, IsOfWord, no_bits, sleeper_of, stand
 use Rattle.aps_timer.specs.Order.{first_of, goes_before, wakes_by}
 use Rattle.aps_timer.specs.Sleepers.{SleepsUntil}
 use Rattle.aps_timer.proofs.Order.{before_chain, first_left, first_right}
-use Rattle.aps_timer.proofs.Places.{taken_within}
 
 abbrev Row : Type 0
 Row = List (Option ℕ)
@@ -39,19 +38,6 @@ pub record IsDone (row : List (Option ℕ)) (bits left : Bits64) (word from : �
   pub below : (k : ℕ) → k < from → has left k ≡ false
   pub done : (k until : ℕ) → k < 64 → has bits k ≡ true → has left k ≡ false → SleepsUntil row (64 * word + k) until
       → goes_before (Some (until, 64 * word + k)) first ≡ false
-
-pub done_at_first : (row : List (Option ℕ)) (bits : Bits64) (word : ℕ) → IsDone row bits bits word 0 None
-done_at_first row bits word = record {
-  one = tt;
-  fewer = λ k is. is;
-  lower = λ k is. tt;
-  below = λ k less. absurd (omega (arith, less));
-  done = λ k until within is not asleep. (let never : true ≡ false = sym is ∙ not in absurd cc);
-}
-
-pub all_done : (row : List (Option ℕ)) (bits left : Bits64) (word from : ℕ) (first : Option (ℕ × ℕ))
-    → IsDone row bits left word from first → ((k : ℕ) → has left k ≡ false) → IsDone row bits left word 64 first
-all_done row bits left word from first is none = record { one = is.one; fewer = is.fewer; lower = is.lower; below = λ k less. none k; done = is.done }
 
 gone : (k bit : ℕ) (h : Bool) → (not (nat_eq k bit) && h) ≡ false → (k ≡ bit) ⊎ (h ≡ false)
 gone k bit h e = by (cases_eq k bit)
@@ -159,9 +145,6 @@ pub record IsPast (row : List (Option ℕ)) (lines : List Bits64) (line begin wo
   pub done : (x until : ℕ) → x ≤ 1023 → x / 64 < word → stands_in lines line x ≡ true → SleepsUntil row x until → begin ≤ until
       → goes_before (Some (until, x)) first ≡ false
 
-pub past_at_first : (row : List (Option ℕ)) (lines : List Bits64) (line begin : ℕ) → IsPast row lines line begin 0 None
-past_at_first row lines line begin = record { one = tt; lower = tt; done = λ x until few below. absurd (omega (arith, below)) }
-
 of_line : (row : Row) (lines : List Bits64) (line word : ℕ) (bits : Bits64) (o : Option (ℕ × ℕ)) → word < 16 → bits ≡ get_or lines (16 * line + word) no_bits
     → IfSome o (IsOfWord row bits word) → IfSome o (IsOfLine row lines line)
 of_line row lines line word bits None few read is = tt
@@ -206,12 +189,6 @@ more_past row lines line begin word bits first second few is read one others = r
         before_nor (Some (until, x)) first second
         (subst (λ (y : ℕ). goes_before (Some (until, y)) second ≡ false) same
         (others (x % 64) until (omega arith) bit (subst (λ (y : ℕ). SleepsUntil row y until) (sym same) asleep) later))
-
-pub all_past : (row : List (Option ℕ)) (lines : List Bits64) (line begin words : ℕ) (first : Option (ℕ × ℕ)) → IsPast row lines line begin words first
-    → ((x : ℕ) → x < length row → x ≤ 1023 → x / 64 < words) → (x until : ℕ) → x ≤ 1023 → stands_in lines line x ≡ true → SleepsUntil row x until
-    → begin ≤ until → goes_before (Some (until, x)) first ≡ false
-all_past row lines line begin words first is enough x until few stands asleep later =
-    is.done x until few (enough x (taken_within row x until asleep) few) stands asleep later
 
 pub ended_in_line : (row : List (Option ℕ)) (lines : List Bits64) (line begin words : ℕ) (first : Option (ℕ × ℕ)) → IsPast row lines line begin words first
     → wakes_by first begin ≡ true → (x until : ℕ) → x ≤ 1023 → stands_in lines line x ≡ true → SleepsUntil row x until

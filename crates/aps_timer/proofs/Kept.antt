@@ -185,13 +185,6 @@ pub record IsPassed (row : List (Option ℕ)) (lines : List Bits64) (begin bucke
   pub few : bucket ≤ bucket_of begin + 1024
   pub none : (x until : ℕ) → x ≤ 1023 → SleepsUntil row x until → IsNear lines begin x until → bucket ≤ bucket_of until
 
-pub passed_at_first : (row : List (Option ℕ)) (lines : List Bits64) (begin : ℕ) → IsPassed row lines begin (bucket_of begin)
-passed_at_first row lines begin = record {
-  from = omega arith;
-  few = omega arith;
-  none = λ x until few asleep near. (let from = near.from in omega (arith, from));
-}
-
 -- the first of a line in which nobody wakes before this moment
 abbrev pub IsFirstIn : List (Option ℕ) → List Bits64 → ℕ → ℕ → Option (ℕ × ℕ) → Type 0
 IsFirstIn row lines begin line first = (x until : ℕ) → x ≤ 1023 → stands_in lines line x ≡ true → SleepsUntil row x until → begin ≤ until
@@ -201,21 +194,6 @@ IsFirstIn row lines begin line first = (x until : ℕ) → x ≤ 1023 → stands
 stands_near : (lines : Lines) (begin bucket x until : ℕ) → IsNear lines begin x until → bucket_of until ≡ bucket → stands_in lines (bucket % 1024) x ≡ true
 stands_near lines begin bucket x until near same =
     ap (λ (b : ℕ). stands_in lines (b % 1024) x) (sym same) ∙ near.stands (bucket_of until % 1024) ∙ same_here (bucket_of until % 1024)
-
-pub one_passed : (row : List (Option ℕ)) (lines : List Bits64) (begin bucket : ℕ) → IsPassed row lines begin bucket → bucket < bucket_of begin + 1024
-    → IsFirstIn row lines begin (bucket % 1024) None → IsPassed row lines begin (bucket + 1)
-one_passed row lines begin bucket is below first = record {
-  from = omega (arith, is.from);
-  few = omega (arith, below);
-  none = λ x until few asleep near. by x until few asleep near (cases_eq (bucket_of until) bucket);
-}
-  where
-    by : (x until : ℕ) → x ≤ 1023 → SleepsUntil row x until → IsNear lines begin x until → (bucket_of until ≡ bucket) ⊎ (bucket_of until ≢ bucket)
-        → bucket + 1 ≤ bucket_of until
-    by x until few asleep near (inl same) =
-        let never : true ≡ false = first x until few (stands_near lines begin bucket x until near same) asleep near.from in
-        absurd cc
-    by x until few asleep near (inr other) = omega (arith, other, is.none x until few asleep near)
 
 -- the buckets begin later, with a moment before which nobody in them wakes
 pub near_on : (lines : List Bits64) (begin later x until : ℕ) → IsNear lines begin x until → begin ≤ later → later ≤ until → IsNear lines later x until

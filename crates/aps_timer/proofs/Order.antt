@@ -1,5 +1,5 @@
--- The order of places: a chain of places of which none goes before the next.
-use Rattle.std.proofs.Common.{◌≡◌, ◌⊎◌, inl, inr, ℕ, Bool, true, false, cond, refl, Option, Some, None, arith}
+-- Who goes before whom: a chain of sleepers of which none goes before the next.
+use Rattle.std.proofs.Common.{◌≡◌, ℕ, Bool, true, false, cond, refl, Option, Some, None, arith}
 use Rattle.std.proofs.lemmas.Bool.Decides.{nat_tests}
 use Rattle.aps_model.specs.TickWork.{is_earlier}
 use Rattle.aps_timer.specs.Order.{goes_before, first_of}
@@ -41,10 +41,3 @@ first_right a b = by_test (goes_before b a) refl
     by_test : (t : Bool) → goes_before b a ≡ t → goes_before b (cond t b a) ≡ false
     by_test true h = before_itself b
     by_test false h = h
-
-pub first_is_one : (a b : Option (ℕ × ℕ)) → (first_of a b ≡ a) ⊎ (first_of a b ≡ b)
-first_is_one a b = by_test (goes_before b a)
-  where
-    by_test : (t : Bool) → (cond t b a ≡ a) ⊎ (cond t b a ≡ b)
-    by_test true = inr refl
-    by_test false = inl refl
