@@ -39,7 +39,8 @@ impl Model for Channels {
 
 impl Channels {
     /// So many channels at which nobody waits, and nobody who serves, with room for so many threads, of which there are at
-    /// most 1,024. `NoMemory` comes where there is no such room.
+    /// most 1,024. `NoMemory` comes where there is no such room, or where the slab of the messages' records takes more than
+    /// 65,535 places.
     pub fn new(alloc: Global, channels: u16, threads: u16) -> Result<Channels, NoMemory>
         ensures { IfOk result (λ s. s ≡ record { channels = replicate channels no_channel; triples = []; threads = min threads 1024 }) }
     {
