@@ -31,7 +31,9 @@ impl Cursor {
         requires end { (self.old.tick + 1) * ns < 2 ^ 63 }
         ensures cursor { IsCursor ns entries.now self.new }
         ensures tick { self.new.tick ≡ self.old.tick + 1 }
-        ensures next { (d : EntryOf) → self.new.place < length entries.now → self.new.tick * ns < (slice_index_or entries.now self.new.place d).to }
+        ensures next { (d : EntryOf)
+            → self.new.place < length entries.now
+            → self.new.tick * ns < (slice_index_or entries.now self.new.place d).to }
         ensures entries { All IsEntry result.now }
         ensures few { length result.now ≤ length entries.now }
         ensures whole { HasAllOf ns self.old.tick entries.now result.now }

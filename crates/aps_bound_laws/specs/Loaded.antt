@@ -1,7 +1,6 @@
 -- The loaded windows of a history, and what the laws of its audit rest on.
-use Rattle.std.specs.Prelude.{◌≡◌, ℕ, ◌+◌, ◌*◌, ◌<◌, ◌≤◌, length, nat_le, IfSome, IsFalse, Option}
+use Rattle.std.specs.Prelude.{◌≡◌, ℕ, ◌+◌, ◌<◌, length, nat_le, IsFalse}
 use Rattle.std.specs.List.{Contains, list_any}
-use Rattle.aps_model.specs.declared.audit.Worst.{Worst}
 use Rattle.aps_model.specs.declared.command.Change.{Change}
 use Rattle.aps_model.specs.Bound.{IsWithinBudget, IsWithinCritical}
 use Rattle.aps_model.specs.History.{History}
@@ -20,14 +19,6 @@ IsSettled h = IsFalse (list_any (λ (change : Change). nat_le (finished_ticks h.
 pub record KeepsLast (h : History) (a : ℕ) : Type 0 where
   pub budget : (p : ℕ) → p < length h.rows → IsWithinBudget h.shape h.rows h.entries a p
   pub critical : (p : ℕ) → p < length h.rows → IsWithinCritical h.shape h.rows h.entries a p
-
--- each loaded window does so
-abbrev pub KeepsLoaded : History → Type 0
-KeepsLoaded h = (a : ℕ) → IsLoaded h a → KeepsLast h a
-
--- the amount, if there is one, is at most one tick for each processor
-abbrev pub IsWithinTicks : History → Option Worst → Type 0
-IsWithinTicks h found = IfSome found (λ (w : Worst). w.amount ≤ h.shape.cpus * h.shape.tick)
 
 -- no critical time was spent in a loaded window
 abbrev pub IsUncritical : History → Type 0

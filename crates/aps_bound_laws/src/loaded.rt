@@ -1,7 +1,8 @@
 //! What the loaded windows of a legal history keep, and with them the numbers of its audit.
-ghost use Rattle.std.specs.Prelude.{ℕ, ◌/◌, List};
+ghost use Rattle.std.specs.Prelude.{ℕ, ◌≤◌, ◌*◌, ◌/◌, List, IfSome};
 ghost use Rattle.aps_model.specs.declared.entry.Entry.{Entry};
 ghost use Rattle.aps_model.specs.declared.entry.Order.{Order};
+ghost use Rattle.aps_model.specs.declared.audit.Worst.{Worst};
 ghost use Rattle.aps_model.specs.Scenario.{Scenario};
 ghost use Rattle.aps_model.specs.Valid.{IsScenario};
 ghost use Rattle.aps_model.specs.Legal.{IsLegal};
@@ -9,7 +10,7 @@ ghost use Rattle.aps_model.specs.History.{Rooms};
 ghost use Rattle.aps_model.specs.Recorded.{recorded};
 ghost use Rattle.aps_model.specs.Audit.{audit_of, over_from, short_from, critical_over_from};
 ghost use Rattle.aps_model.specs.History.{History};
-ghost use Rattle.aps_bound_laws.specs.Loaded.{IsSettled, IsUncritical, IsWithinTicks, KeepsLoaded};
+ghost use Rattle.aps_bound_laws.specs.Loaded.{IsLoaded, IsSettled, IsUncritical, KeepsLast};
 ghost use Rattle.aps_bound_laws.specs.Worst.{IsAudited, TellsWorst};
 
 /// Each amount of an audit (ns) is the greatest of its kind over all partitions in all loaded windows. Its window is
@@ -28,7 +29,9 @@ pub fn loaded_windows_keep_bounds()
         → IsScenario scenario
         → IsLegal scenario order h
         → IsSettled (recorded scenario limit rooms h)
-        → KeepsLoaded (recorded scenario limit rooms h) }
+        → (a : ℕ)
+        → IsLoaded (recorded scenario limit rooms h) a
+        → KeepsLast (recorded scenario limit rooms h) a }
 {}
 
 /// The greatest excess over a critical budget is then at most one tick for each processor.
@@ -37,7 +40,8 @@ pub fn critical_worst_is_small()
         → IsScenario scenario
         → IsLegal scenario order h
         → IsSettled (recorded scenario limit rooms h)
-        → IsWithinTicks (recorded scenario limit rooms h) (audit_of (recorded scenario limit rooms h)).critical_worst }
+        → IfSome (audit_of (recorded scenario limit rooms h)).critical_worst
+        (λ (w : Worst). w.amount ≤ (recorded scenario limit rooms h).shape.cpus * (recorded scenario limit rooms h).shape.tick) }
 {}
 
 /// So is the greatest excess over a budget, where no critical time was spent in a loaded window.
@@ -47,5 +51,6 @@ pub fn worst_over_is_small()
         → IsLegal scenario order h
         → IsSettled (recorded scenario limit rooms h)
         → IsUncritical (recorded scenario limit rooms h)
-        → IsWithinTicks (recorded scenario limit rooms h) (audit_of (recorded scenario limit rooms h)).worst_over }
+        → IfSome (audit_of (recorded scenario limit rooms h)).worst_over
+        (λ (w : Worst). w.amount ≤ (recorded scenario limit rooms h).shape.cpus * (recorded scenario limit rooms h).shape.tick) }
 {}

@@ -66,7 +66,10 @@ impl Serving {
     pub fn begin(&mut self, server: ThreadId, client: ThreadId, channel: ChannelId)
         requires thread { server < self.old.threads }
         requires free { client_of self.old.triples server ≡ None }
-        ensures { self.new ≡ record self.old { triples = (record { server = server; client = client; channel = channel }) ∷ self.old.triples } }
+        ensures { self.new ≡ record self.old {
+          triples = (record { server = server; client = client; channel = channel })
+              ∷ self.old.triples;
+        } }
     {
         let server = server.index();
         let client = client.index() as u16;

@@ -59,8 +59,12 @@ pub fn perform(call: &Call, tree: &mut Tree, shape: &mut Shape, view: &CtlView) 
 
 /// A new partition under the parent of this name.
 fn create(tree: &mut Tree, name: Name, parent: Name, budget: u16, critical: u64, max: u16) -> Answer
-    ensures answer { (shape : ShapeOf) → tree.old.parts ≡ shape.parts → result ≡ (create_under tree.old.rows shape name budget critical max (partition_named tree.old.rows parent)).answer }
-    ensures rows { (shape : ShapeOf) → tree.old.parts ≡ shape.parts → tree.new.rows ≡ (create_under tree.old.rows shape name budget critical max (partition_named tree.old.rows parent)).rows }
+    ensures answer { (shape : ShapeOf)
+        → tree.old.parts ≡ shape.parts
+        → result ≡ (create_under tree.old.rows shape name budget critical max (partition_named tree.old.rows parent)).answer }
+    ensures rows { (shape : ShapeOf)
+        → tree.old.parts ≡ shape.parts
+        → tree.new.rows ≡ (create_under tree.old.rows shape name budget critical max (partition_named tree.old.rows parent)).rows }
     ensures parts { tree.new.parts ≡ tree.old.parts }
 {
     let Some(under) = tree.lookup(parent) else {
@@ -80,8 +84,12 @@ fn modify(
     critical: Option<u64>,
     max: Option<u16>,
 ) -> Answer
-    ensures answer { (shape : ShapeOf) → tree.old.parts ≡ shape.parts → result ≡ (modify_found tree.old.rows shape budget critical max (partition_named tree.old.rows partition)).answer }
-    ensures rows { (shape : ShapeOf) → tree.old.parts ≡ shape.parts → tree.new.rows ≡ (modify_found tree.old.rows shape budget critical max (partition_named tree.old.rows partition)).rows }
+    ensures answer { (shape : ShapeOf)
+        → tree.old.parts ≡ shape.parts
+        → result ≡ (modify_found tree.old.rows shape budget critical max (partition_named tree.old.rows partition)).answer }
+    ensures rows { (shape : ShapeOf)
+        → tree.old.parts ≡ shape.parts
+        → tree.new.rows ≡ (modify_found tree.old.rows shape budget critical max (partition_named tree.old.rows partition)).rows }
     ensures parts { tree.new.parts ≡ tree.old.parts }
 {
     let Some(p) = tree.lookup(partition) else {
@@ -166,7 +174,8 @@ fn set_parameters(
 
 /// The answer, unless the named thread is gone.
 fn mark(view: &CtlView, answer: Answer) -> Answer
-    ensures { (rows : List PartitionRow) (shape : ShapeOf) (on : Bool) → result ≡ (mark_thread rows shape on answer view.now.thread).answer }
+    ensures { (rows : List PartitionRow) (shape : ShapeOf) (on : Bool)
+        → result ≡ (mark_thread rows shape on answer view.now.thread).answer }
 {
     match view.thread {
         None => Answer::Refused(CtlRefusal::Gone),

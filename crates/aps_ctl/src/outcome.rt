@@ -13,7 +13,9 @@ use aps_tree::Tree;
 /// The own mark that a command with this answer sets, if it sets one.
 pub fn mark_by(answer: &Answer) -> Option<bool>
     ensures same { result ≡ mark_by answer.now }
-    ensures law { (call : CallOf) (rows : List PartitionRow) (shape : Shape) (view : CtlView) → answer.now ≡ (perform call rows shape view).answer → result ≡ (perform call rows shape view).mark }
+    ensures law { (call : CallOf) (rows : List PartitionRow) (shape : Shape) (view : CtlView)
+        → answer.now ≡ (perform call rows shape view).answer
+        → result ≡ (perform call rows shape view).mark }
 {
     match answer {
         Answer::Marked => Some(true),
@@ -25,7 +27,10 @@ pub fn mark_by(answer: &Answer) -> Option<bool>
 /// The change that a command with this answer made, if it made one; `tree` is the tree after it.
 pub fn change_by(call: &Call, answer: &Answer, tree: &Tree) -> Option<ChangeKind>
     ensures same { result ≡ change_by call.now answer.now tree.now.rows }
-    ensures law { (rows : List PartitionRow) (shape : Shape) (view : CtlView) → answer.now ≡ (perform call.now rows shape view).answer → tree.now.rows ≡ (perform call.now rows shape view).rows → result ≡ (perform call.now rows shape view).change }
+    ensures law { (rows : List PartitionRow) (shape : Shape) (view : CtlView)
+        → answer.now ≡ (perform call.now rows shape view).answer
+        → tree.now.rows ≡ (perform call.now rows shape view).rows
+        → result ≡ (perform call.now rows shape view).change }
 {
     match answer {
         Answer::Created(p) => Some(ChangeKind::Created(*p)),

@@ -19,5 +19,9 @@ pub fn ahead_where_greater()
 
 /// What ties threads after one more entry follows from what that entry says, with what the thread was about before.
 pub fn ties_go_on()
-    ensures { (scenario : Scenario) (order : Order) (h : List Entry) (e : Entry) → IsScenario scenario → IsLegal scenario order (h ++ e ∷ []) → ties_of (state_after scenario (h ++ e ∷ [])) ≡ after_ran scenario (state_after scenario h) (ties_of (state_after scenario h)) e.ran e.done }
+    ensures { (scenario : Scenario) (order : Order) (h : List Entry) (e : Entry)
+        → IsScenario scenario
+        → IsLegal scenario order (h ++ e ∷ [])
+        → ties_of (state_after scenario (h ++ e ∷ []))
+        ≡ after_ran scenario (state_after scenario h) (ties_of (state_after scenario h)) e.ran e.done }
 {}

@@ -160,7 +160,8 @@ fn add_rivals(alloc: Global, out: &mut String, scene: &Scene, x: ThreadId) -> Re
 }
 
 fn add_cpus(out: &mut String, scene: &Scene, x: ThreadId) -> Result<(), NoMemory>
-    ensures { OnOk result (string_bytes out.new ≡ string_bytes out.old ++ flat_map (spec.cpu_line scene.now x) (range_with_len 0 scene.now.scenario.shape.cpus)) }
+    ensures { OnOk result (string_bytes out.new
+        ≡ string_bytes out.old ++ flat_map (spec.cpu_line scene.now x) (range_with_len 0 scene.now.scenario.shape.cpus)) }
 {
     for c in 0..scene.cpu_count() {
         add_cpu(out, scene, x, CpuId::at(c))?;

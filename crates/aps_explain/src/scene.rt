@@ -256,7 +256,8 @@ fn usage_at(core: &Core, tick: u64) -> Usage
 /// How each partition stands by what it used.
 fn parts_of(alloc: Global, core: &Core, usage: &Usage) -> Result<Vec<PartFacts>, NoMemory>
     requires { IsAtMost 100000000000000 usage.now }
-    ensures same { IfOk result (λ parts. parts.items ≡ map (part_by (state_of core.now).shape (state_of core.now).rows usage.now) (range_with_len 0 (length (state_of core.now).rows))) }
+    ensures same { IfOk result (λ parts. parts.items
+        ≡ map (part_by (state_of core.now).shape (state_of core.now).rows usage.now) (range_with_len 0 (length (state_of core.now).rows))) }
     ensures small { IfOk result (λ parts. All IsSmall parts.items) }
     ensures few { length (state_of core.now).rows ≤ 32 }
 {

@@ -45,7 +45,8 @@ fn tell(
 ) -> Result<String, NoMemory>
     requires lives { length lives.now.items ≡ length scene.now.scenario.threads }
     requires thread { thread < length scene.now.scenario.threads }
-    ensures text { IfOk result (λ text. string_bytes text ≡ spec.title_text at ++ flat_map (spec.thread_with scene.now at lives.now.items) (explained scene.now thread)) }
+    ensures text { IfOk result (λ text. string_bytes text
+        ≡ spec.title_text at ++ flat_map (spec.thread_with scene.now at lives.now.items) (explained scene.now thread)) }
     ensures known { OnOk result (All (λ x. x < length scene.now.scenario.threads) (explained scene.now thread)) }
 {
     let told = explained(alloc, scene, thread)?;
@@ -70,7 +71,8 @@ fn add_threads(
     at: Nanos,
 ) -> Result<(), NoMemory>
     requires known { All (λ x. x < length lives.now.items) told.now }
-    ensures { OnOk result (string_bytes out.new ≡ string_bytes out.old ++ flat_map (spec.thread_with scene.now at lives.now.items) told.now) }
+    ensures { OnOk result (string_bytes out.new
+        ≡ string_bytes out.old ++ flat_map (spec.thread_with scene.now at lives.now.items) told.now) }
 {
     for x in told {
         add_thread(alloc, out, scene, &lives[x.index()], *x, at)?;

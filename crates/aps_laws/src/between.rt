@@ -13,5 +13,10 @@ ghost use Rattle.aps_laws.specs.Between.{IsBetween};
 /// places fit, stamps are distinct, inherited values have their ranges, everybody waits where its state says, and the
 /// bill takes no more off an operation than is left of it.
 pub fn states_between()
-    ensures { (scenario : Scenario) (order : Order) (h : List Entry) (c : ℕ) → IsScenario scenario → IsLegal scenario order h → over (after scenario h) h ≡ None → HasTurn order (state_after scenario h) h c → IsBetween scenario (state_after scenario h) h c }
+    ensures { (scenario : Scenario) (order : Order) (h : List Entry) (c : ℕ)
+        → IsScenario scenario
+        → IsLegal scenario order h
+        → over (after scenario h) h ≡ None
+        → HasTurn order (state_after scenario h) h c
+        → IsBetween scenario (state_after scenario h) h c }
 {}

@@ -10,5 +10,8 @@ ghost use Rattle.aps_laws.specs.Choices.{EachPickIsGreatest};
 /// Each entry that makes a pick picks the greatest candidate, by the usage with its own bill, and nobody exactly where
 /// there is no candidate; it names the lowest partition with a budget and no candidate.
 pub fn picks_are_greatest()
-    ensures { (scenario : Scenario) (order : Order) (h : List Entry) → IsScenario scenario → IsLegal scenario order h → EachPickIsGreatest scenario h }
+    ensures { (scenario : Scenario) (order : Order) (h : List Entry)
+        → IsScenario scenario
+        → IsLegal scenario order h
+        → EachPickIsGreatest scenario h }
 {}

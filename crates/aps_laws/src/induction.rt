@@ -9,5 +9,10 @@ ghost use Rattle.aps_laws.specs.Carry.{IsCarried};
 
 /// What holds at the start and is kept by each step holds of each legal history.
 pub fn carried()
-    ensures { (scenario : Scenario) (order : Order) (P : List Entry → After → Bool) → P [] (at_start scenario) ≡ true → IsCarried scenario order (λ h a. P h a ≡ true) → (h : List Entry) → IsLegal scenario order h → P h (after scenario h) ≡ true }
+    ensures { (scenario : Scenario) (order : Order) (P : List Entry → After → Bool)
+        → P [] (at_start scenario) ≡ true
+        → IsCarried scenario order (λ h a. P h a ≡ true)
+        → (h : List Entry)
+        → IsLegal scenario order h
+        → P h (after scenario h) ≡ true }
 {}

@@ -16,19 +16,28 @@ ghost use Rattle.aps_model.specs.SchedulerState.{SchedulerState};
 
 /// A thread waits at a channel or for a reply exactly where its state says so, once, and triples lead to older ones.
 pub fn waiting_stands()
-    ensures { (scenario : Scenario) (order : Order) (h : List Entry) → IsScenario scenario → IsLegal scenario order h → IsWaiting (state_at (state_after scenario h)) (channel_at (state_after scenario h)) (state_after scenario h).triples }
+    ensures { (scenario : Scenario) (order : Order) (h : List Entry)
+        → IsScenario scenario
+        → IsLegal scenario order h
+        → IsWaiting (state_at (state_after scenario h)) (channel_at (state_after scenario h)) (state_after scenario h).triples }
 {}
 
 /// A server has its client's values, raised by what waits at the channel of its triple, and who serves nobody has its
 /// own.
 pub fn servers_inherit()
-    ensures { (scenario : Scenario) (order : Order) (h : List Entry) → IsScenario scenario → IsLegal scenario order h → IsChained (state_after scenario h) }
+    ensures { (scenario : Scenario) (order : Order) (h : List Entry)
+        → IsScenario scenario
+        → IsLegal scenario order h
+        → IsChained (state_after scenario h) }
 {}
 
 /// Each number of a thread, processor, channel or partition names one that exists, in states, messages, receivers,
 /// triples, inherited values and what processors keep; each priority that waits or is inherited is between 1 and 255.
 pub fn ids_fit()
-    ensures { (scenario : Scenario) (order : Order) (h : List Entry) → IsScenario scenario → IsLegal scenario order h → IsInRange scenario (state_after scenario h) }
+    ensures { (scenario : Scenario) (order : Order) (h : List Entry)
+        → IsScenario scenario
+        → IsLegal scenario order h
+        → IsInRange scenario (state_after scenario h) }
 {}
 
 /// Where a thread that is nobody's client serves anew or serves no longer, no other thread's inherited values change.
@@ -38,5 +47,9 @@ pub fn only_the_server_changes()
 
 /// Whoever runs is nobody's client.
 pub fn runners_are_free()
-    ensures { (scenario : Scenario) (order : Order) (h : List Entry) (x c : ℕ) → IsScenario scenario → IsLegal scenario order h → state_at (state_after scenario h) x ≡ Running c → IsNobodysClient (state_after scenario h).triples x }
+    ensures { (scenario : Scenario) (order : Order) (h : List Entry) (x c : ℕ)
+        → IsScenario scenario
+        → IsLegal scenario order h
+        → state_at (state_after scenario h) x ≡ Running c
+        → IsNobodysClient (state_after scenario h).triples x }
 {}

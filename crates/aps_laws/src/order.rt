@@ -29,15 +29,24 @@ pub fn fixed_is_legal_in_any_order()
 /// One entry more makes a legal history exactly where the history before was legal, wasn't over, and the entry is the
 /// step of a processor that had the turn.
 pub fn legal_histories_go_on()
-    ensures more { (scenario : Scenario) (order : Order) (h : List Entry) (e : Entry) → IsLegal scenario order (h ++ e ∷ []) → IsOneMore scenario order h e }
-    ensures back { (scenario : Scenario) (order : Order) (h : List Entry) (e : Entry) → IsLegal scenario order h → GoesOn scenario order h e → IsLegal scenario order (h ++ e ∷ []) }
+    ensures more { (scenario : Scenario) (order : Order) (h : List Entry) (e : Entry)
+        → IsLegal scenario order (h ++ e ∷ [])
+        → IsOneMore scenario order h e }
+    ensures back { (scenario : Scenario) (order : Order) (h : List Entry) (e : Entry)
+        → IsLegal scenario order h
+        → GoesOn scenario order h e
+        → IsLegal scenario order (h ++ e ∷ []) }
 {}
 
 /// Each prefix of a legal history is legal and, unless it is the whole, goes on by the next entry, so that it isn't
 /// over.
 pub fn prefixes_are_legal()
-    ensures legal { (scenario : Scenario) (order : Order) (h later : List Entry) → IsLegal scenario order (h ++ later) → IsLegal scenario order h }
-    ensures goes_on { (scenario : Scenario) (order : Order) (h later : List Entry) (e : Entry) → IsLegal scenario order (h ++ e ∷ later) → GoesOn scenario order h e }
+    ensures legal { (scenario : Scenario) (order : Order) (h later : List Entry)
+        → IsLegal scenario order (h ++ later)
+        → IsLegal scenario order h }
+    ensures goes_on { (scenario : Scenario) (order : Order) (h later : List Entry) (e : Entry)
+        → IsLegal scenario order (h ++ e ∷ later)
+        → GoesOn scenario order h e }
 {}
 
 /// The run in fixed order with a limit is legal in fixed order and has ended with that limit, and none of its shorter
@@ -48,19 +57,35 @@ pub fn fixed_run_ends()
 
 /// It is the only one.
 pub fn fixed_run_is_one()
-    ensures { (scenario : Scenario) (limit : ℕ) (h : List Entry) → IsScenario scenario → IsRun scenario Fixed limit h → h ≡ fixed_run scenario limit }
+    ensures { (scenario : Scenario) (limit : ℕ) (h : List Entry)
+        → IsScenario scenario
+        → IsRun scenario Fixed limit h
+        → h ≡ fixed_run scenario limit }
 {}
 
 /// A legal history none of whose shorter prefixes has ended goes on by steps in fixed order to one that has ended with
 /// the limit, and no sooner. In fixed order that is the run.
 pub fn finished_ends()
-    ensures run { (scenario : Scenario) (order : Order) (limit : ℕ) (h : List Entry) → IsScenario scenario → IsLegal scenario order h → EndsNoSooner scenario limit h → IsRun scenario order limit (finished scenario limit h) }
+    ensures run { (scenario : Scenario) (order : Order) (limit : ℕ) (h : List Entry)
+        → IsScenario scenario
+        → IsLegal scenario order h
+        → EndsNoSooner scenario limit h
+        → IsRun scenario order limit (finished scenario limit h) }
     ensures extends { (scenario : Scenario) (limit : ℕ) (h : List Entry) → Extends h (finished scenario limit h) }
-    ensures fixed { (scenario : Scenario) (limit : ℕ) (h : List Entry) → IsScenario scenario → IsLegal scenario Fixed h → EndsNoSooner scenario limit h → finished scenario limit h ≡ fixed_run scenario limit }
+    ensures fixed { (scenario : Scenario) (limit : ℕ) (h : List Entry)
+        → IsScenario scenario
+        → IsLegal scenario Fixed h
+        → EndsNoSooner scenario limit h
+        → finished scenario limit h ≡ fixed_run scenario limit }
 {}
 
 /// Finishing leaves a history that has ended as it is, and one that hasn't may first go on by one step in fixed order.
 pub fn finished_by_steps()
     ensures stops { (scenario : Scenario) (limit : ℕ) (h : List Entry) → IsSome (end_of scenario limit h) → finished scenario limit h ≡ h }
-    ensures steps { (scenario : Scenario) (order : Order) (limit : ℕ) (h : List Entry) → IsScenario scenario → IsLegal scenario order h → length h < limit → end_of scenario limit h ≡ None → finished scenario limit h ≡ finished scenario limit (with_fixed_step scenario h) }
+    ensures steps { (scenario : Scenario) (order : Order) (limit : ℕ) (h : List Entry)
+        → IsScenario scenario
+        → IsLegal scenario order h
+        → length h < limit
+        → end_of scenario limit h ≡ None
+        → finished scenario limit h ≡ finished scenario limit (with_fixed_step scenario h) }
 {}

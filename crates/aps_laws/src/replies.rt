@@ -14,11 +14,21 @@ ghost use Rattle.aps_laws.specs.Boundaries.{ticks_begun};
 /// The replies answer the commands of the ticks that have begun, in order of tick, then of place; each of these
 /// commands once and no other.
 pub fn commands_once()
-    ensures in_order { (scenario : Scenario) (order : Order) (h : List Entry) → IsScenario scenario → IsLegal scenario order h → places_answered (state_after scenario h).replies ≡ places_below scenario (ticks_begun scenario.shape.tick h) }
-    ensures once { (scenario : Scenario) (order : Order) (h : List Entry) (i : ℕ) → IsScenario scenario → IsLegal scenario order h → count_by (λ (reply : Reply). nat_eq reply.command i) (state_after scenario h).replies ≡ once_below (ticks_begun scenario.shape.tick h) (slice_get scenario.commands i) }
+    ensures in_order { (scenario : Scenario) (order : Order) (h : List Entry)
+        → IsScenario scenario
+        → IsLegal scenario order h
+        → places_answered (state_after scenario h).replies ≡ places_below scenario (ticks_begun scenario.shape.tick h) }
+    ensures once { (scenario : Scenario) (order : Order) (h : List Entry) (i : ℕ)
+        → IsScenario scenario
+        → IsLegal scenario order h
+        → count_by (λ (reply : Reply). nat_eq reply.command i) (state_after scenario h).replies
+        ≡ once_below (ticks_begun scenario.shape.tick h) (slice_get scenario.commands i) }
 {}
 
 /// There are at most as many replies as commands.
 pub fn replies_bounded()
-    ensures { (scenario : Scenario) (order : Order) (h : List Entry) → IsScenario scenario → IsLegal scenario order h → length (state_after scenario h).replies ≤ length scenario.commands }
+    ensures { (scenario : Scenario) (order : Order) (h : List Entry)
+        → IsScenario scenario
+        → IsLegal scenario order h
+        → length (state_after scenario h).replies ≤ length scenario.commands }
 {}

@@ -11,5 +11,9 @@ ghost use Rattle.aps_laws.specs.Starving.{HasEnough};
 /// Where there is no limit, and as many threads of each partition with a budget, by inheritance, are ready or run as
 /// there are processors, the entry tells of nobody that is starved.
 pub fn enough_threads()
-    ensures { (scenario : Scenario) (order : Order) (h : List Entry) (e : Entry) → IsScenario scenario → IsLegal scenario order (h ++ e ∷ []) → HasEnough (state_after scenario (h ++ e ∷ [])) → e.starved ≡ None }
+    ensures { (scenario : Scenario) (order : Order) (h : List Entry) (e : Entry)
+        → IsScenario scenario
+        → IsLegal scenario order (h ++ e ∷ [])
+        → HasEnough (state_after scenario (h ++ e ∷ []))
+        → e.starved ≡ None }
 {}

@@ -43,7 +43,8 @@ impl Live {
         requires some { 1 ≤ limit }
         requires few { limit ≤ 4000000 }
         ensures live { IfOk result (λ r. r.0.setup ≡ record { scenario = scenario; limit = limit }) }
-        ensures seat { IfOk result (λ r. r.1 ≡ record { table = r.0.table; seen = record { setup = r.0.setup; steps = [] }; first = 0; last = scenario.shape.cpus - 1 }) }
+        ensures seat { IfOk result (λ r. r.1
+            ≡ record { table = r.0.table; seen = record { setup = r.0.setup; steps = [] }; first = 0; last = scenario.shape.cpus - 1 }) }
         ensures of { IfOk result (λ r. IsSeatOf r.0 r.1 × HasAllCpus r.1) }
     {
         let core = LiveCore::begin(alloc, scenario, limit)?;
@@ -84,7 +85,8 @@ impl Live {
         requires early { now ≤ 10000000000000 }
         requires named { NamesThread self.now.setup.scenario event }
         ensures turn { IsSeatTurn seat.old cpu now event result seat.new }
-        ensures own { own_steps seat.old.first seat.old.last seat.new.seen.steps ≡ own_steps seat.old.first seat.old.last seat.old.seen.steps ++ taken event result }
+        ensures own { own_steps seat.old.first seat.old.last seat.new.seen.steps
+            ≡ own_steps seat.old.first seat.old.last seat.old.seen.steps ++ taken event result }
         ensures of { IsSeatOf self.now seat.new }
     {
         let (turn, seen_len) = turn_place(rt, &self.table.shared, &mut seat.place, cpu, now, event);

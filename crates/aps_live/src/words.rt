@@ -91,7 +91,8 @@ fn put_core(shared: &SharedCore, place: &mut Place, core: LiveCore)
 fn publish<N: Shown>(shared: &SharedCore, place: &mut Place, _core: &LiveCore, len: u64)
     requires table { IsFor shared.now.table_id place.old.table_id }
     requires seat { (place.old.me.0.live ≡ true) × IsServed place.old.me.0.ticket }
-    requires run { (N.run ≡ _core.now) × IsStepped place.old.me.0.first place.old.me.0.after place.old.me.0.seen _core.now × (len ≡ length _core.now.steps) }
+    requires run { (N.run ≡ _core.now) × IsStepped place.old.me.0.first place.old.me.0.after place.old.me.0.seen _core.now
+        × (len ≡ length _core.now.steps) }
     ensures table { place.new.table_id ≡ place.old.table_id }
     ensures seat { place.new.me ≡ (record place.old.me.0 { seen = _core.now }, place.old.me.1) }
 {
@@ -119,7 +120,8 @@ pub(crate) fn turn_place<R: Wait>(
 ) -> (LiveTurn, u64)
     requires table { IsFor shared.now.table_id place.old.table_id }
     requires seat { (place.old.me.0.live ≡ true) × (place.old.me.0.ticket ≡ NoTicket) × (place.old.me.1 ≡ []) }
-    requires cpu { (place.old.me.0.first ≤ cpu) × (cpu < place.old.me.0.after) × (place.old.me.0.after ≤ place.old.me.0.seen.setup.scenario.shape.cpus) }
+    requires cpu { (place.old.me.0.first ≤ cpu) × (cpu < place.old.me.0.after)
+        × (place.old.me.0.after ≤ place.old.me.0.seen.setup.scenario.shape.cpus) }
     requires early { now ≤ 10000000000000 }
     requires named { NamesThread place.old.me.0.seen.setup.scenario event }
     ensures table { place.new.table_id ≡ place.old.table_id }

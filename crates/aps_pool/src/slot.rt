@@ -58,7 +58,8 @@ impl<P: OfLive> Slot<P> {
         requires early { now ≤ 10000000000000 }
         ensures turn { IsSeatTurn self.old.seat self.old.seat.first now Stay result self.new.seat }
         ensures cpu { (self.new.seat.first ≡ self.old.seat.first) × (self.new.seat.last ≡ self.old.seat.last) }
-        ensures own { own_steps self.old.seat.first self.old.seat.last self.new.seat.seen.steps ≡ own_steps self.old.seat.first self.old.seat.last self.old.seat.seen.steps ++ taken Stay result }
+        ensures own { own_steps self.old.seat.first self.old.seat.last self.new.seat.seen.steps
+            ≡ own_steps self.old.seat.first self.old.seat.last self.old.seat.seen.steps ++ taken Stay result }
     {
         let cpu = self.cpu();
         live.live_step(rt, &mut self.seat, cpu, now, LiveEvent::Stay)

@@ -47,7 +47,8 @@ fn add_windows(
     requires rows { rows ≤ 32 }
     requires count { count ≤ 100000000 }
     requires places { length cells.now ≡ count * 32 }
-    ensures { OnOk result (string_bytes out.new ≡ string_bytes out.old ++ flat_map (window_with cells.now rows window) (range_with_len 0 count)) }
+    ensures { OnOk result (string_bytes out.new
+        ≡ string_bytes out.old ++ flat_map (window_with cells.now rows window) (range_with_len 0 count)) }
 {
     for k in 0..count {
         add_window(out, cells, rows, window, k)?;

@@ -71,7 +71,8 @@ fn add_tables(out: &mut String, history: &History, totals: &Totals) -> Result<()
 
 fn add_partitions(out: &mut String, rows: &[PartitionRow], totals: &Totals) -> Result<(), NoMemory>
     requires { length rows.now ≤ 32 }
-    ensures { OnOk result (string_bytes out.new ≡ string_bytes out.old ++ flat_map (partition_with totals.now) (enumerate_from 0 rows.now)) }
+    ensures { OnOk result (string_bytes out.new
+        ≡ string_bytes out.old ++ flat_map (partition_with totals.now) (enumerate_from 0 rows.now)) }
 {
     for (id, row) in rows.iter().enumerate() {
         add_partition(out, id, row, totals.billed(id), totals.critical(id))?;
@@ -81,7 +82,8 @@ fn add_partitions(out: &mut String, rows: &[PartitionRow], totals: &Totals) -> R
 
 fn add_threads(out: &mut String, threads: &[ThreadRow], totals: &Totals) -> Result<(), NoMemory>
     requires { length threads.now ≤ 1024 }
-    ensures { OnOk result (string_bytes out.new ≡ string_bytes out.old ++ flat_map (thread_with totals.now) (enumerate_from 0 threads.now)) }
+    ensures { OnOk result (string_bytes out.new
+        ≡ string_bytes out.old ++ flat_map (thread_with totals.now) (enumerate_from 0 threads.now)) }
 {
     for (id, thread) in threads.iter().enumerate() {
         add_thread(out, id, &thread.name, totals.ran(id))?;

@@ -45,7 +45,8 @@ pub fn add_reply(out: &mut String, reply: &Reply) -> Result<(), NoMemory>
 }
 
 fn add_refusal(out: &mut String, command: u16, why: &CtlRefusal) -> Result<(), NoMemory>
-    ensures { OnOk result (string_bytes out.new ≡ string_bytes out.old ++ reply_line (record { command = command; answer = Refused why.now })) }
+    ensures { OnOk result (string_bytes out.new
+        ≡ string_bytes out.old ++ reply_line (record { command = command; answer = Refused why.now })) }
 {
     match why {
         CtlRefusal::NoPartition => add_word(out, command, "no-partition"),
@@ -69,13 +70,15 @@ fn add_word(out: &mut String, command: u16, word: &str) -> Result<(), NoMemory>
 }
 
 fn add_number(out: &mut String, command: u16, word: &str, number: usize) -> Result<(), NoMemory>
-    ensures { OnOk result (string_bytes out.new ≡ string_bytes out.old ++ line_of (codes "reply" ∷ decimal command ∷ word.now ∷ decimal number ∷ [])) }
+    ensures { OnOk result (string_bytes out.new
+        ≡ string_bytes out.old ++ line_of (codes "reply" ∷ decimal command ∷ word.now ∷ decimal number ∷ [])) }
 {
     write!(out, "reply {command} {word} {number}\n")
 }
 
 fn add_bad_max(out: &mut String, command: u16, partition: usize, least: u16) -> Result<(), NoMemory>
-    ensures { OnOk result (string_bytes out.new ≡ string_bytes out.old ++ line_of (codes "reply" ∷ decimal command ∷ codes "bad-max" ∷ decimal partition ∷ decimal least ∷ [])) }
+    ensures { OnOk result (string_bytes out.new
+        ≡ string_bytes out.old ++ line_of (codes "reply" ∷ decimal command ∷ codes "bad-max" ∷ decimal partition ∷ decimal least ∷ [])) }
 {
     write!(out, "reply {command} bad-max {partition} {least}\n")
 }
@@ -152,7 +155,8 @@ fn add_state(out: &mut String, state: &State) -> Result<(), NoMemory>
 }
 
 fn add_parameters(out: &mut String, command: u16, shape: &Shape) -> Result<(), NoMemory>
-    ensures { OnOk result (string_bytes out.new ≡ string_bytes out.old ++ reply_line (record { command = command; answer = Parameters shape.now })) }
+    ensures { OnOk result (string_bytes out.new
+        ≡ string_bytes out.old ++ reply_line (record { command = command; answer = Parameters shape.now })) }
 {
     let window = shape.window;
     let tick = shape.tick;
@@ -172,7 +176,8 @@ fn add_statistics(
     used: u64,
     critical_used: u64,
 ) -> Result<(), NoMemory>
-    ensures { OnOk result (string_bytes out.new ≡ string_bytes out.old ++ reply_line (record { command = command; answer = Statistics id used critical_used })) }
+    ensures { OnOk result (string_bytes out.new
+        ≡ string_bytes out.old ++ reply_line (record { command = command; answer = Statistics id used critical_used })) }
 {
     write!(
         out,

@@ -113,7 +113,10 @@ fn from_on(first: usize) -> [bool; 32]
 
 /// Which partitions had no candidate at the last pick, which was the processor's, where they stand so: in one pass over the threads.
 fn found_lacking(core: &Core, parts: &[PartFacts], c: CpuId) -> [bool; 32]
-    ensures { (p : ℕ) → p < 32 → slice_index_or result p false ≡ not (bills (cpu_at (state_of core.now) c).running p || has_candidate parts.now p (contenders (state_of core.now))) }
+    ensures { (p : ℕ)
+        → p < 32
+        → slice_index_or result p false
+        ≡ not (bills (cpu_at (state_of core.now) c).running p || has_candidate parts.now p (contenders (state_of core.now))) }
 {
     let ready = core.candidates(parts);
     let cpu = core.cpu(c);

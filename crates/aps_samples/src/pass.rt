@@ -145,7 +145,8 @@ impl Samples {
     fn open(&mut self, entries: &[Entry])
         requires ready { IsReady entries.now self.old }
         requires some { self.old.cursor.next < length entries.now }
-        requires runs { (entry_at entries.now self.old.cursor.next).from < (entry_at entries.now self.old.cursor.next).to → (entry_at entries.now self.old.cursor.next).from / (scenario_of self.old.cursor).shape.tick ≡ self.old.tick }
+        requires runs { (entry_at entries.now self.old.cursor.next).from < (entry_at entries.now self.old.cursor.next).to
+            → (entry_at entries.now self.old.cursor.next).from / (scenario_of self.old.cursor).shape.tick ≡ self.old.tick }
         ensures { Opens entries.now self.old self.new }
     {
         let look = self.cursor.go_on(entries, self.tick as u32);
@@ -161,7 +162,8 @@ impl Cursor {
         requires legal { IsLegal (scenario_of self.old) (order_of self.old) entries.now }
         requires up { IsUpTo (scenario_of self.old) (order_of self.old) entries.now tick self.old }
         requires some { self.old.next < length entries.now }
-        requires runs { (entry_at entries.now self.old.next).from < (entry_at entries.now self.old.next).to → (entry_at entries.now self.old.next).from / (scenario_of self.old).shape.tick ≡ tick }
+        requires runs { (entry_at entries.now self.old.next).from < (entry_at entries.now self.old.next).to
+            → (entry_at entries.now self.old.next).from / (scenario_of self.old).shape.tick ≡ tick }
         ensures up { IsUpTo (scenario_of self.old) (order_of self.old) entries.now tick self.new }
         ensures setup { self.new.core.setup ≡ self.old.core.setup }
         ensures next { self.new.next ≡ self.old.next + 1 }

@@ -39,7 +39,9 @@ pub fn sample_at(history: &History, note: &Note, lasts: &Lasts, sums: &Sums, j: 
     requires note { IsNote history.now.scenario history.now.entries j note.now }
     requires lasts { AreLasts history.now.scenario history.now.entries (j + 1) lasts.now }
     requires sums { AreOfWindow history.now.scenario history.now.entries j sums.now }
-    requires changes { (a b : ℕ) → has_change (state_after history.now.scenario history.now.entries).changes a b ≡ changes_in history.now.scenario history.now.entries a b }
+    requires changes { (a b : ℕ)
+        → has_change (state_after history.now.scenario history.now.entries).changes a b
+        ≡ changes_in history.now.scenario history.now.entries a b }
     requires j { j ≤ 100000000 }
     ensures { result ≡ sample_of history.now.scenario history.now.entries j }
 {

@@ -141,7 +141,8 @@ fn add_lines(
     requires first { samples.old.tick ≡ 0 }
     requires finished { end ≤ finished_ticks history.now.scenario.shape history.now.entries }
     requires few { end ≤ 100000000 }
-    ensures { OnOk result (string_bytes out.new ≡ string_bytes out.old ++ flat_map (line_at history.now.scenario history.now.entries) (range_with_len first (end - first))) }
+    ensures { OnOk result (string_bytes out.new
+        ≡ string_bytes out.old ++ flat_map (line_at history.now.scenario history.now.entries) (range_with_len first (end - first))) }
 {
     let tick = history.scenario().shape().tick;
     for j in 0..end {

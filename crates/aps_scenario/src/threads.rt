@@ -84,7 +84,8 @@ fn threads_of(
     requires few_partitions { length partitions.now ≤ 32 }
     requires few_channels { length channels.now ≤ 256 }
     requires few { length array.now.items ≤ 1024 }
-    ensures { Gives (λ threads. threads.items) result (spec.threads_from partitions.now channels.now joinable.now [] (array_view array.now)) }
+    ensures { Gives (λ threads. threads.items) result
+        (spec.threads_from partitions.now channels.now joinable.now [] (array_view array.now)) }
 {
     let mut threads = Vec::new(alloc);
     for value in array {

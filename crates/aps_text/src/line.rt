@@ -70,7 +70,8 @@ impl LineBuffer {
     // The last three fields, and the newline.
     fn put_pick(&mut self, entry: &Entry)
         requires { length self.old + 11 ≤ MAX_LINE }
-        ensures text { self.new ≡ option_text entry.now.picked ++ (32 ∷ (option_text entry.now.starved ++ (32 ∷ (option_text entry.now.flagged ++ (10 ∷ self.old))))) }
+        ensures text { self.new ≡ option_text entry.now.picked
+            ++ (32 ∷ (option_text entry.now.starved ++ (32 ∷ (option_text entry.now.flagged ++ (10 ∷ self.old))))) }
         ensures long { length self.new ≤ length self.old + 11 }
         ensures picked { IfSome entry.now.picked (λ thread. thread ≤ 1023) }
         ensures starved { IfSome entry.now.starved (λ partition. partition ≤ 31) }
@@ -87,7 +88,8 @@ impl LineBuffer {
     // Who ran and who is billed, with the mark of critical time, and a space after each.
     fn put_bill(&mut self, entry: &Entry)
         requires { length self.old + 10 ≤ MAX_LINE }
-        ensures text { self.new ≡ option_text entry.now.ran ++ (32 ∷ (option_text entry.now.billed ++ (32 ∷ ((if entry.now.critical then codes "c" else codes "-") ++ (32 ∷ self.old))))) }
+        ensures text { self.new ≡ option_text entry.now.ran
+            ++ (32 ∷ (option_text entry.now.billed ++ (32 ∷ ((if entry.now.critical then codes "c" else codes "-") ++ (32 ∷ self.old))))) }
         ensures long { length self.new ≤ length self.old + 10 }
         ensures ran { IfSome entry.now.ran (λ thread. thread ≤ 1023) }
         ensures billed { IfSome entry.now.billed (λ partition. partition ≤ 31) }
@@ -103,7 +105,8 @@ impl LineBuffer {
     // The processor and the two moments, and a space after each.
     fn put_span(&mut self, entry: &Entry)
         requires { length self.old + 45 ≤ MAX_LINE }
-        ensures text { self.new ≡ decimal entry.now.cpu ++ (32 ∷ (decimal entry.now.from ++ (32 ∷ (decimal entry.now.to ++ (32 ∷ self.old))))) }
+        ensures text { self.new ≡ decimal entry.now.cpu
+            ++ (32 ∷ (decimal entry.now.from ++ (32 ∷ (decimal entry.now.to ++ (32 ∷ self.old))))) }
         ensures long { length self.new ≤ length self.old + 45 }
         ensures cpu { entry.now.cpu ≤ 15 }
     {

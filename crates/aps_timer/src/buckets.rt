@@ -48,7 +48,10 @@ impl Buckets {
     pub fn put(&mut self, x: ThreadId, until: Nanos)
         requires { IsPlaced self.old.lines.items self.old.begin self.old.further x None }
         ensures here { IsPlaced self.new.lines.items self.new.begin self.new.further x (Some until) }
-        ensures others { (y : ℕ) (other : Option ℕ) → y ≤ 1023 → y ≢ x → IsPlaced self.old.lines.items self.old.begin self.old.further y other
+        ensures others { (y : ℕ) (other : Option ℕ)
+            → y ≤ 1023
+            → y ≢ x
+            → IsPlaced self.old.lines.items self.old.begin self.old.further y other
             → IsPlaced self.new.lines.items self.new.begin self.new.further y other }
     {
         if self.begin <= until && until / SPAN - self.begin / SPAN < BUCKETS {
@@ -63,7 +66,10 @@ impl Buckets {
     pub fn take(&mut self, x: ThreadId, until: Nanos)
         requires { IsPlaced self.old.lines.items self.old.begin self.old.further x (Some until) }
         ensures here { IsPlaced self.new.lines.items self.new.begin self.new.further x None }
-        ensures others { (y : ℕ) (other : Option ℕ) → y ≤ 1023 → y ≢ x → IsPlaced self.old.lines.items self.old.begin self.old.further y other
+        ensures others { (y : ℕ) (other : Option ℕ)
+            → y ≤ 1023
+            → y ≢ x
+            → IsPlaced self.old.lines.items self.old.begin self.old.further y other
             → IsPlaced self.new.lines.items self.new.begin self.new.further y other }
     {
         place(&mut self.lines, line_of(until / SPAN), x, false);
@@ -103,7 +109,11 @@ fn first_near(
     requires room { length lines.now ≡ 16400 }
     requires near { AreNear row.now lines.now begin }
     ensures one { IfSome result.1 (λ s. SleepsUntil row.now s.1 s.0) }
-    ensures still { (x until : ℕ) → x ≤ 1023 → SleepsUntil row.now x until → IsNear lines.now begin x until → IsNear lines.now result.0 x until }
+    ensures still { (x until : ℕ)
+        → x ≤ 1023
+        → SleepsUntil row.now x until
+        → IsNear lines.now begin x until
+        → IsNear lines.now result.0 x until }
     ensures others { (x until : ℕ) → x ≤ 1023 → SleepsUntil row.now x until → IsNear lines.now begin x until → until ≤ now
         → goes_before (Some (until, x)) result.1 ≡ false }
 {

@@ -19,13 +19,19 @@ pub enum Owner {
 /// or threads have the same number.
 pub fn tracks_are_apart()
     ensures track { (threads : List ThreadRow) (a b : Owner) → IsOwner a → IsOwner b → track_of threads a ≡ track_of threads b → a ≡ b }
-    ensures thread { (threads : List ThreadRow) (a b : Owner) → IsOwner a → IsOwner b → (track_of threads a).thread ≡ (track_of threads b).thread
+    ensures thread { (threads : List ThreadRow) (a b : Owner)
+        → IsOwner a
+        → IsOwner b
+        → (track_of threads a).thread ≡ (track_of threads b).thread
         → (track_of threads a).thread ≢ 0 → a ≡ b }
 {}
 
 /// No process has the number of a thread.
 pub fn processes_are_no_threads()
-    ensures { (threads : List ThreadRow) (a b : Owner) → IsOwner a → IsOwner b → (track_of threads a).process ≢ (track_of threads b).thread }
+    ensures { (threads : List ThreadRow) (a b : Owner)
+        → IsOwner a
+        → IsOwner b
+        → (track_of threads a).process ≢ (track_of threads b).thread }
 {}
 
 /// No two times of up to 64 bits have the same text: no nanosecond is lost.

@@ -127,8 +127,11 @@ impl Tree {
         critical: u64,
         max: u16,
     ) -> Result<PartitionId, TreeRefusal>
-        ensures answer { result ≡ unless_refused (create_refusal self.old.parts self.old.rows name parent budget critical max) (length self.old.rows) }
-        ensures rows { self.new.rows ≡ rows_unless_refused (create_refusal self.old.parts self.old.rows name parent budget critical max) self.old.rows (rows_created self.old.rows name parent budget critical max) }
+        ensures answer { result ≡ unless_refused (create_refusal self.old.parts self.old.rows name parent budget critical max)
+            (length self.old.rows) }
+        ensures rows { self.new.rows ≡ rows_unless_refused
+            (create_refusal self.old.parts self.old.rows name parent budget critical max) self.old.rows
+            (rows_created self.old.rows name parent budget critical max) }
         ensures parts { self.new.parts ≡ self.old.parts }
         ensures keeps { IsTree self.new }
     {
@@ -193,7 +196,9 @@ impl Tree {
         max: Option<u16>,
     ) -> Result<(), TreeRefusal>
         ensures answer { result ≡ unless_refused (modify_refusal self.old.parts self.old.rows p budget critical max) tt }
-        ensures rows { self.new.rows ≡ rows_unless_refused (modify_refusal self.old.parts self.old.rows p budget critical max) self.old.rows (rows_modified self.old.rows p budget critical max) }
+        ensures rows { self.new.rows ≡ rows_unless_refused
+            (modify_refusal self.old.parts self.old.rows p budget critical max) self.old.rows
+            (rows_modified self.old.rows p budget critical max) }
         ensures parts { self.new.parts ≡ self.old.parts }
         ensures keeps { IsTree self.new }
     {

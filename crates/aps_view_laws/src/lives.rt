@@ -23,14 +23,17 @@ pub fn moments_lie_in_one()
 /// An entry's thread runs at each moment from the entry's beginning to before its end, on the entry's processor, on the bill of the
 /// partition that the entry bills, and with its mark.
 pub fn entries_are_lived()
-    ensures { (scenario : Scenario) (order : Order) (h before later : List Entry) (e : Entry) (x : ℕ) → IsScenario scenario → IsLegal scenario order h
+    ensures { (scenario : Scenario) (order : Order) (h before later : List Entry) (e : Entry) (x : ℕ)
+        → IsScenario scenario
+        → IsLegal scenario order h
         → h ≡ before ++ e ∷ later → e.ran ≡ Some x → RunsAsBilled scenario h e x }
 {}
 
 /// At each moment of a segment that runs, before its processor's last step, an entry of this processor runs the thread, and bills
 /// the partition that the segment names with the segment's mark. (What ran since that step is in no entry yet.)
 pub fn segments_are_billed()
-    ensures { (scenario : Scenario) (order : Order) (h : List Entry) (x m c p : ℕ) (critical : Bool) (front back : List Segment) (s : Segment)
+    ensures { (scenario : Scenario) (order : Order) (h : List Entry) (x m c p : ℕ) (critical : Bool)
+        (front back : List Segment) (s : Segment)
         → IsScenario scenario → IsLegal scenario order h → life_of scenario h x ≡ front ++ s ∷ back → s.doing ≡ Running c p critical
         → LiesIn m s → m < last_end h c → IsBilled h x m c p critical }
 {}

@@ -12,8 +12,14 @@ ghost use Rattle.aps_samples.specs.Sample.{sample_of};
 /// The usage in the sample of a tick, and what of it is critical, is that of the window at this tick, by the shape that stands there:
 /// the same numbers by which partitions are in budget or not.
 pub fn usage_is_the_windows()
-    ensures used { (scenario : Scenario) (order : Order) (h : List Entry) (j p : ℕ) → IsScenario scenario → IsLegal scenario order h → p < 32
+    ensures used { (scenario : Scenario) (order : Order) (h : List Entry) (j p : ℕ)
+        → IsScenario scenario
+        → IsLegal scenario order h
+        → p < 32
         → slice_index (sample_of scenario h j).usage.used p ≡ window_used (state_of_tick scenario h j).shape h j p }
-    ensures critical { (scenario : Scenario) (order : Order) (h : List Entry) (j p : ℕ) → IsScenario scenario → IsLegal scenario order h → p < 32
+    ensures critical { (scenario : Scenario) (order : Order) (h : List Entry) (j p : ℕ)
+        → IsScenario scenario
+        → IsLegal scenario order h
+        → p < 32
         → slice_index (sample_of scenario h j).usage.critical p ≡ window_critical (state_of_tick scenario h j).shape h j p }
 {}

@@ -39,9 +39,13 @@ pub fn had_is_had()
 /// Overspending is listed for exactly the entries whose own test finds a partition bankrupt, each at its end, with what the
 /// partition's critical usage exceeds its critical budget by (ns): such an entry adds one, and any other adds nothing.
 pub fn overspent_are_bankrupt()
-    ensures each { (scenario : Scenario) (order : Order) (h : List Entry) (e : Entry) (p : ℕ) → IsScenario scenario → IsLegal scenario order (h ++ e ∷ [])
+    ensures each { (scenario : Scenario) (order : Order) (h : List Entry) (e : Entry) (p : ℕ)
+        → IsScenario scenario
+        → IsLegal scenario order (h ++ e ∷ [])
         → bankrupt_in scenario h e.cpu ≡ Some p → overspent_of scenario (h ++ e ∷ []) ≡ overspent_of scenario h ++ overspent_at scenario h e p ∷ [] }
-    ensures others { (scenario : Scenario) (order : Order) (h : List Entry) (e : Entry) → IsScenario scenario → IsLegal scenario order (h ++ e ∷ [])
+    ensures others { (scenario : Scenario) (order : Order) (h : List Entry) (e : Entry)
+        → IsScenario scenario
+        → IsLegal scenario order (h ++ e ∷ [])
         → bankrupt_in scenario h e.cpu ≡ None → overspent_of scenario (h ++ e ∷ []) ≡ overspent_of scenario h }
     ensures none { (scenario : Scenario) → overspent_of scenario [] ≡ [] }
 {}

@@ -114,7 +114,8 @@ fn add_partitions(
 ) -> Result<(), NoMemory>
     requires up { IsUpTo core.now usages.now }
     requires few { count ≤ 32 }
-    ensures { OnOk result (values.new.items ≡ values.old.items ++ flat_map (spec.partition_values core.now told.now) (range_with_len 0 count)) }
+    ensures { OnOk result (values.new.items
+        ≡ values.old.items ++ flat_map (spec.partition_values core.now told.now) (range_with_len 0 count)) }
 {
     for p in 0..count {
         add_told(values, core, usages, told, p)?;
@@ -150,7 +151,9 @@ fn add_part(
     p: PartitionId,
 ) -> Result<(), NoMemory>
     requires { IsUpTo core.now usages.now }
-    ensures { OnOk result (values.new.items ≡ values.old.items ++ spec.part_values (state_of core.now) core.now.entries (moment core.now.entries / (state_of core.now).shape.tick) p) }
+    ensures { OnOk result (values.new.items
+        ≡ values.old.items ++ spec.part_values (state_of core.now) core.now.entries
+        (moment core.now.entries / (state_of core.now).shape.tick) p) }
 {
     let history = core.history();
     match history.rows().get(p.index()) {
@@ -199,7 +202,8 @@ fn add_none(values: &mut Vec<Value>) -> Result<(), NoMemory>
 /// The values of so many threads.
 fn add_threads(values: &mut Vec<Value>, core: &Core, count: usize) -> Result<(), NoMemory>
     requires { count ≤ 1024 }
-    ensures { OnOk result (values.new.items ≡ values.old.items ++ flat_map (spec.thread_values (state_of core.now)) (range_with_len 0 count)) }
+    ensures { OnOk result (values.new.items
+        ≡ values.old.items ++ flat_map (spec.thread_values (state_of core.now)) (range_with_len 0 count)) }
 {
     for x in 0..count {
         add_thread(values, core, x)?;

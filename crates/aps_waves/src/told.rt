@@ -41,7 +41,9 @@ impl Told {
     /// Notes that an entry of this moment made the partition bankrupt.
     pub fn note_overspent(&mut self, p: PartitionId)
         ensures demand { self.new.demand ≡ self.old.demand }
-        ensures overspent { (q : ℕ) → q < 32 → slice_index_or self.new.overspent q false ≡ spec.is_one_more p (slice_index_or self.old.overspent q false) q }
+        ensures overspent { (q : ℕ)
+            → q < 32
+            → slice_index_or self.new.overspent q false ≡ spec.is_one_more p (slice_index_or self.old.overspent q false) q }
     {
         self.overspent[p.index()] = true;
     }

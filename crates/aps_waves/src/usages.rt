@@ -57,7 +57,8 @@ impl Usages {
     pub fn used(&self, core: &Core, p: PartitionId) -> Nanos
         requires { IsUpTo core.now self.now }
         ensures few { result ≤ 64000000000 }
-        ensures same { result ≡ window_used (state_of core.now).shape core.now.entries (moment core.now.entries / (state_of core.now).shape.tick) p }
+        ensures same { result ≡ window_used (state_of core.now).shape core.now.entries
+            (moment core.now.entries / (state_of core.now).shape.tick) p }
     {
         self.window.used(p)
     }
@@ -65,7 +66,8 @@ impl Usages {
     /// What of it was critical.
     pub fn critical(&self, core: &Core, p: PartitionId) -> Nanos
         requires { IsUpTo core.now self.now }
-        ensures { result ≡ window_critical (state_of core.now).shape core.now.entries (moment core.now.entries / (state_of core.now).shape.tick) p }
+        ensures { result ≡ window_critical (state_of core.now).shape core.now.entries
+            (moment core.now.entries / (state_of core.now).shape.tick) p }
     {
         self.window.critical_used(p)
     }

@@ -9,5 +9,7 @@ ghost use Rattle.aps_window.specs.Entries.{AreInOneTick, bills_of};
 /// there, and as much critical time. A window that stands for these bills thus counts what the history has.
 pub fn bills_are_entries()
     ensures used { (tick : ℕ) (h : List Entry) (p a b : ℕ) → AreInOneTick tick h → bills_used (bills_of tick h) p a b ≡ used tick h p a b }
-    ensures critical { (tick : ℕ) (h : List Entry) (p a b : ℕ) → AreInOneTick tick h → bills_critical (bills_of tick h) p a b ≡ critical_used tick h p a b }
+    ensures critical { (tick : ℕ) (h : List Entry) (p a b : ℕ)
+        → AreInOneTick tick h
+        → bills_critical (bills_of tick h) p a b ≡ critical_used tick h p a b }
 {}

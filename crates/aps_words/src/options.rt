@@ -66,9 +66,13 @@ pub fn matches_in<'a>(
     command: Command<'a>,
     words: &'a [String],
 ) -> Result<ArgMatches<'a>, WordsRefusal>
-    ensures taken { is_simple_and_free (app_of command.entry) ≡ true → IfOk result (λ m. fault_of (app_of command.entry) (map string_bytes words.entry.now) ≡ []) }
-    ensures rows { is_simple (app_of command.entry) ≡ true → IfOk result (λ m. rows_of (found_of m) ≡ matches_of (app_of command.entry) (map string_bytes words.entry.now)) }
-    ensures refused { is_simple_and_free (app_of command.entry) ≡ true → result ≡ Err WordsRefusal.Words → fault_of (app_of command.entry) (map string_bytes words.entry.now) ≢ [] }
+    ensures taken { is_simple_and_free (app_of command.entry) ≡ true
+        → IfOk result (λ m. fault_of (app_of command.entry) (map string_bytes words.entry.now) ≡ []) }
+    ensures rows { is_simple (app_of command.entry) ≡ true
+        → IfOk result (λ m. rows_of (found_of m) ≡ matches_of (app_of command.entry) (map string_bytes words.entry.now)) }
+    ensures refused { is_simple_and_free (app_of command.entry) ≡ true
+        → result ≡ Err WordsRefusal.Words
+        → fault_of (app_of command.entry) (map string_bytes words.entry.now) ≢ [] }
 {
     match command.try_get_matches_from(words) {
         Ok(matches) => Ok(matches),

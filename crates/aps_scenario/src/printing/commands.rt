@@ -64,7 +64,8 @@ fn put_some_truth(
 }
 
 fn put_some_free(alloc: Global, table: &mut Table, free: Option<Free>) -> Result<(), NoMemory>
-    ensures { OnOk result (table_view table.new ≡ put_some Key.Free (λ (word : FreeType). string (words.free_word word)) free (table_view table.old)) }
+    ensures { OnOk result (table_view table.new
+        ≡ put_some Key.Free (λ (word : FreeType). string (words.free_word word)) free (table_view table.old)) }
 {
     match free {
         Some(free) => put_text(alloc, table, Key::Free, free_word(free)),
@@ -77,7 +78,8 @@ fn put_some_bankruptcy(
     table: &mut Table,
     bankruptcy: Option<Bankruptcy>,
 ) -> Result<(), NoMemory>
-    ensures { OnOk result (table_view table.new ≡ put_some Key.Bankruptcy (λ (word : BankruptcyType). string (words.bankruptcy_word word)) bankruptcy (table_view table.old)) }
+    ensures { OnOk result (table_view table.new
+        ≡ put_some Key.Bankruptcy (λ (word : BankruptcyType). string (words.bankruptcy_word word)) bankruptcy (table_view table.old)) }
 {
     match bankruptcy {
         Some(bankruptcy) => put_text(alloc, table, Key::Bankruptcy, bankruptcy_word(bankruptcy)),
@@ -115,7 +117,8 @@ fn put_creation(
     max: u16,
 ) -> Result<(), NoMemory>
     requires { critical ≤ 64000000000 }
-    ensures { OnOk result (table_view table.new ≡ call_members [] (call.Create name.now parent.now budget critical max) (table_view table.old)) }
+    ensures { OnOk result (table_view table.new
+        ≡ call_members [] (call.Create name.now parent.now budget critical max) (table_view table.old)) }
 {
     put_text(alloc, table, Key::Name, text_of(name))?;
     put_text(alloc, table, Key::Parent, text_of(parent))?;
@@ -151,7 +154,8 @@ fn put_parameters(
     limit: Option<bool>,
     bankruptcy: Option<Bankruptcy>,
 ) -> Result<(), NoMemory>
-    ensures { OnOk result (table_view table.new ≡ call_members [] (call.SetParameters window free limit bankruptcy) (table_view table.old)) }
+    ensures { OnOk result (table_view table.new
+        ≡ call_members [] (call.SetParameters window free limit bankruptcy) (table_view table.old)) }
 {
     put_some_parts(alloc, table, Key::Window, window)?;
     put_some_free(alloc, table, free)?;

@@ -51,7 +51,8 @@ fn thread_value(alloc: Global, scenario: &Scenario, row: &ThreadRow) -> Result<V
 
 /// The threads as an array of tables.
 pub fn threads_value(alloc: Global, scenario: &Scenario) -> Result<Value, NoMemory>
-    ensures { IfOk result (λ value. view value ≡ array_of_each (thread_table scenario.now.partitions scenario.now.channels) scenario.now.threads) }
+    ensures { IfOk result (λ value. view value
+        ≡ array_of_each (thread_table scenario.now.partitions scenario.now.channels) scenario.now.threads) }
 {
     let threads = scenario.threads();
     let mut values = Vec::new(alloc);

@@ -47,7 +47,14 @@ fn row(name: Name) -> PartitionRow
 
 fn thread(alloc: Global, name: Name, partition: usize) -> Result<ThreadRow, NoMemory>
     requires { partition ≤ 31 }
-    ensures { IfOk result (λ t. t ≡ record { name = name; partition = partition; priority = 10; policy = Fifo; critical = false; program = Forever ∷ [] }) }
+    ensures { IfOk result (λ t. t ≡ record {
+      name = name;
+      partition = partition;
+      priority = 10;
+      policy = Fifo;
+      critical = false;
+      program = Forever ∷ [];
+    }) }
 {
     let ops = vec![in alloc; Op::Forever]?;
     Ok(ThreadRow {
