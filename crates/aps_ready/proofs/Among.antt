@@ -182,6 +182,49 @@ one_more groups left after m among was without = record {
     still : (g : ℕ) → (groups g ≡ true) × (not (left g) ≡ true) → (groups g && not (after g)) ≡ true
     still g old = here (groups g) (after g) old.0 (without g ∙ and_false (not (nat_eq g m)) (left g) (not_true (left g) old.1))
 
+-- ---- of groups some alone count
+
+pub counted_more : (groups left after counts : ℕ → Bool) (m : ℕ) → groups m ≡ true → left m ≡ true
+    → ((k : ℕ) → after k ≡ (not (nat_eq k m) && left k)) → counts m ≡ true
+    → IsMore (λ g. (groups g && not (left g)) && counts g) (λ g. (groups g && not (after g)) && counts g) m
+counted_more groups left after counts m among was without counted = record {
+  new = pair (groups m && not (after m)) (counts m) more.new counted;
+  kept = λ g h.
+      let old = both (groups g && not (left g)) (counts g) h in
+      pair (groups g && not (after g)) (counts g) (more.kept g old.0) old.1;
+  either = λ g h.
+      let now = both (groups g && not (after g)) (counts g) h in
+      elim (more.either g now.0) [
+        | inl same ↦ inl same
+        | inr old ↦ inr (pair (groups g && not (left g)) (counts g) old now.1)
+      ];
+}
+  where
+    more : IsMore (λ g. groups g && not (left g)) (λ g. groups g && not (after g)) m
+    more = one_more groups left after m among was without
+
+    pair : (a b : Bool) → a ≡ true → b ≡ true → (a && b) ≡ true
+    pair a b h k = rw (h, k) refl
+
+pub uncounted_same : (groups left after counts : ℕ → Bool) (m : ℕ) → ((k : ℕ) → after k ≡ (not (nat_eq k m) && left k)) → counts m ≡ false
+    → (g : ℕ) → ((groups g && not (left g)) && counts g) ≡ ((groups g && not (after g)) && counts g)
+uncounted_same groups left after counts m without uncounted g = elim (cases_eq g m) [
+  | inl same ↦
+      let none : counts g ≡ false = ap counts same ∙ uncounted in
+      and_false (groups g && not (left g)) (counts g) none ∙ sym (and_false (groups g && not (after g)) (counts g) none)
+  | inr other ↦ ap (λ (t : Bool). (groups g && not t) && counts g) (sym (without g ∙ ap (λ (t : Bool). not t && left g) (not_equal g m other)))
+]
+  where
+    not_equal : (a b : ℕ) → a ≢ b → nat_eq a b ≡ false
+    not_equal a b h = grind (arith, nat_tests)
+
+    and_false : (a b : Bool) → b ≡ false → (a && b) ≡ false
+    and_false true b h = h
+    and_false false b h = refl
+
+pub none_counted : (groups counts : ℕ → Bool) (g : ℕ) → ((groups g && not (groups g)) && counts g) ≡ false
+none_counted groups counts g = ap (λ (t : Bool). t && counts g) (none_yet groups g)
+
 -- ---- the least of what is left is taken out
 
 pub left_less : (left after : ℕ → Bool) (m : ℕ) → ((k : ℕ) → after k ≡ (not (nat_eq k m) && left k)) → (g : ℕ)

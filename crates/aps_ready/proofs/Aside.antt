@@ -1,10 +1,10 @@
 use Rattle.std.proofs.Common.{◌≡◌, ◌≢◌, ◌⊎◌, inl, inr, ℕ, ◌<◌, ◌≤◌, Bool, true, false, cond, nat_lt, List, length, set, refl, sym, ◌∙◌, ap, subst, arith, length-set, get_or-set_same, get_or-set_other}
 use Rattle.std.proofs.lemmas.Bool.{cases_eq}
 use Rattle.std.proofs.lemmas.Bool.Decides.{nat_tests}
-use Rattle.std.proofs.lemmas.List.{set-set, set_comm, set-get_or, get_or_past, length-map}
+use Rattle.std.proofs.lemmas.List.{set-set, set_comm, set-get_or, get_or_past, get_or-map, length-map}
 use Rattle.aps_ready.specs.declared.entrant.Entrant.{Entrant}
 use Rattle.aps_ready.specs.Entrant.{entrant_at, vacant}
-use Rattle.aps_ready.specs.Ready.{entrant_in, bracket_at, with_place, AreDrawn}
+use Rattle.aps_ready.specs.Ready.{entrant_in, bracket_at, with_place, AreDrawn, IsQueued}
 use Rattle.aps_ready.specs.Aside.{rest_of, IsDrawnBut}
 use Rattle.aps_ready.proofs.BracketLaws.{drawn_place, drawn_none, in_other, in_own, in_vacant}
 
@@ -90,6 +90,22 @@ place_within row aside brackets x g but below within =
       length-map (rest_of row aside) (entrant_in g),
       rest_length row aside,
     )
+
+-- the one who stands aside has a level, and isn't in its bracket
+pub aside_level : (row : List Entrant) (aside : Entrant) (brackets : List (List Entrant)) → IsDrawnBut row aside brackets → IsQueued row
+    → aside.group < 64 → aside.level ≤ 255
+aside_level row aside brackets but queued g =
+    let own : entrant_at row aside.thread ≡ aside = but.own g in
+    subst (λ (e : Entrant). e.level ≤ 255) own
+    (queued.levels aside.thread (within_row row aside.thread aside own g) (subst (λ (e : Entrant). e.group < 64) (sym own) g))
+
+pub aside_out : (row : List Entrant) (aside : Entrant) (brackets : List (List Entrant)) → IsDrawnBut row aside brackets → aside.group < 64
+    → entrant_at (bracket_at brackets aside.group) aside.thread ≡ vacant
+aside_out row aside brackets but g =
+    let within : aside.thread < length row = within_row row aside.thread aside (but.own g) g in
+    ap (λ (b : List Entrant). entrant_at b aside.thread) (but.rest.drawn aside.group g)
+    ∙ get_or-map (entrant_in aside.group) (rest_of row aside) aside.thread vacant vacant (omega (arith, within, rest_length row aside))
+    ∙ ap (entrant_in aside.group) (rest_own row aside g (but.own g)) ∙ in_vacant aside.group
 
 -- the one who stands aside enters its bracket
 pub entered : (row : List Entrant) (aside : Entrant) (brackets : List (List Entrant)) → IsDrawnBut row aside brackets

@@ -182,7 +182,7 @@ both_true a b h k e = cc
 
 pub are_least : (tops : List ℕ) (at_level : List Bits64) (levels left : Levels) (some set found : Bits64) (from level group : ℕ) → IsIndex tops at_level levels some → IsDone at_level levels left set from
     → level < 256 → ((k : ℕ) → k < level → has_level left k ≡ false)
-    → ((g : ℕ) → has found g ≡ (has (bits_at at_level level) g && has set g)) → group < 64 → has found group ≡ true → AreLeast tops set found
+    → ((g : ℕ) → has found g ≡ (has (bits_at at_level level) g && has set g)) → group < 64 → has found group ≡ true → AreLeast tops (has set) (has found)
 are_least tops at_level levels left some set found from level group index done below earlier these g_small among = record {
   level = level;
   below = below;

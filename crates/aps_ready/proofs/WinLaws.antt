@@ -12,16 +12,17 @@ use Rattle.aps_ready.specs.declared.entrant.Entrant.{Entrant}
 use Rattle.aps_ready.specs.declared.gates.Gates.{Gates}
 use Rattle.aps_ready.specs.Entrant.{entrant_at, vacant}
 use Rattle.aps_ready.specs.Ready.{members, facts_of, contender_of, seat_of, AreDrawn, IsQueued}
-use Rattle.aps_ready.specs.Gates.{AreGates}
+use Rattle.aps_ready.specs.Gates.{open_first, AreGates}
 use Rattle.aps_ready.specs.Best.{Sits}
+use Rattle.aps_ready.specs.Choice.{is_ahead_by_level}
 use Rattle.aps_ready.specs.Aside.{rest_of, IsDrawnBut}
 use Rattle.aps_ready.specs.Winner.{is_above, is_candidate_at, wins, IsContestant, IsWinner}
-use Rattle.aps_ready.proofs.Ahead.{class_at, above_one_way, above_chain}
+use Rattle.aps_ready.proofs.Ahead.{class_at, above_class, above_first_by_level, above_one_way, above_chain}
 use Rattle.aps_ready.proofs.Aside.{aside_or_rest, rest_length, rest_none, rest_there, rest_some, within_row}
 use Rattle.aps_ready.proofs.Content.{open_group}
 use Rattle.aps_ready.proofs.Queued.{queued_set, seat_in}
 use Rattle.aps_ready.proofs.Tops.{sits_level}
-use Rattle.aps_ready.proofs.Winner.{first_stands, second_stands, in_one, best_is_greatest, none_is_greatest, place_by, thread_small}
+use Rattle.aps_ready.proofs.Winner.{first_stands, second_stands, open_stands, other_class, in_one, best_is_greatest, none_is_greatest, place_by, thread_small}
 
 clash : (t : Bool) → t ≡ true → t ≡ false → ⊥
 clash t p q = cc
@@ -189,6 +190,33 @@ rest_wins free parts row aside best own is_winner h = record {
         let open_left : is_candidate_at parts e ≡ true = ap (is_candidate_at parts) (sym left) ∙ here in
         let below = is_winner.others x (within_row (rest_of row aside) x e refl (open_group parts e open_left)) open_left in
         (below.0, ap (λ (f : Entrant). is_above free parts f best) left ∙ below.1)
+
+-- ---- where the best so far is of class 1
+
+pub first_above : (free : Free) (parts : List PartFacts) (one best : Entrant) → one.group < 64 → one.level ≤ 255 → IsContestant parts best
+    → open_first parts best.group ≡ true → open_first parts one.group ≡ true → is_ahead_by_level parts one best ≡ wins free parts one best
+first_above free parts one best there level contest best_first one_first =
+    let a = open_stands parts one there one_first in
+    let b = open_stands parts best contest.there best_first in
+    sym (ap (λ (t : Bool). t && (not (nat_lt best.group 64) || is_above free parts one best)) a.candidate
+    ∙ ap (λ (t : Bool). not t || is_above free parts one best) (seen best.group contest.there)
+    ∙ above_first_by_level free parts one best a.class b.class level contest.level)
+
+pub none_above : (free : Free) (parts : List PartFacts) (one best : Entrant) → IsContestant parts best → open_first parts best.group ≡ true
+    → (one.group < 64 → open_first parts one.group ≡ false) → wins free parts one best ≡ false
+none_above free parts one best contest best_first closed = by_test (is_candidate_at parts one) refl
+  where
+    by_test : (t : Bool) → is_candidate_at parts one ≡ t → (t && (not (nat_lt best.group 64) || is_above free parts one best)) ≡ false
+    by_test false h = refl
+    by_test true h =
+        ap (λ (t : Bool). not t || is_above free parts one best) (seen best.group contest.there)
+        ∙ above_class free parts one best (other_class parts one h (closed (open_group parts one h))) (open_stands parts best contest.there best_first).class
+
+pub near_first : (parts : List PartFacts) (row : List Entrant) (aside : Entrant) (brackets seen : List (List Entrant)) (best : Entrant)
+    → IsDrawnBut row aside brackets → IsQueued row → seen ≡ brackets
+    → ((row : List Entrant) → AreDrawn row seen → IsQueued row → open_first parts best.group ≡ true) → open_first parts best.group ≡ true
+near_first parts row aside brackets seen best but queued same is_first =
+    is_first (rest_of row aside) (subst (AreDrawn (rest_of row aside)) (sym same) but.rest) (queued_rest row aside but.own queued)
 
 -- ---- by what a look at the brackets found
 

@@ -15,7 +15,7 @@ use Rattle.aps_ready.specs.declared.entrant.Entrant.{Entrant}
 use Rattle.aps_ready.specs.declared.gates.Gates.{Gates}
 use Rattle.aps_ready.specs.Entrant.{entrant_at, goes_before}
 use Rattle.aps_ready.specs.Ready.{members, facts_of, contender_of, seat_of, IsQueued}
-use Rattle.aps_ready.specs.Gates.{is_first, is_open, AreGates}
+use Rattle.aps_ready.specs.Gates.{is_first, is_open, open_first, AreGates}
 use Rattle.aps_ready.specs.Index.{level_of, AreLeast, AreEmpty}
 use Rattle.aps_ready.specs.Likely.{AreOccupied, AreLikely}
 use Rattle.aps_ready.specs.Choice.{is_ahead}
@@ -75,6 +75,26 @@ second_stands parts gates e are below h =
       class = ap (λ (t : Bool). cond t 1 0) (not_true (is_first (part_of parts e) (nat_lt 31 e.group)) parted.1);
     }
 
+-- the same, where the group is one of candidates of class 1
+pub open_stands : (parts : List PartFacts) (e : Entrant) → e.group < 64 → open_first parts e.group ≡ true → Stands parts e 1
+open_stands parts e below h =
+    let parted = both (is_open (part_of parts e) (nat_lt 31 e.group)) (is_first (part_of parts e) (nat_lt 31 e.group)) h in
+    record {
+      candidate = candidate_is parts e below ∙ parted.0;
+      class = ap (λ (t : Bool). cond t 1 0) parted.1;
+    }
+
+-- every other candidate is of class 0
+pub other_class : (parts : List PartFacts) (e : Entrant) → is_candidate_at parts e ≡ true → open_first parts e.group ≡ false → class_at parts e ≡ 0
+other_class parts e here h =
+    let part = part_of parts e in
+    let mark = nat_lt 31 e.group in
+    ap (λ (t : Bool). cond t 1 0) (second (is_open part mark) (is_first part mark) (sym (candidate_is parts e (open_group parts e here)) ∙ here) h)
+  where
+    second : (a b : Bool) → a ≡ true → (a && b) ≡ false → b ≡ false
+    second true b p q = q
+    second false b p q = absurd cc
+
 -- every candidate is in one of the two
 pub in_one : (parts : List PartFacts) (gates : Gates) (e : Entrant) → AreGates parts gates → is_candidate_at parts e ≡ true
     → (has gates.first e.group ≡ true) ⊎ (has gates.second e.group ≡ true)
@@ -104,15 +124,15 @@ below_or_not : (a b : ℕ) → (a < b) ⊎ (b ≤ a)
 below_or_not a b = search arith
 
 -- the best of the groups at the least level: somebody is there, at that level
-record IsAtLeast (tops : List ℕ) (set groups : Bits64) (best : Entrant) (l : ℕ) : Type 0 where
+record IsAtLeast (tops : List ℕ) (set groups : ℕ → Bool) (best : Entrant) (l : ℕ) : Type 0 where
   there : best.group < 64
-  among : has set best.group ≡ true
+  among : set best.group ≡ true
   level : best.level ≡ l
 
-in_found : (tops : List ℕ) (set found : Bits64) (least : AreLeast tops set found) (g : ℕ) → g < 64 → has found g ≡ true
-    → (level_of tops g ≡ least.level) × (has set g ≡ true)
+in_found : (tops : List ℕ) (set found : ℕ → Bool) (least : AreLeast tops set found) (g : ℕ) → g < 64 → found g ≡ true
+    → (level_of tops g ≡ least.level) × (set g ≡ true)
 in_found tops set found least g below h =
-    let parted = both (nat_eq (level_of tops g) least.level) (has set g) (sym (least.these g below) ∙ h) in
+    let parted = both (nat_eq (level_of tops g) least.level) (set g) (sym (least.these g below) ∙ h) in
     (same (level_of tops g) least.level parted.0, parted.1)
   where
     same : (a b : ℕ) → nat_eq a b ≡ true → a ≡ b
@@ -121,26 +141,26 @@ in_found tops set found least g below h =
 not_before : (first e : Entrant) → goes_before e first ≡ false → first.level ≤ e.level
 not_before first e h = grind (arith, nat_tests)
 
-at_least : (parts : List PartFacts) (row : List Entrant) (brackets : List (List Entrant)) (tops : List ℕ) (set found : Bits64) (best : Entrant)
-    → IsKept row brackets tops → (least : AreLeast tops set found) → IsBest parts row (has found) best
+at_least : (parts : List PartFacts) (row : List Entrant) (brackets : List (List Entrant)) (tops : List ℕ) (set found : ℕ → Bool) (best : Entrant)
+    → IsKept row brackets tops → (least : AreLeast tops set found) → IsBest parts row found best
     → IsAtLeast tops set found best least.level
 at_least parts row brackets tops set found best kept least is_best = record { there = there; among = own.1; level = omega (arith, low, high) }
   where
     -- who has the level of the group, in any of the found groups
-    at : (g : ℕ) → g < 64 → has found g ≡ true → Occupant row g (level_of tops g)
+    at : (g : ℕ) → g < 64 → found g ≡ true → Occupant row g (level_of tops g)
     at g below h = occupant row brackets tops g kept below (omega (arith, least.below, (in_found tops set found least g below h).0))
 
     -- and so isn't ahead of the best
-    behind : (g : ℕ) → (below : g < 64) → (h : has found g ≡ true)
+    behind : (g : ℕ) → (below : g < 64) → (h : found g ≡ true)
         → (best.group < 64) × (is_ahead parts (entrant_at row (at g below h).place) best ≡ false)
     behind g below h =
         let who = at g below h in
-        is_best.others who.place who.within (omega (arith, who.group, below)) (ap (has found) who.group ∙ h)
+        is_best.others who.place who.within (omega (arith, who.group, below)) (ap found who.group ∙ h)
 
     there : best.group < 64
     there = (behind least.group least.inside least.some).0
 
-    own : (level_of tops best.group ≡ least.level) × (has set best.group ≡ true)
+    own : (level_of tops best.group ≡ least.level) × (set best.group ≡ true)
     own = in_found tops set found least best.group there (is_best.inside there)
 
     sits : Sits row best
@@ -161,11 +181,11 @@ at_least parts row brackets tops set found best kept least is_best = record { th
 
 -- of the set nobody is above it
 not_above : (free : Free) (parts : List PartFacts) (row : List Entrant) (brackets : List (List Entrant)) (tops : List ℕ)
-    (set found : Bits64) (best : Entrant) (k x : ℕ)
-    → IsKept row brackets tops → (least : AreLeast tops set found) → IsBest parts row (has found) best
+    (set found : ℕ → Bool) (best : Entrant) (k x : ℕ)
+    → IsKept row brackets tops → (least : AreLeast tops set found) → IsBest parts row found best
     → class_at parts best ≡ k → class_at parts (entrant_at row x) ≡ k
     → (best.level < (entrant_at row x).level → is_above free parts (entrant_at row x) best ≡ false)
-    → x < length row → (entrant_at row x).group < 64 → has set (entrant_at row x).group ≡ true
+    → x < length row → (entrant_at row x).group < 64 → set (entrant_at row x).group ≡ true
     → is_above free parts (entrant_at row x) best ≡ false
 not_above free parts row brackets tops set found best k x kept least is_best best_class class lower within below among =
     elim (below_or_not best.level (entrant_at row x).level) [
@@ -188,8 +208,8 @@ not_above free parts row brackets tops set found best k x kept least is_best bes
     same_level : e.level ≤ best.level → e.level ≡ best.level
     same_level high = omega (arith, high, from_least, to_level, best_at.level)
 
-    in_these : e.level ≤ best.level → has found e.group ≡ true
-    in_these high = least.these e.group below ∙ pair (nat_eq (level_of tops e.group) least.level) (has set e.group)
+    in_these : e.level ≤ best.level → found e.group ≡ true
+    in_these high = least.these e.group below ∙ pair (nat_eq (level_of tops e.group) least.level) (set e.group)
         (equal (level_of tops e.group) least.level (omega (arith, high, from_least, to_level, best_at.level))) among
       where
         pair : (a b : Bool) → a ≡ true → b ≡ true → (a && b) ≡ true
@@ -218,7 +238,7 @@ no_member row brackets tops set x kept empty within below among =
 -- ---- somebody of class 1
 
 pub first_wins : (free : Free) (parts : List PartFacts) (row : List Entrant) (brackets : List (List Entrant)) (tops : List ℕ)
-    (gates : Gates) (found : Bits64) (best : Entrant) → AreGates parts gates → IsKept row brackets tops → AreLeast tops gates.first found
+    (gates : Gates) (found : Bits64) (best : Entrant) → AreGates parts gates → IsKept row brackets tops → AreLeast tops (has gates.first) (has found)
     → IsBest parts row (has found) best → IsWinner free parts row best
 first_wins free parts row brackets tops gates found best are kept least is_best = record {
   open_here = λ _. stands.candidate;
@@ -226,8 +246,8 @@ first_wins free parts row brackets tops gates found best are kept least is_best 
   others = λ x within here. (best_at.there, beaten x within here (in_one parts gates (entrant_at row x) are here));
 }
   where
-    best_at : IsAtLeast tops gates.first found best least.level
-    best_at = at_least parts row brackets tops gates.first found best kept least is_best
+    best_at : IsAtLeast tops (has gates.first) (has found) best least.level
+    best_at = at_least parts row brackets tops (has gates.first) (has found) best kept least is_best
 
     stands : Stands parts best 1
     stands = first_stands parts gates best are best_at.there best_at.among
@@ -238,12 +258,72 @@ first_wins free parts row brackets tops gates found best are kept least is_best 
     beaten x within here (inl one) =
         let below = open_group parts (entrant_at row x) here in
         let class = (first_stands parts gates (entrant_at row x) are below one).class in
-        not_above free parts row brackets tops gates.first found best 1 x kept least is_best stands.class class
+        not_above free parts row brackets tops (has gates.first) (has found) best 1 x kept least is_best stands.class class
         (λ low. above_lower_first free parts (entrant_at row x) best class stands.class low (small row x kept.queued within below))
         within below one
     beaten x within here (inr two) =
         let below = open_group parts (entrant_at row x) here in
         above_class free parts (entrant_at row x) best (second_stands parts gates (entrant_at row x) are below two).class stands.class
+
+-- somebody of class 1 at the least level of all
+pub near_wins : (free : Free) (parts : List PartFacts) (row : List Entrant) (brackets : List (List Entrant)) (tops : List ℕ)
+    (occupied near : Bits64) (best : Entrant) → IsKept row brackets tops
+    → ((g : ℕ) → g < 64 → has occupied g ≡ nat_lt (level_of tops g) 256) → AreLeast tops (has occupied) (has near)
+    → IsBest parts row (λ g. has near g && open_first parts g) best → best.group < 64 → IsWinner free parts row best
+near_wins free parts row brackets tops occupied near best kept some least is_best there = record {
+  open_here = λ _. stands.candidate;
+  sits = is_best.sits;
+  others = λ x within here. (there, beaten x within here (open_first parts (entrant_at row x).group) refl);
+}
+  where
+    found : ℕ → Bool
+    found g = has near g && open_first parts g
+
+    inside : found best.group ≡ true
+    inside = is_best.inside there
+
+    stands : Stands parts best 1
+    stands = open_stands parts best there (both (has near best.group) (open_first parts best.group) inside).1
+
+    low : (l : ℕ) → nat_lt l 256 ≡ true → l < 256
+    low l h = grind (arith, nat_tests)
+
+    less : (a b : ℕ) → a < b → nat_lt a b ≡ true
+    less a b h = grind (arith, nat_tests)
+
+    is_at : (g : ℕ) → g < 64 → has near g ≡ nat_eq (level_of tops g) least.level
+    is_at g below = least.these g below ∙ by_test (nat_eq (level_of tops g) least.level) refl
+      where
+        by_test : (t : Bool) → nat_eq (level_of tops g) least.level ≡ t → (t && has occupied g) ≡ t
+        by_test false h = refl
+        by_test true h =
+            let same : level_of tops g ≡ least.level = grind (arith, nat_tests) in
+            some g below ∙ less (level_of tops g) 256 (omega (arith, same, least.below))
+
+    least_open : AreLeast tops (open_first parts) found
+    least_open = record {
+      level = least.level;
+      below = least.below;
+      group = best.group;
+      inside = there;
+      some = inside;
+      these = λ g below. ap (λ (t : Bool). t && open_first parts g) (is_at g below);
+      least = λ g below _. at_most g below (below_or_not (level_of tops g) 256);
+    }
+      where
+        at_most : (g : ℕ) → g < 64 → (level_of tops g < 256) ⊎ (256 ≤ level_of tops g) → least.level ≤ level_of tops g
+        at_most g below (inl down) = least.least g below (some g below ∙ less (level_of tops g) 256 down)
+        at_most g below (inr up) = omega (arith, up, least.below)
+
+    beaten : (x : ℕ) → x < length row → is_candidate_at parts (entrant_at row x) ≡ true → (t : Bool)
+        → open_first parts (entrant_at row x).group ≡ t → is_above free parts (entrant_at row x) best ≡ false
+    beaten x within here true one =
+        let below = open_group parts (entrant_at row x) here in
+        let class = (open_stands parts (entrant_at row x) below one).class in
+        not_above free parts row brackets tops (open_first parts) found best 1 x kept least_open is_best stands.class class
+        (λ low. above_lower_first free parts (entrant_at row x) best class stands.class low (small row x kept.queued within below))
+        within below one
+    beaten x within here false two = above_class free parts (entrant_at row x) best (other_class parts (entrant_at row x) here two) stands.class
 
 -- ---- nobody of class 1
 
@@ -260,7 +340,7 @@ only_second parts row brackets tops gates x are kept empty within here =
 
 pub second_wins : (parts : List PartFacts) (row : List Entrant) (brackets : List (List Entrant)) (tops : List ℕ)
     (gates : Gates) (found : Bits64) (best : Entrant) → AreGates parts gates → IsKept row brackets tops → AreEmpty tops gates.first
-    → AreLeast tops gates.second found → IsBest parts row (has found) best → IsWinner Priority parts row best
+    → AreLeast tops (has gates.second) (has found) → IsBest parts row (has found) best → IsWinner Priority parts row best
 second_wins parts row brackets tops gates found best are kept empty least is_best = record {
   open_here = λ _. stands.candidate;
   sits = is_best.sits;
@@ -269,14 +349,14 @@ second_wins parts row brackets tops gates found best are kept empty least is_bes
       let two = only_second parts row brackets tops gates x are kept empty within here in
       let class = (second_stands parts gates (entrant_at row x) are below two).class in (
         best_at.there,
-        not_above Priority parts row brackets tops gates.second found best 0 x kept least is_best stands.class class
+        not_above Priority parts row brackets tops (has gates.second) (has found) best 0 x kept least is_best stands.class class
             (λ low. above_lower_second parts (entrant_at row x) best class stands.class low (small row x kept.queued within below))
             within below two,
       );
 }
   where
-    best_at : IsAtLeast tops gates.second found best least.level
-    best_at = at_least parts row brackets tops gates.second found best kept least is_best
+    best_at : IsAtLeast tops (has gates.second) (has found) best least.level
+    best_at = at_least parts row brackets tops (has gates.second) (has found) best kept least is_best
 
     stands : Stands parts best 0
     stands = second_stands parts gates best are best_at.there best_at.among

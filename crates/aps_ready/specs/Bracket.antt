@@ -1,14 +1,65 @@
-use Rattle.std.specs.Prelude.{◌≡◌, ℕ, ◌+◌, ◌*◌, ◌<◌, ◌≤◌, List, length, drop}
+use Rattle.std.specs.Prelude.{◌≡◌, ◌≢◌, ℕ, ◌-◌, ◌/◌, ◌<◌, ◌≤◌, true, false, nat_lt, if◌then◌else◌, List, length, map, slice_set, slice_index}
 use Rattle.aps_ready.specs.declared.entrant.Entrant.{Entrant}
-use Rattle.aps_ready.specs.Entrant.{entrant_at, first_of}
+use Rattle.aps_ready.specs.Entrant.{entrant_at, goes_before, vacant}
 
--- the places stand behind the inner nodes
-abbrev pub places : ℕ → List Entrant → List Entrant
-places width nodes = drop width nodes
+-- who takes part at a node: nobody from the count on
+abbrev pub taking : List Entrant → ℕ → ℕ → Entrant
+taking nodes count n = if nat_lt n count then entrant_at nodes n else vacant
 
--- each inner node is the first of the two below it
-pub record IsPlayed (width : ℕ) (nodes : List Entrant) : Type 0 where
-  pub few : width ≤ 1024
-  pub both : length nodes ≡ 2 * width
-  pub inner : (i : ℕ) → 0 < i → i < width
-      → entrant_at nodes i ≡ first_of (entrant_at nodes (2 * i)) (entrant_at nodes (2 * i + 1))
+-- who takes part at each place
+abbrev pub places : List Entrant → List ℕ → ℕ → List Entrant
+places nodes at count = map (taking nodes count) at
+
+abbrev pub node_of : List ℕ → ℕ → ℕ
+node_of at x = slice_index at x
+
+-- two nodes in each other's place
+abbrev pub swapped : List Entrant → ℕ → ℕ → List Entrant
+swapped nodes i j = slice_set (slice_set nodes i (entrant_at nodes j)) j (entrant_at nodes i)
+
+-- each place has its node, and each node is that of one place
+pub record IsSeated (nodes : List Entrant) (at : List ℕ) : Type 0 where
+  pub few : length at ≤ 1024
+  pub both : length nodes ≡ length at
+  pub node : (x : ℕ) → x < length at → node_of at x < length nodes
+  pub there : (x : ℕ) → x < length at → (entrant_at nodes (node_of at x)).thread ≡ x
+  pub place : (n : ℕ) → n < length nodes → (entrant_at nodes n).thread < length at
+  pub own : (n : ℕ) → n < length nodes → node_of at (entrant_at nodes n).thread ≡ n
+
+-- those who take part have a level that there is
+abbrev pub AreReal : List Entrant → ℕ → Type 0
+AreReal nodes count = (n : ℕ) → n < count → (entrant_at nodes n).level ≤ 255
+
+-- the node above
+abbrev pub above : ℕ → ℕ
+above n = (n - 1) / 2
+
+-- nobody goes before whoever is above
+abbrev pub IsOrdered : List Entrant → ℕ → Type 0
+IsOrdered nodes count = (n : ℕ) → 0 < n → n < count → goes_before (entrant_at nodes n) (entrant_at nodes (above n)) ≡ false
+
+-- the same, whoever is at one node
+pub record IsOrderedBut (nodes : List Entrant) (count hole : ℕ) : Type 0 where
+  pub rest : (n : ℕ) → 0 < n → n < count → n ≢ hole → above n ≢ hole
+      → goes_before (entrant_at nodes n) (entrant_at nodes (above n)) ≡ false
+  pub over : (n : ℕ) → 0 < n → n < count → above n ≡ hole → 0 < hole
+      → goes_before (entrant_at nodes n) (entrant_at nodes (above hole)) ≡ false
+
+-- of those right below a node nobody goes before e
+abbrev pub AreBehind : List Entrant → ℕ → ℕ → Entrant → Type 0
+AreBehind nodes count node e = (n : ℕ) → 0 < n → n < count → above n ≡ node → goes_before (entrant_at nodes n) e ≡ false
+
+-- the first of those right below a node, which goes before it
+pub record IsNext (nodes : List Entrant) (count node next : ℕ) : Type 0 where
+  pub some : 0 < next
+  pub within : next < count
+  pub under : above next ≡ node
+  pub before : goes_before (entrant_at nodes next) (entrant_at nodes node) ≡ true
+  pub first : AreBehind nodes count node (entrant_at nodes next)
+
+-- a bracket as it stands between two calls
+pub record IsPlayed (nodes : List Entrant) (at : List ℕ) (count : ℕ) : Type 0 where
+  pub seated : IsSeated nodes at
+  pub real : AreReal nodes count
+  pub room : count ≤ length nodes
+  pub order : IsOrdered nodes count

@@ -18,6 +18,10 @@ is_open_first part critical = is_open part critical && is_first part critical
 abbrev pub is_open_second : PartFacts → Bool → Bool
 is_open_second part critical = is_open part critical && not (is_first part critical)
 
+-- the threads of a group are candidates of class 1
+abbrev pub open_first : List PartFacts → ℕ → Bool
+open_first parts g = is_open_first (part_at parts (g % 32)) (nat_lt 31 g)
+
 -- which groups are candidates, by their class, and which partitions have a budget, where the partitions stand so; the
 -- group g has the threads of partition g, and from 32 on the critical ones of partition g - 32
 pub record AreGatesOf (stands : ℕ → PartFacts) (gates : Gates) : Type 0 where

@@ -1,4 +1,4 @@
-use Rattle.std.specs.Prelude.{◌≡◌, ℕ, ◌<◌, ◌≤◌, ◌&&◌, nat_eq, nat_lt, true, List, length, slice_index_or}
+use Rattle.std.specs.Prelude.{◌≡◌, ℕ, ◌<◌, ◌≤◌, Bool, ◌&&◌, nat_eq, nat_lt, true, List, length, slice_index_or}
 use Rattle.aps_levels.specs.declared.bits.Bits64.{Bits64}
 use Rattle.aps_levels.specs.declared.levels.Levels.{Levels}
 use Rattle.aps_levels.specs.Bits.{has}
@@ -27,11 +27,11 @@ abbrev pub AreEmpty : List ℕ → Bits64 → Type 0
 AreEmpty tops set = (g : ℕ) → g < 64 → has set g ≡ true → 256 ≤ level_of tops g
 
 -- the groups of the set at the least level of any of them, which is below 256
-pub record AreLeast (tops : List ℕ) (set found : Bits64) : Type 0 where
+pub record AreLeast (tops : List ℕ) (set found : ℕ → Bool) : Type 0 where
   pub level : ℕ
   pub below : level < 256
   pub group : ℕ
   pub inside : group < 64
-  pub some : has found group ≡ true
-  pub these : (g : ℕ) → g < 64 → has found g ≡ (nat_eq (level_of tops g) level && has set g)
-  pub least : (g : ℕ) → g < 64 → has set g ≡ true → level ≤ level_of tops g
+  pub some : found group ≡ true
+  pub these : (g : ℕ) → g < 64 → found g ≡ (nat_eq (level_of tops g) level && set g)
+  pub least : (g : ℕ) → g < 64 → set g ≡ true → level ≤ level_of tops g

@@ -14,10 +14,10 @@ AreOccupied tops set found = (g : ℕ) → g < 64 → has found g ≡ (has set g
 abbrev pub AreLikelySecond : Free → List ℕ → Bits64 → Bits64 → Type 0
 AreLikelySecond Ratio tops second found = AreOccupied tops second found
 AreLikelySecond Priority tops second found =
-    AreLeast tops second found ⊎ (AreEmpty tops second × ((g : ℕ) → g < 64 → has found g ≡ false))
+    AreLeast tops (has second) (has found) ⊎ (AreEmpty tops second × ((g : ℕ) → g < 64 → has found g ≡ false))
 
 -- the groups that can have the greatest candidate: of class 1 those at the highest priority, and else the same of class
 -- 0, or all of that class where free time goes by ratio
 abbrev pub AreLikely : Free → List ℕ → Gates → Bits64 → Type 0
 AreLikely free tops gates found =
-    AreLeast tops gates.first found ⊎ (AreEmpty tops gates.first × AreLikelySecond free tops gates.second found)
+    AreLeast tops (has gates.first) (has found) ⊎ (AreEmpty tops gates.first × AreLikelySecond free tops gates.second found)

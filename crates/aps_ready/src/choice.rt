@@ -5,7 +5,7 @@ ghost use Rattle.aps_ready.specs.Choice.{is_ahead, ahead_of};
 ghost use Rattle.aps_ready.specs.Small.{IsSmall};
 
 use crate::entrant::{Entrant, goes_before};
-use aps_model::{PartFacts, less_fraction};
+use aps_model::PartFacts;
 
 /// How a partition stands. One that doesn't exist has no budget and is shut.
 #[inline(always)]
@@ -32,15 +32,14 @@ pub fn is_ahead(parts: &[PartFacts], a: &Entrant, b: &Entrant) -> bool
     requires { All IsSmall parts.now }
     ensures { result ≡ is_ahead parts.now a.now b.now }
 {
-    let a_part = part_at(parts, (a.group % 32) as usize);
-    let b_part = part_at(parts, (b.group % 32) as usize);
-    if less_fraction(a_part.used, a_part.budget, b_part.used, b_part.budget) {
-        true
-    } else if less_fraction(b_part.used, b_part.budget, a_part.used, a_part.budget) {
-        false
-    } else {
-        goes_before(a, b)
+    let one = part_at(parts, (a.group % 32) as usize);
+    let two = part_at(parts, (b.group % 32) as usize);
+    if one.budget == 0 || two.budget == 0 {
+        return two.budget < one.budget || (one.budget == two.budget && goes_before(a, b));
     }
+    let left = one.used * u64::from(two.budget);
+    let right = two.used * u64::from(one.budget);
+    left < right || (left == right && goes_before(a, b))
 }
 
 /// The best so far, or the first of one more group, if somebody is there and ahead of it.

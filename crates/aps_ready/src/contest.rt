@@ -1,13 +1,14 @@
 //! Which of two is the greater candidate, of whatever classes and levels they are.
-ghost use Rattle.std.specs.Prelude.{◌≡◌, ◌<◌, ◌≤◌, All};
+ghost use Rattle.std.specs.Prelude.{◌≡◌, ◌<◌, ◌≤◌, true, All};
+ghost use Rattle.aps_model.specs.declared.shape.Free.{Free};
 ghost use Rattle.aps_ready.specs.Choice.{is_ahead_by_level};
-ghost use Rattle.aps_ready.specs.Gates.{AreGates};
+ghost use Rattle.aps_ready.specs.Gates.{open_first, AreGates};
 ghost use Rattle.aps_ready.specs.Small.{IsSmall};
 ghost use Rattle.aps_ready.specs.Winner.{is_above, wins, IsContestant};
 
 use crate::choice::is_ahead;
 use crate::entrant::Entrant;
-use crate::gates::Gates;
+use crate::gates::{Gates, is_in_first};
 use aps_model::{Free, PartFacts};
 
 /// Whether one more takes the place of the best so far: it is a candidate, and nobody is the best so far, or it is above.
@@ -25,6 +26,22 @@ pub fn wins(gates: Gates, parts: &[PartFacts], free: Free, one: &Entrant, best: 
         is_above(gates, parts, free, one, best)
     } else {
         true
+    }
+}
+
+/// The same, where the best so far is a candidate of class 1, with no gates.
+#[inline(always)]
+pub fn wins_first(parts: &[PartFacts], one: &Entrant, best: &Entrant) -> bool
+    requires small { All IsSmall parts.now }
+    requires one { one.now.group < 64 → one.now.level ≤ 255 }
+    requires best { IsContestant parts.now best.now }
+    requires first { open_first parts.now best.now.group ≡ true }
+    ensures { (free : Free) → result ≡ wins free parts.now one.now best.now }
+{
+    if one.group < 64 && is_in_first(parts, one.group as usize) {
+        is_ahead_by_level(parts, one, best)
+    } else {
+        false
     }
 }
 

@@ -1,7 +1,7 @@
 //! Who takes part in a bracket, and which of two goes first.
 ghost use Rattle.std.specs.Prelude.{◌≡◌, ◌<◌, ◌≤◌};
 ghost use Rattle.aps_model.specs.declared.state.Facts.{Facts};
-ghost use Rattle.aps_ready.specs.Entrant.{goes_before, first_of, vacant, entrant_of};
+ghost use Rattle.aps_ready.specs.Entrant.{goes_before, vacant, entrant_of};
 ghost use Rattle.aps_ready.specs.Ready.{seat_of};
 
 use aps_model::{Contender, Facts, PartitionId, ThreadId};
@@ -80,12 +80,4 @@ pub fn goes_before(a: &Entrant, b: &Entrant) -> bool
     ensures { result ≡ goes_before a.now b.now }
 {
     a.level < b.level || (a.level == b.level && a.stamp < b.stamp)
-}
-
-/// The one of two that goes first.
-#[inline(always)]
-pub fn first_of(a: Entrant, b: Entrant) -> Entrant
-    ensures { result ≡ first_of a b }
-{
-    if goes_before(&b, &a) { b } else { a }
 }

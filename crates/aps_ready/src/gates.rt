@@ -1,7 +1,7 @@
 //! Which groups of ready threads are candidates, in which class, and which partitions have a budget.
 ghost use Rattle.std.specs.Prelude.{◌≡◌, ◌≢◌, ℕ, ◌<◌, List, [], ◌∷◌, ◌++◌, length, slice_set, nat_eq, if◌then◌else◌};
 ghost use Rattle.aps_model.specs.declared.merit.PartFacts.{PartFacts};
-ghost use Rattle.aps_ready.specs.Gates.{is_first, is_open_first, is_open_second, AreGates, AreGatesOf};
+ghost use Rattle.aps_ready.specs.Gates.{is_first, is_open_first, is_open_second, open_first, AreGates, AreGatesOf};
 ghost use Rattle.aps_ready.specs.Winner.{is_candidate_at};
 
 use crate::choice::part_at;
@@ -49,7 +49,10 @@ impl Gates {
     /// The gates after one partition changed, or after one more came, whose number is the next.
     #[inline(always)]
     pub fn set(&mut self, p: PartitionId, part: &PartFacts)
-        ensures changed { (parts : List PartFacts) → AreGates parts self.old → p < length parts → AreGates (slice_set parts p part.now) self.new }
+        ensures changed { (parts : List PartFacts)
+            → AreGates parts self.old
+            → p < length parts
+            → AreGates (slice_set parts p part.now) self.new }
         ensures added { (parts : List PartFacts) → AreGates parts self.old → length parts ≡ p → AreGates (parts ++ part.now ∷ []) self.new }
     {
         self.put(p.index(), part);
@@ -93,6 +96,15 @@ fn is_first(part: &PartFacts, critical: bool) -> bool
     ensures { result ≡ is_first part.now critical }
 {
     part.funded | (critical & part.standing)
+}
+
+/// Whether the threads of a group are candidates of class 1.
+#[inline(always)]
+pub(crate) fn is_in_first(parts: &[PartFacts], group: usize) -> bool
+    requires { group < 64 }
+    ensures { result ≡ open_first parts.now group }
+{
+    is_open_first(&part_at(parts, group % PARTITIONS), 31 < group)
 }
 
 /// Whether they are candidates of class 1.

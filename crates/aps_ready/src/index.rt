@@ -60,6 +60,9 @@ impl Index {
         ensures { self.new ≡ slice_set self.old group level }
     {
         let before = self.tops[group];
+        if before == level {
+            return;
+        }
         let left = leave(&mut self.at_level, self.levels, group, before as usize);
         self.levels = enter(&mut self.at_level, left, group, level as usize);
         self.occupied = self.occupied.put(group, level < 256);
@@ -77,7 +80,7 @@ impl Index {
     /// Of the groups of a set those at the least level; none exactly where all of them are empty.
     #[inline(always)]
     pub fn least(&self, set: Bits64) -> Option<Bits64>
-        ensures some { IfSome result (AreLeast self.now set) }
+        ensures some { IfSome result (λ found. AreLeast self.now (has set) (has found)) }
         ensures none { IfNone result (AreEmpty self.now set) }
     {
         let mut left = self.levels;

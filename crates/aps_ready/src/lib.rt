@@ -1,4 +1,4 @@
-//! The ready threads, and the greatest candidate among them. `Ready` keeps 64 knock-out brackets, one for each partition
+//! The ready threads, and the greatest candidate among them. `Ready` keeps 64 brackets, one for each partition
 //! and mark, so that a thread is put in, changed and taken out in a few steps; `Gates` keeps which of them are candidates.
 #![tactic(auto)]
 

@@ -4,6 +4,7 @@ ghost use Rattle.std.specs.Option.{option_map};
 ghost use Rattle.aps_model.specs.Pick.{greatest, missing};
 ghost use Rattle.aps_model.specs.declared.merit.Contender.{Contender};
 ghost use Rattle.aps_model.specs.declared.merit.PartFacts.{PartFacts};
+ghost use Rattle.aps_model.specs.declared.shape.Free.{Free};
 ghost use Rattle.aps_levels.specs.Bits.{has};
 ghost use Rattle.aps_ready.specs.Entrant.{vacant};
 ghost use Rattle.aps_ready.specs.Gates.{AreGates};
@@ -12,11 +13,11 @@ ghost use Rattle.aps_ready.specs.Ready.{contender_of, members, seat_of, without,
 ghost use Rattle.aps_ready.specs.Small.{IsSmall};
 
 use crate::bracket::Bracket;
-use crate::contest::wins;
+use crate::contest::{wins, wins_first};
 use crate::entrant::{Entrant, entrant_of, seat_of, vacant};
 use crate::gates::{Gates, PARTITIONS};
 use crate::index::Index;
-use crate::look::look;
+use crate::look::{look, near};
 use crate::seat::{GROUPS, enter, leave};
 use aps_levels::Bits64;
 use aps_model::{Contender, Facts, Free, NoMemory, PartFacts, PartitionId, ThreadId};
@@ -34,8 +35,8 @@ pub struct Drawn {
 /// is known of it where it is in.
 ///
 /// Threads of one partition, critical or not, are a group, and all of a group are candidates or none. Each group has a
-/// bracket over all threads, whose first has its highest priority and the smallest stamp there. The thread that was put in
-/// last stands aside: it is in the row and in no bracket, so that one that runs on is put in and drawn at no bracket's cost.
+/// bracket, whose first has its highest priority and the smallest stamp there. The thread that was put in last stands
+/// aside: it is in the row and in no bracket, so that one that runs on is put in and drawn at no bracket's cost.
 #[derive(Drop)]
 pub struct Ready {
     row: Vec<Entrant>,
@@ -61,7 +62,7 @@ impl Model for Ready {
 }
 
 impl Ready {
-    /// Nobody is in. All room is taken here, 32 bytes for each thread in each of 64 groups.
+    /// Nobody is in. All room is taken here, 18 bytes for each thread in each of 64 groups.
     pub fn new(alloc: Global, threads: u16) -> Result<Ready, NoMemory>
         requires { threads ≤ 1024 }
         ensures { IfOk result (λ ready. ready ≡ replicate threads None) }
@@ -140,14 +141,20 @@ impl Ready {
 
 impl Ready {
     /// The greatest candidate, none exactly where there is none. Used times are at most 100,000,000,000,000 ns and budgets
-    /// at most 1,000 parts, so that no product overflows.
+    /// at most 1,000 parts, so that no product overflows. It tests the groups at the highest priority first, and makes the
+    /// gates of all partitions only where none of these is a candidate of class 1.
     pub fn best(&self, parts: &[PartFacts], free: Free) -> Option<ThreadId>
         requires { All IsSmall parts.now }
         ensures greatest { result ≡ option_map (λ c. c.thread) (greatest free parts.now (members self.now)) }
         ensures inside { IfSome result (λ x. x < length self.now) }
         ensures present { IfSome result (λ x. slice_index_or self.now x None ≢ None) }
     {
-        self.best_by(Gates::of(parts), parts, free)
+        let near = self.nearest(parts);
+        if near.group < 64 {
+            Some(ThreadId::at(near.thread as usize))
+        } else {
+            self.best_by(Gates::of(parts), parts, free)
+        }
     }
 
     /// The greatest candidate, as `best`, where the gates of the partitions are kept. It compares the first of those
@@ -223,6 +230,25 @@ impl Ready {
     {
         let found = look(&self.brackets, &self.index, gates, parts, free);
         if wins(gates, parts, free, &self.aside, &found) {
+            self.aside
+        } else {
+            found
+        }
+    }
+
+    /// The greatest candidate, where somebody of class 1 is at the highest priority of those in the brackets; else nobody.
+    fn nearest(&self, parts: &[PartFacts]) -> Entrant
+        requires small { All IsSmall parts.now }
+        ensures greatest { (free : Free) → result.group < 64 → seat_of result ≡ greatest free parts.now (members self.now) }
+        ensures thread { result.group < 64 → result.thread ≤ 1023 }
+        ensures inside { result.group < 64 → result.thread < length self.now }
+        ensures present { result.group < 64 → slice_index_or self.now result.thread None ≢ None }
+    {
+        let found = near(&self.brackets, &self.index, parts);
+        if found.group >= 64 {
+            return found;
+        }
+        if wins_first(parts, &self.aside, &found) {
             self.aside
         } else {
             found

@@ -1,5 +1,5 @@
 //! Who is in a bracket, and who stands aside: in the row, and in no bracket.
-ghost use Rattle.std.specs.Prelude.{◌≡◌, ◌<◌, List, length, slice_set};
+ghost use Rattle.std.specs.Prelude.{◌≡◌, ◌<◌, ◌≤◌, List, length, slice_set};
 ghost use Rattle.aps_ready.specs.Aside.{IsDrawnBut};
 ghost use Rattle.aps_ready.specs.Entrant.{entrant_at, vacant};
 ghost use Rattle.aps_ready.specs.Ready.{bracket_at, with_place, AreDrawn};
@@ -17,13 +17,15 @@ pub const GROUPS: usize = 64;
 pub fn enter(brackets: &mut Vec<Bracket>, index: &mut Index, aside: Entrant)
     requires count { length brackets.old.items ≡ 64 }
     requires inside { aside.group < 64 → aside.thread < length (bracket_at brackets.old.items aside.group) }
+    requires level { aside.group < 64 → aside.level ≤ 255 }
+    requires out { aside.group < 64 → entrant_at (bracket_at brackets.old.items aside.group) aside.thread ≡ vacant }
     requires topped { AreTopped brackets.old.items index.old }
     ensures drawn { (row : List Entrant) → IsDrawnBut row aside brackets.old.items → AreDrawn row brackets.new.items }
     ensures topped { AreTopped brackets.new.items index.new }
 {
     let group = aside.group as usize;
     if group < GROUPS {
-        place(brackets, index, group, aside.thread as usize, aside);
+        come(brackets, index, group, aside);
     }
 }
 
@@ -40,26 +42,36 @@ pub fn leave(brackets: &mut Vec<Bracket>, index: &mut Index, aside: &mut Entrant
     if aside.group < 64 && aside.thread == one.thread {
         *aside = vacant();
     } else {
-        place(
-            brackets,
-            index,
-            one.group as usize,
-            one.thread as usize,
-            vacant(),
-        );
+        go(brackets, index, one.group as usize, one.thread as usize);
     }
 }
 
-/// Sets a place in the bracket of this group, and the level of the group.
+/// Somebody comes to its place in the bracket of this group, and the group to the level of its first.
 #[inline(always)]
-fn place(brackets: &mut Vec<Bracket>, index: &mut Index, group: usize, x: usize, entrant: Entrant)
+fn come(brackets: &mut Vec<Bracket>, index: &mut Index, group: usize, one: Entrant)
+    requires count { length brackets.old.items ≡ 64 }
+    requires group { group < 64 }
+    requires inside { one.thread < length (bracket_at brackets.old.items group) }
+    requires level { one.level ≤ 255 }
+    requires out { entrant_at (bracket_at brackets.old.items group) one.thread ≡ vacant }
+    requires topped { AreTopped brackets.old.items index.old }
+    ensures set { brackets.new.items ≡ with_place brackets.old.items group one.thread one }
+    ensures topped { AreTopped brackets.new.items index.new }
+{
+    brackets[group].fill(one);
+    index.set(group, brackets[group].first().level);
+}
+
+/// Whoever is at a place in the bracket of this group goes, and the group to the level of its first.
+#[inline(always)]
+fn go(brackets: &mut Vec<Bracket>, index: &mut Index, group: usize, x: usize)
     requires count { length brackets.old.items ≡ 64 }
     requires group { group < 64 }
     requires inside { x < length (bracket_at brackets.old.items group) }
     requires topped { AreTopped brackets.old.items index.old }
-    ensures set { brackets.new.items ≡ with_place brackets.old.items group x entrant }
+    ensures set { brackets.new.items ≡ with_place brackets.old.items group x vacant }
     ensures topped { AreTopped brackets.new.items index.new }
 {
-    brackets[group].set(x, entrant);
+    brackets[group].clear(x);
     index.set(group, brackets[group].first().level);
 }

@@ -1,8 +1,7 @@
-use Rattle.std.proofs.Common.{◌≢◌, ◌<◌, List, set, sym, ◌∙◌, ap, subst, arith}
+use Rattle.std.proofs.Common.{◌≢◌, ◌<◌, List, set, sym, subst, arith}
 use Rattle.aps_ready.specs.declared.entrant.Entrant.{Entrant}
 use Rattle.aps_ready.specs.Entrant.{vacant}
 use Rattle.aps_ready.specs.Aside.{IsDrawnBut}
-use Rattle.aps_ready.specs.Ready.{with_place}
 use Rattle.aps_ready.proofs.Aside.{left_but}
 use Rattle.aps_ready.proofs.seat.leave.Goals.{else-aside-lt64-via-then-aside-lt64+else-aside-one, else-aside-lt64-via-else-aside-lt64}
 use Rattle.aps_ready.proofs.seat.leave.Goals as goal
@@ -15,5 +14,5 @@ returns-else-aside-lt64-clause-drawn c row but is =
       | else-aside-lt64-via-else-aside-lt64 w ↦ λ below. absurd (omega (arith, below, w.if-aside-lt64.false))
     ] in
     subst (λ (brackets : List (List Entrant)). IsDrawnBut (set row one.thread vacant) c.args.aside.now brackets)
-    (sym (c.place.ensures.set ∙ ap (with_place c.args.brackets.now.items one.group one.thread) c.vacant-else-aside-lt64.ensures))
+    (sym c.go.ensures.set)
     (left_but row c.args.aside.now c.args.brackets.now.items one but c.requires.group is apart)

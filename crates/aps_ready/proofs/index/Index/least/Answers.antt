@@ -21,7 +21,7 @@ pub returns-then-not-is_empty-clause-some : goal.returns-then-not-is_empty-claus
 returns-then-not-is_empty-clause-some c =
     let some = c.if-not-is_empty.ensures.some (search rules) in
     let level = c.in-Some.ensures.some in
-    subst (λ (tops : List ℕ). AreLeast tops c.args.set c.meet-found.result) c.self.view_is
+    subst (λ (tops : List ℕ). AreLeast tops (has c.args.set) (has c.meet-found.result)) c.self.view_is
     (are_least c.self.inside.tops.items c.self.inside.at_level.items c.self.inside.levels c.loop-from.left c.self.inside.occupied c.args.set c.meet-found.result c.loop-from.from c.in-Some.level some.0
     c.self.invariant c.loop-from.invariant level.below level.earlier
     (met c.self.inside.at_level.items c.index.result.now c.meet-found.result c.args.set c.in-Some.level c.self.invariant.each level.below c.index.ensures c.meet-found.ensures)

@@ -2,9 +2,16 @@ use Rattle.std.proofs.Common.{◌<◌, ◌≤◌, ◌∙◌, ap, sym, arith, len
 use Rattle.aps_ready.specs.declared.entrant.Entrant.{Entrant}
 use Rattle.aps_ready.specs.Entrant.{entrant_at}
 use Rattle.aps_ready.specs.Ready.{seat_of}
-use Rattle.aps_ready.proofs.Aside.{put_aside}
+use Rattle.aps_ready.proofs.Aside.{put_aside, aside_level, aside_out}
 use Rattle.aps_ready.proofs.Queued.{seats_set, seen, seen_at, queued_set, free_stamp, place_in_row, in_group, is_out}
 use Rattle.aps_ready.proofs.ready.Ready.put.Goals as goal
+
+pub enter-requires-clause-level : goal.enter-requires-clause-level
+enter-requires-clause-level c there =
+    aside_level c.self.inside.row.items c.self.inside.aside c.self.inside.brackets.items c.self.invariant.0 c.self.invariant.1 there
+
+pub enter-requires-clause-out : goal.enter-requires-clause-out
+enter-requires-clause-out c there = aside_out c.self.inside.row.items c.self.inside.aside c.self.inside.brackets.items c.self.invariant.0 there
 
 pub invariant_of-self : goal.invariant_of-self
 invariant_of-self c =
