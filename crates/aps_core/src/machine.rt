@@ -216,7 +216,8 @@ impl Machine {
         requires dues { AreDues self.old entries.now dues.now }
         requires rising { IsRising entries.now }
         requires counts { Counts self.old.shape entries.now (moment entries.now / self.old.shape.tick) window.old }
-        ensures same { step scenario.now self.old entries.now cpu ≡ record { entry = result.entry; state = self.new; reboot = result.reboot } }
+        ensures same { step scenario.now self.old entries.now cpu
+            ≡ record { entry = result.entry; state = self.new; reboot = result.reboot } }
         ensures pending { IsPending scenario.now self.old.shape.tick (entries.now ++ result.entry ∷ []) ctl.new }
         ensures counts { Counts self.new.shape (entries.now ++ result.entry ∷ []) (result.entry.to / self.new.shape.tick) window.new }
         ensures stands { standing.new ≡ parts_in self.new.shape self.new.rows window.new }

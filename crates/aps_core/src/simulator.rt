@@ -17,6 +17,7 @@ ghost use Rattle.aps_core.specs.Turn.{HasTurnIn, IsFed, IsOwn, IsTaken, IsTurn, 
 
 mod asking;
 mod reading;
+mod starting;
 
 use crate::dues::Dues;
 use crate::ends::Ends;
@@ -31,6 +32,7 @@ use aps_model::{CpuId, End, Entry, History, Nanos, NoMemory, Order, Scenario};
 use aps_ready::Ready;
 use aps_timer::Timer;
 use aps_window::Window;
+use starting::{start_queues, start_window};
 use std::alloc::Global;
 use std::marker::Model;
 
@@ -75,20 +77,17 @@ impl Core {
     ) -> Result<Core, NoMemory>
         requires some { 1 ≤ limit }
         requires few { limit ≤ 4000000 }
-        ensures { IfOk result (λ core. core ≡ record { setup = record { scenario = scenario; order = order; limit = limit }; entries = [] }) }
+        ensures { IfOk result (λ core. core
+            ≡ record { setup = record { scenario = scenario; order = order; limit = limit }; entries = [] }) }
     {
         let machine = Machine::boot(alloc, &scenario)?;
-        let ends = Ends::new();
-        let dues = Dues::new();
-        let window = Window::new(alloc, scenario.shape().window)?;
-        let standing = machine.start_standing(alloc, &window)?;
-        let ready = machine.start_ready(alloc)?;
-        let timer = machine.start_timer(alloc)?;
-        let woken = Woken::new(alloc)?;
-        let ctl = Ctl::new(alloc, &scenario)?;
+        let (window, standing) = start_window(alloc, &machine, &scenario)?;
+        let (ready, timer, woken, ctl) = start_queues(alloc, &machine, &scenario)?;
         let replies = scenario.commands().len() as u16;
         let changes = most_changes(&scenario);
         let history = History::begin(alloc, scenario, limit, replies, changes)?;
+        let ends = Ends::new();
+        let dues = Dues::new();
         Ok(Core {
             history,
             order,
@@ -168,7 +167,8 @@ impl Core {
         ensures entries { result.entries ≡ (rooms_of self.now.setup).entries }
         ensures replies { result.replies ≡ (rooms_of self.now.setup).replies }
         ensures changes { result.changes ≡ (rooms_of self.now.setup).changes }
-        ensures taken { (history_of self.now).room ≡ record { entries = result.entries; replies = result.replies; changes = result.changes } }
+        ensures taken { (history_of self.now).room
+            ≡ record { entries = result.entries; replies = result.replies; changes = result.changes } }
     {
         let scenario = self.history.scenario();
         Room {

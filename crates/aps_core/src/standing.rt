@@ -142,7 +142,11 @@ fn opens_alike(a: &PartFacts, b: &PartFacts) -> bool
 /// The gates after one partition stands otherwise. They are as they were where nothing changed that opens one.
 #[inline(always)]
 fn gates_after(gates: Gates, p: PartitionId, before: &PartFacts, part: &PartFacts) -> Gates
-    ensures { (parts : List PartFactsOf) → AreGates parts gates → p < length parts → part_at parts p ≡ before.now → AreGates (slice_set parts p part.now) result }
+    ensures { (parts : List PartFactsOf)
+        → AreGates parts gates
+        → p < length parts
+        → part_at parts p ≡ before.now
+        → AreGates (slice_set parts p part.now) result }
 {
     if opens_alike(before, part) {
         return gates;

@@ -33,7 +33,8 @@ impl Machine {
     /// The thread has this priority of its own, and the next stamp.
     fn set_priority(&mut self, x: ThreadId, priority: u8)
         requires room { HasRoom self.old }
-        ensures { self.new ≡ with_stamped self.old x (record (thread_at self.old x) { own = record (thread_at self.old x).own { priority = priority } }) }
+        ensures { self.new ≡ with_stamped self.old x
+            (record (thread_at self.old x) { own = record (thread_at self.old x).own { priority = priority } }) }
     {
         let thread = self.thread(x);
         let own = thread.own;

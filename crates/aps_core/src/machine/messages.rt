@@ -33,7 +33,8 @@ impl Machine {
     /// A message comes to the channel, which has room for it.
     fn add_message(&mut self, c: ChannelId, m: Message)
         requires { length (channel_at self.old c).messages < 1024 }
-        ensures { self.new ≡ with_channel self.old c (record (channel_at self.old c) { messages = (channel_at self.old c).messages ++ m ∷ [] }) }
+        ensures { self.new ≡ with_channel self.old c
+            (record (channel_at self.old c) { messages = (channel_at self.old c).messages ++ m ∷ [] }) }
     {
         let index = c.index();
         if index < self.channels.len() {
@@ -43,7 +44,8 @@ impl Machine {
 
     /// The first message of the sender leaves the channel.
     fn remove_message(&mut self, c: ChannelId, sender: ThreadId)
-        ensures { self.new ≡ with_channel self.old c (record (channel_at self.old c) { messages = without_sender sender (channel_at self.old c).messages }) }
+        ensures { self.new ≡ with_channel self.old c
+            (record (channel_at self.old c) { messages = without_sender sender (channel_at self.old c).messages }) }
     {
         let index = c.index();
         if index < self.channels.len() {
@@ -54,7 +56,8 @@ impl Machine {
     /// A thread waits for a message of the channel, which has room for it.
     fn add_receiver(&mut self, c: ChannelId, x: ThreadId)
         requires { length (channel_at self.old c).receivers < 1024 }
-        ensures { self.new ≡ with_channel self.old c (record (channel_at self.old c) { receivers = (channel_at self.old c).receivers ++ x ∷ [] }) }
+        ensures { self.new ≡ with_channel self.old c
+            (record (channel_at self.old c) { receivers = (channel_at self.old c).receivers ++ x ∷ [] }) }
     {
         let index = c.index();
         if index < self.channels.len() {
@@ -64,7 +67,8 @@ impl Machine {
 
     /// The thread that has waited longest for a message of the channel waits no longer.
     fn remove_receiver(&mut self, c: ChannelId)
-        ensures { self.new ≡ with_channel self.old c (record (channel_at self.old c) { receivers = drop 1 (channel_at self.old c).receivers }) }
+        ensures { self.new ≡ with_channel self.old c
+            (record (channel_at self.old c) { receivers = drop 1 (channel_at self.old c).receivers }) }
     {
         let index = c.index();
         if index < self.channels.len() {

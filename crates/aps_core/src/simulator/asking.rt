@@ -15,7 +15,8 @@ impl Core {
     pub fn stand(&self, parts: &mut [PartFacts])
         requires some { 0 < length self.now.entries }
         requires one_each { length parts.old ≡ length (state_of self.now).rows }
-        ensures { parts.new ≡ all_parts (state_of self.now).shape (state_of self.now).rows self.now.entries (moment self.now.entries / (state_of self.now).shape.tick) }
+        ensures { parts.new ≡ all_parts (state_of self.now).shape (state_of self.now).rows self.now.entries
+            (moment self.now.entries / (state_of self.now).shape.tick) }
     {
         self.machine.stand(&self.window, parts);
     }

@@ -11,8 +11,8 @@ use Rattle.aps_core.proofs.Kept.{begun_core}
 use Rattle.aps_model.specs.declared.shape.Shape.{Shape}
 use Rattle.aps_core.proofs.simulator.Core.boot.Goals as goal
 
-pub start_ready-requires : goal.start_ready-requires
-start_ready-requires c =
+pub start_queues-requires : goal.start_queues-requires
+start_queues-requires c =
     subst (λ (s : SchedulerState). IsStamped s.threads s.stamps) (sym c.in_ok-machine.ensures)
     (opening_stamped c.args.scenario c.args.order (subst IsScenario c.scenario.view_is c.scenario.invariant))
 
@@ -26,11 +26,11 @@ invariant_of-result c =
           (record { valid = c.commands.ensures.valid; some = c.requires.some; few = c.requires.few })
           (rw (c.commands.ensures.same, c.most_changes-changes.ensures) refl)
           c.in_ok-machine.ensures;
-      pending = λ j none. ap (all_at j) c.in_ok-ctl.ensures;
-      seats = c.in_ok-ready.ensures;
-      timed = c.in_ok-timer.ensures;
+      pending = λ j none. ap (all_at j) c.in_ok-ready.ensures.ctl;
+      seats = c.in_ok-ready.ensures.ready;
+      timed = c.in_ok-ready.ensures.timer;
       lasts = c.new-ends.ensures;
-      stands = c.in_ok-standing.ensures;
+      stands = c.in_ok-window.ensures.standing;
       nexts = dues_none c.in_ok-machine.machine _ c.new-dues.ensures;
-      counts = counts_begin c.args.scenario c.in_ok-machine.machine _ c.in_ok-window.window c.commands.ensures.valid.shape c.in_ok-machine.ensures (ap (λ (s : Shape). s.window) c.shape.ensures.same) c.in_ok-window.ensures.same;
+      counts = counts_begin c.args.scenario c.in_ok-machine.machine _ c.in_ok-window.window c.commands.ensures.valid.shape c.in_ok-machine.ensures refl c.in_ok-window.ensures.window;
     })
