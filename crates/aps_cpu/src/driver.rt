@@ -41,6 +41,7 @@ pub fn drive<R: Wait, G: Gate>(rt: &R, dispatch: &Dispatch, seat: &mut CpuSeat, 
 {
     let (first, last) = (seat.first(), seat.last());
     let mut cpu = first;
+    dispatch.set_at_hand(seat, true);
     for _ in rt.forever() {
         wait(rt, dispatch, seat);
         enter(rt, dispatch, seat, gate, cpu);
@@ -73,8 +74,11 @@ fn wait<R: Wait>(rt: &R, dispatch: &Dispatch, seat: &CpuSeat) {
     }
 }
 
-/// Enters the gate, with the driver not at hand meanwhile.
+/// Enters the gate. The driver is not at hand meanwhile, unless the gate is open.
 fn enter<R: Wait, G: Gate>(rt: &R, dispatch: &Dispatch, seat: &CpuSeat, gate: &G, cpu: CpuId) {
+    if gate.is_open() {
+        return gate.enter(rt, seat, cpu);
+    }
     dispatch.set_at_hand(seat, false);
     gate.enter(rt, seat, cpu);
     dispatch.set_at_hand(seat, true);

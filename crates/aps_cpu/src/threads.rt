@@ -35,6 +35,7 @@ pub fn run_all<R: Threads + Wait + Sync, G: Gate + Sync>(
     ensures legal { IsLegal result.setup.scenario result.setup.order result.entries }
     ensures no_sooner { EndsNoSooner result.setup.scenario result.setup.limit result.entries }
 {
+    tell_cores(rt, &dispatch);
     let count = seat.last().index() + 1;
     let seat = match Vec::with_capacity(alloc, count) {
         Ok(seats) => drive_all(rt, &dispatch, seat, seats, gate),
@@ -44,6 +45,13 @@ pub fn run_all<R: Threads + Wait + Sync, G: Gate + Sync>(
         }
     };
     finished(dispatch.close(seat))
+}
+
+/// Tells the dispatcher how many processors of the machine there are, where that is known.
+fn tell_cores<R: Threads>(rt: &R, dispatch: &Dispatch) {
+    if let Ok(cores) = thread::available_parallelism(rt) {
+        dispatch.set_cores(cores.get());
+    }
 }
 
 /// Drives each of the seat's processors in a thread of its own, and gives the seat back. There is room for a seat each.
@@ -88,7 +96,8 @@ fn drive_each<R: Threads + Wait + Sync, G: Gate + Sync>(
 )
     requires some { 0 < length seats.old }
     requires ready { All (IsReady dispatch.now) seats.old }
-    ensures { (length seats.new ≡ length seats.old) × ((i : ℕ) (d : _) → i < length seats.old → IsOnFrom (slice_index_or seats.old i d) (slice_index_or seats.new i d)) }
+    ensures { (length seats.new ≡ length seats.old)
+        × ((i : ℕ) (d : _) → i < length seats.old → IsOnFrom (slice_index_or seats.old i d) (slice_index_or seats.new i d)) }
 {
     let threads = seats.len();
     thread::for_each_mut(

@@ -5,4 +5,3 @@ pub mod Queue
 pub mod Turning
 pub mod Sharing
 pub mod Ends
-pub mod Steps

@@ -4,9 +4,11 @@ ghost use Rattle.aps_model.specs.Seat.{IsSeen, own_entries};
 ghost use Rattle.aps_lock.specs.Seats.{HasAllCpus, HasCpu, HasSeen, IsSeatOf, IsSeatTurn, taken, waited_after};
 ghost use Rattle.aps_lock.specs.Seen.{longer};
 
-use crate::hint::{CpuSet, Hint};
+use crate::cpu_set::CpuSet;
+use crate::hint::Hint;
 use crate::rule::CoreTable;
 use crate::seat::CpuSeat;
+use crate::turns::last_cpu;
 use crate::words::{CORE, cut, len_of, load_len, merge, turn_place, witness};
 use aps_core::{Core, Turn};
 use aps_model::CpuId;
@@ -41,7 +43,8 @@ impl Dispatch {
     /// no memory the core comes back as it was.
     pub fn open(alloc: Global, core: Core) -> Result<(Dispatch, CpuSeat), Core>
         ensures dispatch { IfOk result (λ r. r.0.setup ≡ core.setup) }
-        ensures seat { IfOk result (λ r. r.1 ≡ record { table = r.0.table; seen = core; first = 0; last = core.setup.scenario.shape.cpus - 1; waited = 0 }) }
+        ensures seat { IfOk result (λ r. r.1
+            ≡ record { table = r.0.table; seen = core; first = 0; last = core.setup.scenario.shape.cpus - 1; waited = 0 }) }
         ensures of { IfOk result (λ r. IsSeatOf r.0 r.1 × HasAllCpus r.1) }
         ensures refused { IfErr result (λ c. c ≡ core) }
     {
@@ -78,7 +81,8 @@ impl Dispatch {
         requires seat { IsSeatOf self.now seat.old }
         requires cpu { HasCpu seat.old cpu }
         ensures turn { IsSeatTurn seat.old cpu result seat.new }
-        ensures own { own_entries seat.old.first seat.old.last seat.new.seen.entries ≡ own_entries seat.old.first seat.old.last seat.old.seen.entries ++ taken result }
+        ensures own { own_entries seat.old.first seat.old.last seat.new.seen.entries
+            ≡ own_entries seat.old.first seat.old.last seat.old.seen.entries ++ taken result }
         ensures of { IsSeatOf self.now seat.new }
     {
         let (turn, seen_len) = turn_place(rt, &self.table.shared, &self.hint, &mut seat.place, cpu);
@@ -97,10 +101,16 @@ impl Dispatch {
         load_len(&self.table.shared, &mut seat.place) > seat.seen_len
     }
 
-    /// Waits until a processor of the seat may have the turn: the driver looks for a while, and then sleeps until another
-    /// driver's turn wakes it. It comes back sooner where a processor that may have the turn has no driver at hand, and so
-    /// does a seat of several processors, which never sleeps. This is advice: it takes no turn, and the turn may be
-    /// another's by then.
+    /// Tells on how many processors of the machine the drivers run; until then it is taken to be 4. So many drivers at
+    /// most are awake beside one another. This is advice.
+    pub fn set_cores(&self, cores: usize) {
+        self.hint.set_cores(cores as u64);
+    }
+
+    /// Waits until a processor of the seat may have the turn: where it comes soon the driver looks for a while, and else it
+    /// sleeps until another driver's turn wakes it. It comes back sooner where a processor that may have the turn has no
+    /// driver at hand, and so does a seat of several processors, which never sleeps. This is advice: it takes no turn, and
+    /// the turn may be another's by then.
     pub fn await_turn<R: Wait>(&self, rt: &R, seat: &CpuSeat) {
         if seat.first == seat.last {
             self.hint.await_turn(rt, seat.first);
@@ -203,14 +213,6 @@ impl Dispatch {
         closed.free();
         core
     }
-}
-
-/// The last of the core's processors, of which there are 1 to 16.
-fn last_cpu(core: &Core) -> CpuId
-    ensures last { result + 1 ≡ core.now.setup.scenario.shape.cpus }
-    ensures few { result ≤ 15 }
-{
-    CpuId::at(usize::from(core.history().scenario().shape().cpus) - 1)
 }
 
 /// How many turns in a row named a processor of another seat, after this answer of a seat with these processors.

@@ -1,8 +1,10 @@
 //! Whose turn it may be. Threads read this advice without a ticket: no clause rests on it, and where it is wrong it costs
 //! time alone.
+use crate::cpu_set::CpuSet;
+use crate::turns::Turns;
 use aps_core::Core;
-use aps_model::{CpuId, NoMemory, Order};
-use crossbeam_utils::Backoff;
+use aps_model::{CpuId, NoMemory};
+use crossbeam_utils::CachePadded;
 use crossbeam_utils::sync::EventCount;
 use std::alloc::Global;
 use std::sync::Wait;
@@ -13,101 +15,58 @@ use std::{hint, thread};
 /// The most processors.
 const CPUS: usize = 16;
 
-/// A run of so many processors has a processor of the machine for each, on most machines.
-const FEW_CPUS: u8 = 4;
+/// So many processors of the machine the drivers are taken to have until they are told.
+const USUAL_CORES: u64 = 4;
 
-/// So often a driver looks before it sleeps, where processors are few: for some 20 microseconds, in which a few turns of
-/// others come and go.
-const LONG_LOOK: u32 = 2_000;
+/// So often a driver looks for its turn before it sleeps: for some 50 microseconds, in which dozens of turns of others
+/// come and go where each driver has a processor of the machine.
+const MOST_LOOKS: u32 = 4_000;
 
-/// So often it looks where they are many, backing off in between, so that the others can run.
-const SHORT_LOOK: u32 = 11;
+/// Where fewer turns were taken meanwhile, those who take them want for a processor of the machine.
+const FEW_TURNS: u32 = 8;
 
-/// Some processors: bit c stands for processor c.
-#[derive(Clone, Copy)]
-pub(crate) struct CpuSet {
-    bits: u64,
-}
+/// For so many turns nobody looks after that, at first.
+const SHORT_PAUSE: u64 = 32;
 
-impl CpuSet {
-    /// This processor alone.
-    pub(crate) fn of(cpu: CpuId) -> CpuSet {
-        CpuSet {
-            bits: 1 << cpu.index(),
-        }
-    }
+/// The most turns for which nobody looks.
+const LONG_PAUSE: u64 = 4_096;
 
-    /// The processors from the first to the last.
-    pub(crate) fn between(first: CpuId, last: CpuId) -> CpuSet {
-        let mut cpus = CpuSet::of(last);
-        for c in first.index()..last.index() {
-            cpus = cpus.with(CpuSet::of(CpuId::at(c)));
-        }
-        cpus
-    }
-
-    /// All processors.
-    fn all() -> CpuSet {
-        CpuSet { bits: 0xffff }
-    }
-
-    /// The processors of both sets.
-    fn with(self, other: CpuSet) -> CpuSet {
-        CpuSet {
-            bits: self.bits | other.bits,
-        }
-    }
-
-    /// Whether the sets have a processor in common.
-    fn meets(self, other: CpuSet) -> bool {
-        self.bits & other.bits != 0
-    }
-}
-
-/// The processors that have the turn after what the core has done, which the order fixes: the lowest, or all that are due
-/// least. All, where the run has ended, so that each driver learns of it.
-pub(crate) fn next_turns(core: &Core) -> CpuSet {
-    if core.ended().is_some() {
-        return CpuSet::all();
-    }
-    let cpus = usize::from(core.history().scenario().shape().cpus);
-    let mut least = core.due(CpuId::at(0));
-    let mut next = CpuSet::of(CpuId::at(0));
-    for c in 1..cpus {
-        let cpu = CpuId::at(c);
-        let due = core.due(cpu);
-        if due < least {
-            least = due;
-            next = CpuSet::of(cpu);
-        } else if due == least && core.order() == Order::Free {
-            next = next.with(CpuSet::of(cpu));
-        }
-    }
-    next
+/// What the drivers look at.
+#[derive(Drop)]
+struct Board {
+    /// Who steps next, and who soon.
+    turns: AtomicU64,
+    /// For how many turns more nobody is to look.
+    pause: AtomicU64,
+    /// For how many the next time. It doubles each time, and goes down by one with each turn at which some may look.
+    next_pause: AtomicU64,
+    /// How many drivers are to be awake at most: one for each processor of the machine.
+    cores: AtomicU64,
 }
 
 /// Where the driver of a processor waits.
 #[derive(Drop)]
 struct Door {
-    cpu: CpuId,
     /// Whether a driver of the processor waits here, or takes a turn.
     is_at_hand: AtomicBool,
     bell: EventCount,
 }
 
 impl Door {
-    /// Whether the door's processor is one of these.
-    fn is_of(&self, cpus: CpuSet) -> bool {
-        cpus.meets(CpuSet::of(self.cpu))
+    /// The door of a processor that has no driver yet.
+    fn new() -> Door {
+        Door {
+            is_at_hand: AtomicBool::new(false),
+            bell: EventCount::new(),
+        }
     }
 }
 
 /// The processors that may have the turn, and the drivers that wait for it.
 #[derive(Drop)]
 pub(crate) struct Hint {
-    next: AtomicU64,
-    doors: Vec<Door>,
-    most_looks: u32,
+    board: CachePadded<Board>,
+    doors: Vec<CachePadded<Door>>,
 }
 
 impl Hint {
@@ -115,47 +74,79 @@ impl Hint {
     /// doors.
     pub(crate) fn begin(alloc: Global, core: &Core) -> Result<Hint, NoMemory> {
         let mut doors = Vec::with_capacity(alloc, CPUS)?;
+        for _ in 0..CPUS {
+            doors.push(CachePadded::new(Door::new()))?;
+        }
+        let turns = Turns::after(core, USUAL_CORES);
+        let board = CachePadded::new(Board {
+            turns: AtomicU64::new(turns.bits()),
+            pause: AtomicU64::new(0),
+            next_pause: AtomicU64::new(SHORT_PAUSE),
+            cores: AtomicU64::new(USUAL_CORES),
+        });
+        Ok(Hint { board, doors })
+    }
+
+    /// The drivers run on so many processors of the machine; 0 counts as 1, since whoever has the turn is to be awake.
+    pub(crate) fn set_cores(&self, cores: u64) {
+        self.board.cores.store(cores.max(1), SeqCst);
+    }
+
+    /// The turns after what the core has done. Whoever calls it has the core in hand.
+    pub(crate) fn turns_after(&self, core: &Core) -> Turns {
+        Turns::after(core, self.most_awake())
+    }
+
+    /// How many drivers are to be awake for the next turns: the one that has it, and those who look for theirs.
+    fn most_awake(&self) -> u64 {
+        let board: &Board = &self.board;
+        let pause = board.pause.load(SeqCst);
+        if pause > 0 {
+            board.pause.store(pause - 1, SeqCst);
+            return 1;
+        }
+        let next_pause = board.next_pause.load(SeqCst);
+        if next_pause > SHORT_PAUSE {
+            board.next_pause.store(next_pause - 1, SeqCst);
+        }
+        board.cores.load(SeqCst)
+    }
+
+    /// Tells these turns, and wakes the drivers that come soon. Where one that has the turn isn't at hand it wakes all, so
+    /// that they find by turns of their own whether the run goes on. The core is home again by then: where a later turn
+    /// was told sooner, what is told now is of processors that have taken theirs, and one of them mends it by a turn in vain.
+    pub(crate) fn tell(&self, turns: Turns) {
+        self.board.turns.store(turns.bits(), SeqCst);
+        self.wake(turns);
+    }
+
+    /// Who steps next and who soon, as was told last.
+    fn turns(&self) -> Turns {
+        Turns::of_bits(self.board.turns.load(SeqCst))
+    }
+
+    /// Wakes the drivers that come soon; all, where one that has the turn isn't at hand.
+    fn wake(&self, turns: Turns) {
+        let mut left = turns.soon;
         for c in 0..CPUS {
-            doors.push(Door {
-                cpu: CpuId::at(c),
-                is_at_hand: AtomicBool::new(false),
-                bell: EventCount::new(),
-            })?;
-        }
-        let cpus = core.history().scenario().shape().cpus;
-        Ok(Hint {
-            next: AtomicU64::new(next_turns(core).bits),
-            doors,
-            most_looks: if cpus <= FEW_CPUS {
-                LONG_LOOK
-            } else {
-                SHORT_LOOK
-            },
-        })
-    }
-
-    /// These processors have the turn. Whoever calls it has the core in hand, so that the last call is right.
-    pub(crate) fn set_next(&self, next: CpuSet) {
-        self.next.store(next.bits, SeqCst);
-    }
-
-    /// The processors that may have the turn.
-    fn next(&self) -> CpuSet {
-        CpuSet {
-            bits: self.next.load(SeqCst),
-        }
-    }
-
-    /// Wakes the drivers of these processors. Where one of them has none at hand it wakes all drivers, so that they find
-    /// by turns of their own whether the run goes on.
-    pub(crate) fn wake(&self, cpus: CpuSet) {
-        for door in self.doors.as_slice() {
-            if door.is_of(cpus) {
-                if !door.is_at_hand.load(SeqCst) {
+            let cpu = CpuId::at(c);
+            if left.is_empty() {
+                return;
+            }
+            if left.has(cpu) {
+                if turns.next.has(cpu) && !self.is_at_hand(cpu) {
                     return self.wake_all();
                 }
-                door.bell.notify_one();
+                self.ring(cpu);
+                left = left.without(CpuSet::of(cpu));
             }
+        }
+    }
+
+    /// Wakes the driver of the processor.
+    fn ring(&self, cpu: CpuId) {
+        if let Some(door) = self.doors.get(cpu.index()) {
+            door.bell.notify_one();
         }
     }
 
@@ -166,11 +157,21 @@ impl Hint {
         }
     }
 
+    /// Whether a driver of the processor waits for its turn or takes it.
+    fn is_at_hand(&self, cpu: CpuId) -> bool {
+        match self.doors.get(cpu.index()) {
+            Some(door) => door.is_at_hand.load(SeqCst),
+            None => false,
+        }
+    }
+
     /// Notes for each of these processors whether a driver waits for its turn or takes it.
     pub(crate) fn set_at_hand(&self, cpus: CpuSet, is_at_hand: bool) {
-        for door in self.doors.as_slice() {
-            if door.is_of(cpus) {
-                door.is_at_hand.store(is_at_hand, SeqCst);
+        for c in 0..CPUS {
+            if cpus.has(CpuId::at(c)) {
+                if let Some(door) = self.doors.get(c) {
+                    door.is_at_hand.store(is_at_hand, SeqCst);
+                }
             }
         }
     }
@@ -178,27 +179,28 @@ impl Hint {
     /// The driver of these processors is gone. Where they may have the turn it wakes the others, who would wait in vain.
     pub(crate) fn leave(&self, cpus: CpuSet) {
         self.set_at_hand(cpus, false);
-        if self.next().meets(cpus) {
+        if self.turns().next.meets(cpus) {
             self.wake_all();
         }
     }
 
     /// Whether each processor that may have the turn has a driver at hand.
     fn has_drivers(&self) -> bool {
-        let next = self.next();
-        for door in self.doors.as_slice() {
-            if door.is_of(next) && !door.is_at_hand.load(SeqCst) {
+        let next = self.turns().next;
+        for c in 0..CPUS {
+            let cpu = CpuId::at(c);
+            if next.has(cpu) && !self.is_at_hand(cpu) {
                 return false;
             }
         }
         true
     }
 
-    /// Waits until the processor may have the turn: it looks for a while, and then sleeps. It comes back sooner where a
-    /// processor that may have the turn has no driver at hand.
+    /// Waits until the processor may have the turn: it looks for a while where its turn comes soon, and else sleeps. It
+    /// comes back sooner where a processor that may have the turn has no driver at hand.
     pub(crate) fn await_turn<R: Wait>(&self, rt: &R, cpu: CpuId) {
         for _ in rt.forever() {
-            if self.is_soon(cpu) {
+            if self.is_seen(cpu) {
                 return;
             }
             if !self.has_drivers() {
@@ -209,21 +211,37 @@ impl Hint {
         }
     }
 
-    /// Looks for a while whether the processor may have the turn.
-    fn is_soon(&self, cpu: CpuId) -> bool {
-        let mine = CpuSet::of(cpu);
-        let backoff = Backoff::new();
-        for _ in 0..self.most_looks {
-            if self.next().meets(mine) {
+    /// Looks whether the processor may have the turn, for as long as it comes soon, but no longer than a while.
+    fn is_seen(&self, cpu: CpuId) -> bool {
+        let mut last = self.turns();
+        let mut came = 0u32;
+        for _ in 0..MOST_LOOKS {
+            let turns = self.turns();
+            if turns.next.has(cpu) {
                 return true;
             }
-            if self.most_looks == LONG_LOOK {
-                hint::spin_loop();
-            } else {
-                backoff.snooze();
+            if !turns.soon.has(cpu) {
+                return false;
             }
+            if turns != last {
+                came = came.saturating_add(1);
+                last = turns;
+            }
+            hint::spin_loop();
         }
+        self.look_less(came);
         false
+    }
+
+    /// A driver has looked in vain while so many turns came. Where these are few, nobody looks for a while.
+    fn look_less(&self, came: u32) {
+        let board: &Board = &self.board;
+        if came < FEW_TURNS && board.pause.load(SeqCst) == 0 {
+            let pause = board.next_pause.load(SeqCst);
+            board.pause.store(pause, SeqCst);
+            let doubled = pause.saturating_mul(2).min(LONG_PAUSE);
+            board.next_pause.store(doubled, SeqCst);
+        }
     }
 
     /// Sleeps until somebody rings, unless the processor may have the turn by now.
@@ -232,7 +250,7 @@ impl Hint {
             return;
         };
         let key = door.bell.prepare_wait();
-        if !self.next().meets(CpuSet::of(cpu)) && self.has_drivers() {
+        if !self.turns().next.has(cpu) && self.has_drivers() {
             key.wait(rt);
         }
     }

@@ -3,11 +3,13 @@
 //! The threads that drive the seats stand above.
 #![tactic(auto)]
 
+mod cpu_set;
 mod dispatch;
 mod hint;
 pub mod laws;
 mod rule;
 mod seat;
+mod turns;
 mod view;
 mod words;
 

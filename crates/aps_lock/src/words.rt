@@ -7,14 +7,16 @@ ghost use Rattle.aps_lock.specs.Rule.{IsFor, IsServed, room};
 ghost use Rattle.aps_lock.specs.Seen.{IsSeenIn};
 ghost use Rattle.aps_lock.specs.declared.view.Ticket.TheVariants.{NoTicket, Served, Waiting};
 
-use crate::hint::{Hint, next_turns};
+use crate::hint::Hint;
 use crate::rule::{
     Both, Cut, CutAt, Look, Place, Publish, Release, SharedCore, Shown, TakeTicket, Tell, Witness,
 };
+use crate::turns::Turns;
 use aps_core::{Core, Turn};
 use aps_model::CpuId;
 use crossbeam_utils::Backoff;
 use std::marker::Brand;
+use std::snapshot::Snapshot;
 use std::sync::Wait;
 
 /// The word with the next ticket.
@@ -63,36 +65,42 @@ fn wait_served<R: Wait>(rt: &R, shared: &SharedCore, place: &mut Place, ticket: 
     unreachable!()
 }
 
-/// Moves the core out of its slot.
-fn take_core(shared: &SharedCore, place: &mut Place) -> Core
+/// Steps the core, which stays in its slot. The answer has the turn, how many entries the core has then, and who steps next;
+/// and the core as it is then, for the clauses.
+fn step_core(
+    shared: &SharedCore,
+    place: &mut Place,
+    hint: &Hint,
+    cpu: CpuId,
+) -> (Turn, u64, Turns, Snapshot<Core>)
     requires table { IsFor shared.now.table_id place.old.table_id }
-    requires held { (run : Run) × (place.old.me.1 ≡ (0, Some run) ∷ []) }
+    requires held { (run : Run) × (place.old.me.1 ≡ (0, Some run) ∷ []) × (cpu < run.setup.scenario.shape.cpus) }
     ensures table { place.new.table_id ≡ place.old.table_id }
-    ensures held { (place.old.me.1 ≡ (0, Some result) ∷ []) × (place.new.me ≡ (place.old.me.0, (0, None) ∷ [])) }
+    ensures held { (run : Run) × (place.old.me.1 ≡ (0, Some run) ∷ []) × IsTurn run cpu result.0
+        × (result.3.value ≡ after_turn run result.0)
+        × (place.new.me ≡ (place.old.me.0, (0, Some result.3.value) ∷ [])) }
+    ensures len { result.1 ≡ length result.3.value.entries }
+    ensures own { IsOwn cpu result.0 }
 {
-    shared.exchange(place, CORE, None).unwrap()
+    let Some(core) = place.slot_mut(shared, CORE) else {
+        unreachable!()
+    };
+    let turn = core.step(cpu);
+    let len = len_of(core);
+    let turns = hint.turns_after(core);
+    let run = Snapshot::of(core);
+    (turn, len, turns, run)
 }
 
-/// Moves the core home to its slot.
-fn put_core(shared: &SharedCore, place: &mut Place, core: Core)
-    requires table { IsFor shared.now.table_id place.old.table_id }
-    requires held { place.old.me.1 ≡ (0, None) ∷ [] }
-    ensures table { place.new.table_id ≡ place.old.table_id }
-    ensures held { place.new.me ≡ (place.old.me.0, (0, Some core) ∷ []) }
-{
-    match shared.exchange(place, CORE, Some(core)) {
-        None => {}
-        Some(_) => unreachable!(),
-    }
-}
-
-/// Publishes how many entries the core in hand has.
-fn publish<N: Shown>(shared: &SharedCore, place: &mut Place, _core: &Core, len: u64)
+/// Publishes how many entries the core in hand has, whose run this is.
+fn publish<N: Shown>(shared: &SharedCore, place: &mut Place, _run: &Snapshot<Core>, len: u64)
     requires table { IsFor shared.now.table_id place.old.table_id }
     requires seat { (place.old.me.0.live ≡ true) × IsServed place.old.me.0.ticket }
-    requires run { (N.run ≡ _core.now) × IsStepped place.old.me.0.first place.old.me.0.after place.old.me.0.seen _core.now × (len ≡ length _core.now.entries) }
+    requires run { (N.run ≡ _run.now.value)
+        × IsStepped place.old.me.0.first place.old.me.0.after place.old.me.0.seen _run.now.value
+        × (len ≡ length _run.now.value.entries) }
     ensures table { place.new.table_id ≡ place.old.table_id }
-    ensures seat { place.new.me ≡ (record place.old.me.0 { seen = _core.now }, place.old.me.1) }
+    ensures seat { place.new.me ≡ (record place.old.me.0 { seen = _run.now.value }, place.old.me.1) }
 {
     shared.swap::<Publish<N>>(place, LENGTH, len);
 }
@@ -107,8 +115,8 @@ fn release(shared: &SharedCore, place: &mut Place)
     shared.fetch_add::<Release>(place, SERVING, 1);
 }
 
-/// One step of the processor, from the ticket to the release, after which those are woken who may have the next turn. The
-/// second of the answer is the number of entries then.
+/// One step of the processor, from the ticket to the release, after which the next turns are told. The second of the
+/// answer is the number of entries then.
 pub(crate) fn turn_place<R: Wait>(
     rt: &R,
     shared: &SharedCore,
@@ -118,7 +126,8 @@ pub(crate) fn turn_place<R: Wait>(
 ) -> (Turn, u64)
     requires table { IsFor shared.now.table_id place.old.table_id }
     requires seat { (place.old.me.0.live ≡ true) × (place.old.me.0.ticket ≡ NoTicket) × (place.old.me.1 ≡ []) }
-    requires cpu { (place.old.me.0.first ≤ cpu) × (cpu < place.old.me.0.after) × (place.old.me.0.after ≤ place.old.me.0.seen.setup.scenario.shape.cpus) }
+    requires cpu { (place.old.me.0.first ≤ cpu) × (cpu < place.old.me.0.after)
+        × (place.old.me.0.after ≤ place.old.me.0.seen.setup.scenario.shape.cpus) }
     ensures table { place.new.table_id ≡ place.old.table_id }
     ensures seat { (found : Run) × IsSeenIn place.old.me.0.first place.old.me.0.after place.old.me.0.seen found
         × IsTurn found cpu result.0
@@ -128,15 +137,10 @@ pub(crate) fn turn_place<R: Wait>(
 {
     let ticket = take_ticket(shared, place);
     wait_served(rt, shared, place, ticket);
-    let mut core = take_core(shared, place);
-    let turn = core.step(cpu);
-    let len = len_of(&core);
-    let next = next_turns(&core);
-    hint.set_next(next);
-    publish::<Brand>(shared, place, &core, len);
-    put_core(shared, place, core);
+    let (turn, len, turns, run) = step_core(shared, place, hint, cpu);
+    publish::<Brand>(shared, place, &run, len);
     release(shared, place);
-    hint.wake(next);
+    hint.tell(turns);
     (turn, len)
 }
 
@@ -172,7 +176,8 @@ pub(crate) fn load_len(shared: &SharedCore, place: &mut Place) -> u64
     requires seat { (place.old.me.0.live ≡ true) × (place.old.me.1 ≡ []) }
     ensures table { place.new.table_id ≡ place.old.table_id }
     ensures seat { place.new.me ≡ place.old.me }
-    ensures seen { (run : Run) × IsSeenIn place.old.me.0.first place.old.me.0.after place.old.me.0.seen run × (result ≡ length run.entries) }
+    ensures seen { (run : Run) × IsSeenIn place.old.me.0.first place.old.me.0.after place.old.me.0.seen run
+        × (result ≡ length run.entries) }
 {
     shared.load::<Tell>(place, LENGTH)
 }
