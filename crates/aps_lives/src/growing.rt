@@ -179,7 +179,8 @@ fn keeps_on(aside: &Aside, core: &Core, state: &State, until: Nanos, from: Nanos
 fn close(lives: &mut Vec<Life>, aside: &Vec<Aside>, until: Nanos) -> Result<(), NoMemory>
     requires { length aside.now.items ≡ length lives.old.items }
     ensures count { length lives.new.items ≡ length lives.old.items }
-    ensures closed { OnOk result ((x : ℕ) → x < length lives.old.items → slice_index_or lives.new.items x [] ≡ told_of until lives.old.items aside.now.items x) }
+    ensures closed { OnOk result ((x : ℕ) → x < length lives.old.items
+        → slice_index_or lives.new.items x [] ≡ told_of until lives.old.items aside.now.items x) }
 {
     for x in 0..lives.len() {
         let Aside { from, doing } = aside[x];

@@ -1,6 +1,7 @@
 //! The lives of all threads of a history, made beside a core that makes its steps again.
-ghost use Rattle.std.specs.Prelude.{◌≡◌, ◌<◌, ◌≤◌, length, IfOk};
+ghost use Rattle.std.specs.Prelude.{◌≡◌, ◌<◌, ◌≤◌, [], length, replicate, IfOk, OnOk};
 ghost use Rattle.aps_model.specs.Legal.{IsLegal};
+ghost use Rattle.aps_model.specs.Valid.{IsScenario};
 ghost use Rattle.aps_core.specs.Turn.{IsTaken, with_entry};
 ghost use Rattle.aps_lives.specs.Life.{AreLives};
 
@@ -22,14 +23,31 @@ pub fn lives(alloc: Global, history: &History, order: Order) -> Result<Vec<Life>
     let limit = (entries.len() as u32).max(1);
     let mut lives = GrowingLives::unborn(alloc, scenario.threads().len())?;
     let mut core = Core::boot(alloc, scenario.copy(alloc)?, order, limit)?;
-    let mut moment = 0;
-    for e in entries {
-        lives.lengthen(&core, moment, e.to)?;
-        moment = e.to;
-        retrace(&mut core, e);
-    }
+    lengthen_all(&mut lives, &mut core, entries)?;
     let lives = lives.into_lives()?;
     Ok(lives)
+}
+
+/// The lives that have not begun go on with all entries, and the core makes their steps.
+fn lengthen_all(
+    lives: &mut GrowingLives,
+    core: &mut Core,
+    entries: &[Entry],
+) -> Result<(), NoMemory>
+    requires valid { IsScenario core.old.setup.scenario }
+    requires begun { core.old.entries ≡ [] }
+    requires legal { IsLegal core.old.setup.scenario core.old.setup.order entries.now }
+    requires room { length entries.now ≤ core.old.setup.limit }
+    requires unborn { lives.old ≡ replicate (length core.old.setup.scenario.threads) [] }
+    ensures { OnOk result (AreLives core.old.setup.scenario entries.now lives.new) }
+{
+    let mut moment = 0;
+    for e in entries {
+        lives.lengthen(core, moment, e.to)?;
+        moment = e.to;
+        retrace(core, e);
+    }
+    Ok(())
 }
 
 /// The core makes the step of which this is the entry.

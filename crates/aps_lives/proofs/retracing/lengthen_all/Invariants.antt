@@ -2,11 +2,11 @@ use Rattle.std.proofs.Common.{◌≡◌, take}
 use Rattle.aps_laws.specs.Moments.{moment}
 use Rattle.aps_lives.specs.Life.{AreLives}
 use Rattle.aps_lives.proofs.Retraced.{front}
-use Rattle.aps_lives.proofs.retracing.lives.Given as goal
+use Rattle.aps_lives.proofs.retracing.lengthen_all.Given as goal
 
 abbrev pub invariant-loop-e : goal.invariant-loop-e
 invariant-loop-e l = record {
-  core : l.core ≡ front l.history.scenario l.fn.order l.limit l.entries l.e-index;
-  lives : AreLives l.history.scenario (take l.e-index l.entries) l.lives;
+  core : l.core ≡ front l.fn.core.setup.scenario l.fn.core.setup.order l.fn.core.setup.limit l.entries l.e-index;
+  lives : AreLives l.fn.core.setup.scenario (take l.e-index l.entries) l.lives;
   moment : l.moment ≡ moment (take l.e-index l.entries);
 }
