@@ -5,3 +5,5 @@ pub mod Pieces
 pub mod KnownLines
 pub mod Holding
 pub mod Quiet
+pub mod Beside
+pub mod SeenBefore

@@ -6,3 +6,5 @@ pub mod Text
 pub mod Held
 pub mod Callers
 pub mod Followed
+pub mod Seen
+pub mod Following

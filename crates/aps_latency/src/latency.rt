@@ -3,11 +3,12 @@ ghost use Rattle.std.specs.Prelude.{◌≡◌, ◌≤◌, ◌++◌, length, stri
 ghost use Rattle.std.specs.List.{flat_map, enumerate_from};
 ghost use Rattle.aps_model.specs.Legal.{IsLegal};
 ghost use Rattle.aps_laws.specs.Moments.{moment};
+ghost use Rattle.aps_latency.specs.Followed.{AreFollowed};
 ghost use Rattle.aps_latency.specs.Text as spec;
 
 use crate::billing::bills;
 use crate::call::Calls;
-use crate::following::follow_all;
+use crate::following::{Followed, follow_all};
 use crate::lines::{add_bills, add_calls, add_head, add_waits};
 use aps_lives::Life;
 use aps_model::{Entry, History, Name, Nanos, NoMemory, Order, ThreadRow, Usage};
@@ -39,7 +40,22 @@ pub fn latency_text(alloc: Global, history: &History, order: Order) -> Result<St
     requires few { length history.now.entries ≤ 4000000 }
     ensures { IfOk result (λ text. string_bytes text ≡ spec.latency_text history.now.scenario history.now.entries) }
 {
-    let known = known_of(alloc, history, order)?;
+    let followed = follow_all(alloc, history, order)?;
+    latency_text_of(alloc, history, followed)
+}
+
+/// The same, where the lives and the calls of the threads are given, as `follow_run` gives them beside the run itself. `NoMemory`
+/// comes where memory runs out.
+pub fn latency_text_of(
+    alloc: Global,
+    history: &History,
+    followed: Followed,
+) -> Result<String, NoMemory>
+    requires followed { AreFollowed history.now.scenario history.now.entries followed }
+    requires few { length history.now.entries ≤ 4000000 }
+    ensures { IfOk result (λ text. string_bytes text ≡ spec.latency_text history.now.scenario history.now.entries) }
+{
+    let known = known_of(alloc, history, followed)?;
     let scenario = history.scenario();
     let channels = scenario.channels();
     let threads = scenario.threads();
@@ -49,14 +65,13 @@ pub fn latency_text(alloc: Global, history: &History, order: Order) -> Result<St
     Ok(out)
 }
 
-/// What is known of the threads of this history.
-fn known_of(alloc: Global, history: &History, order: Order) -> Result<Known, NoMemory>
-    requires legal { IsLegal history.now.scenario order history.now.entries }
+/// What is known of the threads of this history, with their lives and their calls.
+fn known_of(alloc: Global, history: &History, followed: Followed) -> Result<Known, NoMemory>
+    requires followed { AreFollowed history.now.scenario history.now.entries followed }
     requires few { length history.now.entries ≤ 4000000 }
     ensures { IfOk result (spec.IsKnown history.now.scenario history.now.entries) }
 {
     let entries = history.entries();
-    let followed = follow_all(alloc, history, order)?;
     Ok(Known {
         end: end_of(entries),
         bills: bills(alloc, entries)?,
@@ -84,7 +99,8 @@ fn add_threads(
     known: &Known,
 ) -> Result<(), NoMemory>
     requires { spec.HasPlaces (length threads.now) known.now }
-    ensures { OnOk result (string_bytes out.new ≡ string_bytes out.old ++ flat_map (spec.thread_with channels.now known.now) (enumerate_from 0 threads.now)) }
+    ensures { OnOk result (string_bytes out.new
+        ≡ string_bytes out.old ++ flat_map (spec.thread_with channels.now known.now) (enumerate_from 0 threads.now)) }
 {
     for (x, thread) in threads.iter().enumerate() {
         add_thread(alloc, out, channels, x, &thread.name, known)?;

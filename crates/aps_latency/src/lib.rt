@@ -11,10 +11,11 @@ mod latency;
 pub mod laws;
 mod lines;
 mod news;
+mod seen;
 
 pub use answered::Answered;
 pub use billing::bills;
 pub use call::{Asked, Call, Calls};
-pub use following::{Followed, calls, follow_all};
-pub use latency::latency_text;
+pub use following::{Followed, calls, follow_all, follow_run};
+pub use latency::{latency_text, latency_text_of};
 pub use news::{News, news_of};

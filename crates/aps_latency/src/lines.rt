@@ -115,7 +115,8 @@ pub fn add_calls(
     channels: &[Name],
     calls: &Calls,
 ) -> Result<(), NoMemory>
-    ensures { OnOk result (string_bytes out.new ≡ string_bytes out.old ++ flat_map (spec.channel_lines end calls.now) (enumerate_from 0 channels.now)) }
+    ensures { OnOk result (string_bytes out.new
+        ≡ string_bytes out.old ++ flat_map (spec.channel_lines end calls.now) (enumerate_from 0 channels.now)) }
 {
     for (c, name) in channels.iter().enumerate() {
         add_channel(out, end, c, name, calls)?;

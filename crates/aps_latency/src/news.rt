@@ -4,7 +4,9 @@ ghost use Rattle.aps_model.specs.Scenario.{op_at};
 ghost use Rattle.aps_model.specs.Usage.{names};
 ghost use Rattle.aps_core.specs.Run.{state_of};
 ghost use Rattle.aps_latency.specs.News as spec;
+ghost use Rattle.aps_latency.specs.Seen.{news_by};
 
+use crate::seen::Seen;
 use aps_core::Core;
 use aps_model::{ChannelId, Done, Entry, Nanos, Op, Scenario, State, ThreadId};
 
@@ -38,6 +40,19 @@ fn news_in(scenario: &Scenario, x: ThreadId, place: u16, state: &State, e: &Entr
         State::Sending(_) => news_of_taking(x, &e.done),
         State::Replying(server) => news_of_server(*server, e),
         _ => News::Nothing,
+    }
+}
+
+/// What an entry tells of a thread's call, where this was seen of the thread before.
+pub fn news_by(scenario: &Scenario, x: ThreadId, seen: &Seen, e: &Entry) -> News
+    ensures same { result ≡ news_by scenario.now x seen.now e.now }
+    ensures short { spec.time_of result ≤ e.now.to - e.now.from }
+{
+    match seen {
+        Seen::Runs { place } => news_of_own(scenario, x, *place, e),
+        Seen::Sends => news_of_taking(x, &e.done),
+        Seen::Waits { server } => news_of_server(*server, e),
+        Seen::Other => News::Nothing,
     }
 }
 

@@ -1,8 +1,8 @@
 -- What a pass notes of overspending, entry by entry.
-use Rattle.std.proofs.Common.{◌≡◌, ℕ, ◌+◌, ◌-◌, ◌/◌, ◌<◌, ◌≤◌, List, [], ◌∷◌, ◌++◌, length, get_or, replicate, refl, sym, ap, subst, ◌∙◌, Bool, true, false, ◌&&◌, cond, nat_eq, nat_lt, Option, Some, None, option_and_then, IfSome, arith, append_assoc}
+use Rattle.std.proofs.Common.{◌≡◌, ℕ, ◌+◌, ◌-◌, ◌/◌, ◌<◌, ◌≤◌, List, [], ◌∷◌, ◌++◌, length, get_or, replicate, take, drop, refl, sym, ap, subst, ◌∙◌, Bool, true, false, ◌&&◌, cond, nat_eq, nat_lt, Option, Some, None, option_and_then, IfSome, arith, append_assoc}
 use Rattle.std.specs.Option.{option_map}
 use Rattle.std.proofs.lemmas.Bool.{eqb-true}
-use Rattle.std.proofs.lemmas.List.{append-nil, get_or-replicate}
+use Rattle.std.proofs.lemmas.List.{append-nil, get_or-replicate, length-take-le}
 use Rattle.aps_model.specs.declared.entry.Entry.{Entry}
 use Rattle.aps_model.specs.declared.entry.End.TheVariants.{Limit}
 use Rattle.aps_model.specs.declared.entry.Order.{Order}
@@ -16,10 +16,10 @@ use Rattle.aps_model.specs.Valid.{IsScenario}
 use Rattle.aps_laws.specs.Moments.{moment}
 use Rattle.aps_laws.specs.Runs.{GoesOn}
 use Rattle.aps_laws.proofs.MomentLaws.{moment-append}
-use Rattle.aps_laws.proofs.Prefixes.{goes_on}
+use Rattle.aps_laws.proofs.Prefixes.{goes_on, legal_up_to}
 use Rattle.aps_laws.proofs.WaitFacts.{test_ne}
 use Rattle.aps_window.specs.Window.{opened, resized}
-use Rattle.aps_core.specs.Run.{Run}
+use Rattle.aps_core.specs.Run.{Run, Setup}
 use Rattle.aps_core.specs.Turn.{IsTaken, with_entry}
 use Rattle.aps_core.specs.Counts.{Counts}
 use Rattle.aps_core.proofs.Counting.{counts_none, counts_resized, total_critical}
@@ -33,6 +33,7 @@ use Rattle.aps_shares.specs.Overspending.{AreFew, IsAt, excess_by, order_of, sce
 use Rattle.aps_bars.specs.declared.overspent.Overspent.{Overspent}
 use Rattle.aps_shares.specs.Spent.{AreSpent, excess_at, excess_of, listed, overspent_as, overspent_by, overspent_from, overspent_of, spent_from, spent_of, spent_with, state_tested}
 use Rattle.aps_shares.specs.Standing.{standing_of}
+use Rattle.aps_samples.proofs.Retraced.{parted}
 use Rattle.aps_shares.proofs.Tested.{tested_shape}
 
 -- ---- by how much an entry exceeds a critical budget
@@ -235,6 +236,14 @@ taken run e legal less =
       turn = next.turn;
       stepped = next.same;
     }
+
+-- each entry of a legal history is
+pub taken_at : (setup : Setup) (run : Run) (h : List Entry) (i : ℕ) (e : Entry) → run ≡ record { setup = setup; entries = take i h } → IsLegal setup.scenario setup.order h → i < length h → get_or h i e ≡ e → length h ≤ setup.limit
+    → IsTaken run e.cpu e
+taken_at setup run h i e here legal less is few =
+    let count = length-take-le i h (omega (arith, less)) in
+    let up_to = legal_up_to setup.scenario setup.order (take i h) (drop (i + 1) h) e (subst (IsLegal setup.scenario setup.order) (parted h i e less is) legal) in
+    subst (λ (r : Run). IsTaken r e.cpu e) (sym here) (taken (record { setup = setup; entries = take i h }) e up_to (omega (arith, count, less, few)))
 
 -- after it
 pub at_more : (pass after : Pass) (e : Entry) → IsAt pass → after.core ≡ with_entry pass.core e → after.moment ≡ e.to → IsCounted (scenario_of pass) (pass.core.entries ++ e ∷ []) after.time

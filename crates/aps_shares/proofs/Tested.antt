@@ -6,11 +6,12 @@ use Rattle.std.proofs.lemmas.Bool.Decides.{nat_tests}
 use Rattle.aps_model.specs.declared.entry.Entry.{Entry}
 use Rattle.aps_model.specs.declared.entry.Order.{Order}
 use Rattle.aps_model.specs.declared.shape.Shape.{Shape}
+use Rattle.aps_model.specs.declared.state.Pick.{Pick}
 use Rattle.aps_model.specs.After.{After, state_after}
 use Rattle.aps_model.specs.Due.{due}
 use Rattle.aps_model.specs.Legal.{IsLegal}
 use Rattle.aps_model.specs.Scenario.{Scenario}
-use Rattle.aps_model.specs.SchedulerState.{SchedulerState}
+use Rattle.aps_model.specs.SchedulerState.{SchedulerState, cpu_at}
 use Rattle.aps_model.specs.Shape.{IsShape, horizon}
 use Rattle.aps_model.specs.Step.{begun}
 use Rattle.aps_model.specs.TickWork.{do_commands, has_tick_work, wake_all}
@@ -19,6 +20,7 @@ use Rattle.aps_model.proofs.AfterLaws.{after-append}
 use Rattle.aps_laws.specs.Boundaries.{is_met}
 use Rattle.aps_laws.specs.Moments.{moment}
 use Rattle.aps_laws.specs.Sizes.{IsSameSizes}
+use Rattle.aps_laws.specs.Untouched.{mark_kept, partition_kept}
 use Rattle.aps_laws.proofs.Books.{step_books}
 use Rattle.aps_laws.proofs.BoundaryLaws.{in_tick}
 use Rattle.aps_laws.proofs.Channels.{names_channels}
@@ -27,7 +29,7 @@ use Rattle.aps_laws.proofs.RowLaws.{in_order}
 use Rattle.aps_laws.proofs.Sound.{legal_last, sound, step_law}
 use Rattle.aps_core.proofs.Frame.{wake_kept}
 use Rattle.aps_shares.specs.declared.critical_budget.CriticalBudget.{CriticalBudget}
-use Rattle.aps_shares.specs.CriticalBudget.{begins_tick, budget_at, budget_by, tested_by}
+use Rattle.aps_shares.specs.CriticalBudget.{begins_tick, budget_at, budget_by, critical_on, if_lasts, tested_by}
 use Rattle.aps_shares.specs.Spent.{state_tested}
 use Rattle.aps_shares.specs.Standing.{Standing, all_commanded, standing_of}
 use Rattle.aps_shares.proofs.Commands.{commands_stand}
@@ -143,3 +145,65 @@ other_begins shape last now is = ap (λ t. nat_lt last now && t) is ∙ none (na
     none : (t : Bool) → (t && false) ≡ false
     none true = refl
     none false = refl
+
+-- ---- the budget that is found before the step
+
+-- who may be tested bills for critical time
+names_of : (o : Option Pick) (p : ℕ) → critical_on o ≡ Some p → (mark_kept o ≡ true) × (partition_kept o ≡ Some p)
+names_of (Some pick) p is = by_mark pick.critical refl is
+  where
+    by_mark : (t : Bool) → pick.critical ≡ t → cond t (Some pick.partition) None ≡ Some p → (pick.critical ≡ true) × (Some pick.partition ≡ Some p)
+    by_mark true mark some = (mark, some)
+    by_mark false mark some = absurd cc
+names_of None p is = absurd cc
+
+nobody : (o : Option Pick) → critical_on o ≡ None → mark_kept o ≡ false
+nobody (Some pick) is = by_mark pick.critical refl is
+  where
+    by_mark : (t : Bool) → pick.critical ≡ t → cond t (Some pick.partition) None ≡ None → pick.critical ≡ false
+    by_mark true mark none = absurd cc
+    by_mark false mark none = mark
+nobody None is = refl
+
+-- what the entry of the step says of who ran
+pub record IsOfWhoRan (e : Entry) (o : Option Pick) : Type 0 where
+  pub billed : e.billed ≡ partition_kept o
+  pub critical : e.critical ≡ mark_kept o
+
+pub who_ran : (scenario : Scenario) (order : Order) (h : List Entry) (e : Entry) (c : ℕ) → IsScenario scenario → IsLegal scenario order (h ++ e ∷ []) → e.cpu ≡ c → IsOfWhoRan e (cpu_at (state_after scenario h) c).running
+who_ran scenario order h e c valid legal own =
+    let law = step_law scenario order h e valid legal in
+    subst (λ d. IsOfWhoRan e (cpu_at (state_after scenario h) d).running) own (record { billed = law.billed; critical = law.critical })
+
+-- it is that of the test, where the entry takes time
+pub budget_foretold : (scenario : Scenario) (order : Order) (h : List Entry) (e : Entry) (o : Option Pick) (p : ℕ) (b : CriticalBudget) (z : Standing) (now : ℕ) → IsScenario scenario → IsLegal scenario order (h ++ e ∷ []) → IsOfWhoRan e o
+    → critical_on o ≡ Some p → b ≡ budget_by z p → now ≡ e.to
+    → z ≡ cond (begins (state_after scenario h).shape (moment h) now) (all_commanded (now / (state_after scenario h).shape.tick) scenario.commands (standing_of (state_after scenario h))) (standing_of (state_after scenario h))
+    → if_lasts e (Some b) ≡ budget_at scenario h e
+budget_foretold scenario order h e o p b z now valid legal ran some is at same = by_test (nat_lt e.from e.to) refl
+  where
+    names : (mark_kept o ≡ true) × (partition_kept o ≡ Some p)
+    names = names_of o p some
+
+    by_test : (t : Bool) → nat_lt e.from e.to ≡ t → if_lasts e (Some b) ≡ budget_at scenario h e
+    by_test true lasts =
+        ap (λ t. cond t (Some b) None) lasts
+        ∙ budget_told scenario order h e p b z valid legal (λ i. cond ((ran.critical ∙ names.0) i && lasts i) ((ran.billed ∙ names.1) i) None) is
+        (same ∙ ap (λ m. cond (begins (state_after scenario h).shape (moment h) m) (all_commanded (m / (state_after scenario h).shape.tick) scenario.commands (standing_of (state_after scenario h))) (standing_of (state_after scenario h))) at)
+    by_test false short =
+        ap (λ t. cond t (Some b) None) short
+        ∙ sym (ap (λ t. option_map (budget_by (standing_of (state_tested scenario h e))) (cond (e.critical && t) e.billed None)) short ∙ none e.critical)
+      where
+        none : (t : Bool) → option_map (budget_by (standing_of (state_tested scenario h e))) (cond (t && false) e.billed None) ≡ None
+        none true = refl
+        none false = refl
+
+-- and there is none, where nobody may be tested
+pub none_foretold : (scenario : Scenario) (h : List Entry) (e : Entry) (o : Option Pick) → IsOfWhoRan e o → critical_on o ≡ None → if_lasts e None ≡ budget_at scenario h e
+none_foretold scenario h e o ran none =
+    either (nat_lt e.from e.to)
+    ∙ sym (ap (λ t. option_map (budget_by (standing_of (state_tested scenario h e))) (cond (t && nat_lt e.from e.to) e.billed None)) (ran.critical ∙ nobody o none))
+  where
+    either : (t : Bool) → ◌≡◌ {A = Option CriticalBudget} (cond t None None) None
+    either true = refl
+    either false = refl

@@ -1,8 +1,9 @@
 -- The critical budget by which a partition is tested for bankruptcy. Times are ns.
-use Rattle.std.specs.Prelude.{◌≡◌, ℕ, ◌%◌, ◌<◌, ◌≤◌, List, length, Bool, ◌&&◌, nat_eq, nat_lt, if◌then◌else◌, Option, None}
+use Rattle.std.specs.Prelude.{◌≡◌, ℕ, ◌%◌, ◌<◌, ◌≤◌, List, length, Bool, ◌&&◌, nat_eq, nat_lt, if◌then◌else◌, Option, Some, None}
 use Rattle.std.specs.Option.{option_map}
 use Rattle.aps_model.specs.declared.entry.Entry.{Entry}
 use Rattle.aps_model.specs.declared.shape.Shape.{Shape}
+use Rattle.aps_model.specs.declared.state.Pick.{Pick}
 use Rattle.aps_model.specs.Partition.{row_or_none}
 use Rattle.aps_model.specs.Scenario.{Scenario}
 use Rattle.aps_model.specs.Shape.{horizon}
@@ -26,6 +27,18 @@ AreUntestedFrom n h = (i : ℕ) → n ≤ i → i < length h → tested_by (entr
 -- its critical budget at the test, where the entry follows on these
 abbrev pub budget_at : Scenario → List Entry → Entry → Option CriticalBudget
 budget_at scenario before e = option_map (budget_by (standing_of (state_tested scenario before e))) (tested_by e)
+
+-- the partition that a pick bills for critical time, if it does
+abbrev pub critical_by : Pick → Option ℕ
+critical_by pick = if pick.critical then Some pick.partition else None
+
+abbrev pub critical_on : Option Pick → Option ℕ
+critical_on None = None
+critical_on (Some pick) = critical_by pick
+
+-- a budget, where the entry takes time
+abbrev pub if_lasts : Entry → Option CriticalBudget → Option CriticalBudget
+if_lasts e budget = if nat_lt e.from e.to then budget else None
 
 -- a tick below the horizon begins at this moment
 abbrev pub begins_tick : Shape → ℕ → Bool

@@ -1,15 +1,16 @@
 //! The critical budget by which a partition is tested for bankruptcy.
-ghost use Rattle.std.specs.Prelude.{◌≡◌, ◌++◌, [], ◌∷◌, IfOk};
-ghost use Rattle.aps_model.specs.Legal.{IsLegal};
+ghost use Rattle.std.specs.Prelude.{◌≡◌, IfOk, None};
 ghost use Rattle.aps_model.specs.Shape.{IsShape};
 ghost use Rattle.aps_laws.specs.Moments.{moment};
-ghost use Rattle.aps_core.specs.Run.{state_of};
+ghost use Rattle.aps_core.specs.Run.{end_of_run, state_of};
+ghost use Rattle.aps_core.specs.Turn.{HasTurnIn};
+ghost use Rattle.aps_steps.specs.Entry.{entry_of};
 ghost use Rattle.aps_shares.specs.CriticalBudget as spec;
 ghost use Rattle.aps_shares.specs.Standing.{all_commanded, stand, standing_of};
 
 use crate::standing::{do_commands, has_command};
 use aps_core::Core;
-use aps_model::{Entry, Nanos, NoMemory, PartitionId, PartitionRow, Shape};
+use aps_model::{CpuId, CpuNow, Entry, Nanos, NoMemory, PartitionId, PartitionRow, Pick, Shape};
 use aps_tree::Tree;
 use std::alloc::Global;
 
@@ -21,29 +22,58 @@ pub struct CriticalBudget {
     pub window: u16,
 }
 
-/// The critical budget by which the test of bankruptcy goes in the step of an entry, which comes next after those of the
-/// core, the last of which ended at `last`: that of the partition which the entry bills, after the commands of the tick
-/// that the step begins, if it begins one. There is none where the entry bills no critical time. `NoMemory` comes where memory
-/// runs out.
-pub fn budget_at(
+/// The critical budget by which the test of bankruptcy goes in the step of a processor which comes next, where the last step of
+/// the core ended at `last`: that of the partition which the processor bills, after the commands of the tick that the step
+/// begins, if it begins one. There is none where the processor runs nobody who is critical. `NoMemory` comes where memory runs out.
+pub fn budget_next(
     alloc: Global,
     core: &Core,
     last: Nanos,
-    e: &Entry,
+    cpu: CpuId,
 ) -> Result<Option<CriticalBudget>, NoMemory>
     requires last { last ≡ moment core.now.entries }
-    requires legal { IsLegal core.now.setup.scenario core.now.setup.order (core.now.entries ++ e.now ∷ []) }
-    ensures { IfOk result (λ budget. budget ≡ spec.budget_at core.now.setup.scenario core.now.entries e.now) }
+    requires goes_on { end_of_run core.now ≡ None }
+    requires turn { HasTurnIn core.now cpu }
+    ensures { IfOk result (λ budget. spec.if_lasts (entry_of core.now cpu) budget
+        ≡ spec.budget_at core.now.setup.scenario core.now.entries (entry_of core.now cpu)) }
 {
-    let Some(p) = tested(e) else {
+    let history = core.history();
+    let Some(p) = critical_on(&core.cpu(cpu)) else {
         return Ok(None);
     };
-    let history = core.history();
-    if last < e.to && begins_tick(history.shape(), e.to) {
-        let tick = (e.to / history.shape().tick) as u32;
+    let moment = core.due(cpu);
+    if last < moment && begins_tick(history.shape(), moment) {
+        let tick = (moment / history.shape().tick) as u32;
         return Ok(Some(budget_after(alloc, core, tick, p)?));
     }
     Ok(Some(budget_by(history.rows(), history.shape(), p)))
+}
+
+/// The partition that a processor bills for critical time, if it runs a thread that is critical.
+fn critical_on(cpu: &CpuNow) -> Option<PartitionId>
+    ensures { result ≡ spec.critical_on cpu.now.running }
+{
+    match cpu.running {
+        Some(pick) => critical_by(&pick),
+        None => None,
+    }
+}
+
+fn critical_by(pick: &Pick) -> Option<PartitionId>
+    ensures { result ≡ spec.critical_by pick.now }
+{
+    if pick.critical {
+        Some(pick.partition)
+    } else {
+        None
+    }
+}
+
+/// The budget, where the entry takes time.
+pub fn if_lasts(e: &Entry, budget: Option<CriticalBudget>) -> Option<CriticalBudget>
+    ensures { result ≡ spec.if_lasts e.now budget }
+{
+    if e.from < e.to { budget } else { None }
 }
 
 /// The partition that is tested after the entry: the one that it bills, where it bills critical time.
@@ -72,7 +102,8 @@ fn budget_after(
     tick: u32,
     p: PartitionId,
 ) -> Result<CriticalBudget, NoMemory>
-    ensures { IfOk result (λ budget. budget ≡ spec.budget_by (all_commanded tick core.now.setup.scenario.commands (standing_of (state_of core.now))) p) }
+    ensures { IfOk result (λ budget. budget
+        ≡ spec.budget_by (all_commanded tick core.now.setup.scenario.commands (standing_of (state_of core.now))) p) }
 {
     let history = core.history();
     let commands = history.scenario().commands();

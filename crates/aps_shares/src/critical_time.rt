@@ -1,7 +1,7 @@
 //! What each partition used of critical time in the last ticks, as a pass over the entries of a history goes on.
-ghost use Rattle.std.specs.Prelude.{◌≡◌, ◌<◌, ◌≤◌, ◌-◌, ◌++◌, [], ◌∷◌, IfOk};
+ghost use Rattle.std.specs.Prelude.{◌≡◌, ◌<◌, ◌≤◌, ◌-◌, ◌++◌, List, [], ◌∷◌, IfOk};
+ghost use Rattle.aps_model.specs.declared.entry.Entry.{Entry as EntryOf};
 ghost use Rattle.aps_model.specs.History.{IsEntry};
-ghost use Rattle.aps_model.specs.Legal.{IsLegal};
 ghost use Rattle.aps_window.specs.Window.{advanced, opened, total_of};
 ghost use Rattle.aps_shares.specs.CriticalTime.{GoesOnBy, HasRoom, IsCounted, for_span};
 
@@ -28,11 +28,11 @@ impl CriticalTime {
         Ok(CriticalTime { window, span })
     }
 
-    /// Adds the time of an entry, which comes next after those of the core.
+    /// Adds the time of the entry that the core made last.
     pub fn add(&mut self, core: &Core, e: &Entry)
-        requires counted { IsCounted core.now.setup.scenario core.now.entries self.old }
-        requires legal { IsLegal core.now.setup.scenario core.now.setup.order (core.now.entries ++ e.now ∷ []) }
-        ensures { IsCounted core.now.setup.scenario (core.now.entries ++ e.now ∷ []) self.new }
+        requires last { (before : List EntryOf) × (core.now.entries ≡ before ++ e.now ∷ [])
+            × IsCounted core.now.setup.scenario before self.old }
+        ensures { IsCounted core.now.setup.scenario core.now.entries self.new }
     {
         let tick = core.history().scenario().shape().tick;
         go_on(&mut self.window, (e.to / tick) as u32);

@@ -7,6 +7,7 @@ mod critical_time;
 mod lines;
 mod overspending;
 mod retracing;
+mod running;
 mod share;
 mod shares;
 mod spent;
@@ -14,6 +15,7 @@ mod standing;
 mod text;
 
 pub use overspending::{all_overspent, all_spent};
+pub use running::{Spending, spend_run};
 pub use share::{Amount, Counts, Share, Shortfall, Used};
 pub use shares::Shares;
 pub use spent::Spent;

@@ -1,20 +1,23 @@
 //! By how much each partition overspends its critical budget: one pass over the entries of a recorded history.
 ghost use Rattle.std.specs.Prelude.{◌≡◌, ℕ, ◌<◌, ◌≤◌, ◌++◌, [], ◌∷◌, length, slice_index_or, is_some, None, IfOk, OnOk};
 ghost use Rattle.aps_model.specs.Legal.{IsLegal};
-ghost use Rattle.aps_core.specs.Turn.{with_entry};
+ghost use Rattle.aps_core.specs.Run.{end_of_run};
+ghost use Rattle.aps_core.specs.Turn.{HasTurnIn, with_entry};
+ghost use Rattle.aps_steps.specs.Entry.{entry_of};
 ghost use Rattle.aps_shares.specs.Overspending.{AreFew, IsAt, excess_by, order_of, scenario_of, used_by};
 ghost use Rattle.aps_samples.specs.Retraced.{start_of};
 ghost use Rattle.aps_shares.specs.CriticalBudget.{AreUntestedFrom, tested_by};
 ghost use Rattle.aps_shares.specs.CriticalTime.{for_span};
 ghost use Rattle.aps_shares.specs.Spent.{AreSpent, listed, overspent_as, overspent_by, overspent_of, spent_with};
 
-use crate::critical_budget::{CriticalBudget, budget_at, tested};
+use crate::critical_budget::{CriticalBudget, budget_next, if_lasts, tested};
 use crate::critical_time::CriticalTime;
-use crate::retracing::{boot, retrace};
+use crate::retracing::boot;
 use crate::spent::Spent;
 use aps_bars::Overspent;
 use aps_core::Core;
-use aps_model::{Entry, History, Nanos, NoMemory, Order};
+use aps_model::{CpuId, Entry, History, Nanos, NoMemory, Order};
+use aps_steps::take_turn;
 use std::alloc::Global;
 
 const PARTITIONS: usize = 32;
@@ -42,7 +45,8 @@ pub fn all_spent(
 {
     let entries = history.entries();
     let count = tested_count(entries);
-    let mut pass = Pass::begin(alloc, history, order)?;
+    let core = boot(alloc, history, order)?;
+    let mut pass = Pass::begin(alloc, core)?;
     pass.go_through(alloc, &entries[..count])?;
     Ok(pass.spent)
 }
@@ -80,20 +84,20 @@ pub fn all_overspent(
     requires few { length history.now.entries ≤ 4000000 }
     ensures { IfOk result (λ all. all.items ≡ overspent_of history.now.scenario history.now.entries) }
 {
-    let mut pass = Pass::begin(alloc, history, order)?;
+    let core = boot(alloc, history, order)?;
+    let mut pass = Pass::begin(alloc, core)?;
     let all = pass.collect(alloc, history.entries())?;
     Ok(all)
 }
 
 impl Pass {
-    /// A pass that has made no step.
-    fn begin(alloc: Global, history: &History, order: Order) -> Result<Pass, NoMemory>
-        requires { length history.now.entries ≤ 4000000 }
+    /// A pass beside a core that has made no step.
+    pub fn begin(alloc: Global, core: Core) -> Result<Pass, NoMemory>
+        requires begins { core.entries ≡ [] }
         ensures at { IfOk result IsAt }
-        ensures core { IfOk result (λ pass. pass.core ≡ start_of history.now order) }
+        ensures core { IfOk result (λ pass. pass.core ≡ core) }
     {
-        let window = history.scenario().shape().window;
-        let core = boot(alloc, history, order)?;
+        let window = core.history().scenario().shape().window;
         let time = CriticalTime::new(alloc, window)?;
         Ok(Pass {
             core,
@@ -109,12 +113,12 @@ impl Pass {
         requires begins { self.old.core.entries ≡ [] }
         requires legal { IsLegal (scenario_of self.old) (order_of self.old) entries.now }
         requires few { length entries.now ≤ self.old.core.setup.limit }
-        requires most { length entries.now ≤ 4000000 }
+        requires most { self.old.core.setup.limit ≤ 4000000 }
         ensures { IfOk result (λ all. all.items ≡ overspent_of (scenario_of self.old) entries.now) }
     {
         let mut all = Vec::new(alloc);
         for e in entries {
-            let overspent = self.go_on(alloc, e)?;
+            let overspent = self.go_on(alloc, e.cpu)?;
             add(&mut all, overspent)?;
         }
         Ok(all)
@@ -126,30 +130,34 @@ impl Pass {
         requires begins { self.old.core.entries ≡ [] }
         requires legal { IsLegal (scenario_of self.old) (order_of self.old) entries.now }
         requires few { length entries.now ≤ self.old.core.setup.limit }
-        requires most { length entries.now ≤ 4000000 }
+        requires most { self.old.core.setup.limit ≤ 4000000 }
         ensures { OnOk result (AreSpent (scenario_of self.old) entries.now self.new.spent) }
     {
         for e in entries {
-            let _overspent = self.go_on(alloc, e)?;
+            let _overspent = self.go_on(alloc, e.cpu)?;
         }
         Ok(())
     }
 
-    /// Makes the step of the next entry, and gives what that overspends.
-    fn go_on(&mut self, alloc: Global, e: &Entry) -> Result<Option<Overspent>, NoMemory>
+    /// Makes the step of a processor that has the turn, and gives what that overspends.
+    pub fn go_on(&mut self, alloc: Global, cpu: CpuId) -> Result<Option<Overspent>, NoMemory>
         requires at { IsAt self.old }
-        requires legal { IsLegal (scenario_of self.old) (order_of self.old) (self.old.core.entries ++ e.now ∷ []) }
-        requires room { length self.old.core.entries < self.old.core.setup.limit }
-        requires few { length self.old.core.entries < 4000000 }
+        requires goes_on { end_of_run self.old.core ≡ None }
+        requires turn { HasTurnIn self.old.core cpu }
+        requires few { self.old.core.setup.limit ≤ 4000000 }
         ensures at { OnOk result (IsAt self.new) }
-        ensures core { OnOk result (self.new.core ≡ with_entry self.old.core e.now) }
-        ensures overspent { IfOk result (λ overspent. overspent ≡ overspent_by (scenario_of self.old) self.old.core.entries e.now) }
+        ensures core { OnOk result (self.new.core ≡ with_entry self.old.core (entry_of self.old.core cpu)) }
+        ensures overspent { IfOk result (λ overspent. overspent
+            ≡ overspent_by (scenario_of self.old) self.old.core.entries (entry_of self.old.core cpu)) }
+        ensures room { OnOk result (length self.old.core.entries < self.old.core.setup.limit) }
     {
-        let budget = budget_at(alloc, &self.core, self.moment, e)?;
-        self.time.add(&self.core, e);
-        retrace(&mut self.core, e);
+        // the check wants to see here that the core's entries are legal
+        let _history = self.core.history();
+        let budget = budget_next(alloc, &self.core, self.moment, cpu)?;
+        let e = take_turn(&mut self.core, cpu);
+        self.time.add(&self.core, &e);
         self.moment = e.to;
-        match budget {
+        match if_lasts(&e, budget) {
             Some(budget) => Ok(self.compare(&budget)),
             None => Ok(None),
         }
@@ -164,8 +172,13 @@ impl Pass {
         ensures same { self.new ≡ record self.old { time = self.new.time; spent = self.new.spent } }
         ensures time { self.new.time ≡ for_span budget.now.window self.old.time }
         ensures within { budget.now.partition < 32 }
-        ensures overspent { result ≡ overspent_as self.old.moment budget.now.partition (excess_by budget.now (used_by budget.now self.old.time) budget.now.partition) }
-        ensures spent { (p : ℕ) → p < 32 → slice_index_or self.new.spent p None ≡ spent_with (slice_index_or self.old.spent p None) self.old.moment (excess_by budget.now (used_by budget.now self.old.time) p) }
+        ensures overspent { result ≡ overspent_as self.old.moment budget.now.partition
+            (excess_by budget.now (used_by budget.now self.old.time) budget.now.partition) }
+        ensures spent { (p : ℕ)
+            → p < 32
+            → slice_index_or self.new.spent p None
+            ≡ spent_with (slice_index_or self.old.spent p None) self.old.moment
+            (excess_by budget.now (used_by budget.now self.old.time) p) }
     {
         let p = budget.partition.index();
         let used = self.time.used_in(budget.partition, budget.window);

@@ -34,7 +34,8 @@ pub struct AllShares {
 pub fn all_shares(alloc: Global, history: &History, order: Order) -> Result<AllShares, NoMemory>
     requires legal { IsLegal history.now.scenario order history.now.entries }
     requires few { length history.now.entries ≤ 4000000 }
-    ensures told { IfOk result (λ all. AreUpTo history.now.scenario history.now.entries (finished_ticks history.now.scenario.shape history.now.entries) all.shares) }
+    ensures told { IfOk result (λ all. AreUpTo history.now.scenario history.now.entries
+        (finished_ticks history.now.scenario.shape history.now.entries) all.shares) }
     ensures rows { IfOk result (λ all. all.rows.items ≡ (state_after history.now.scenario history.now.entries).rows) }
     ensures few { IfOk result (λ all. length all.rows.items ≤ 32) }
 {
@@ -89,7 +90,9 @@ impl Shares {
         requires few { AreFew self.old }
         requires tick { sample.now.tick ≤ 100000000 }
         ensures counts { self.new.counts ≡ counts_with self.old.counts sample.now }
-        ensures each { (p : ℕ) → p < 32 → slice_index_or self.new.each p no_share ≡ share_with turn p (slice_index_or self.old.each p no_share) sample.now }
+        ensures each { (p : ℕ)
+            → p < 32
+            → slice_index_or self.new.each p no_share ≡ share_with turn p (slice_index_or self.old.each p no_share) sample.now }
     {
         self.counts = self.counts.with(sample);
         self.each = each_with(&self.each, sample, turn);

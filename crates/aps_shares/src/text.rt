@@ -56,7 +56,10 @@ fn add_partitions(
     spent: &[Option<Spent>; 32],
 ) -> Result<(), NoMemory>
     requires { length rows.now ≤ 32 }
-    ensures { OnOk result (string_bytes out.new ≡ string_bytes out.old ++ flat_map (spec.partition_text (λ p. slice_index_or shares.now p no_share) (λ p. slice_index_or spent.now p None)) (enumerate_from 0 rows.now)) }
+    ensures { OnOk result (string_bytes out.new
+        ≡ string_bytes out.old
+        ++ flat_map (spec.partition_text (λ p. slice_index_or shares.now p no_share) (λ p. slice_index_or spent.now p None))
+        (enumerate_from 0 rows.now)) }
 {
     for (p, row) in rows.iter().enumerate() {
         add_partition(out, p, &row.name, &shares[p], &spent[p])?;

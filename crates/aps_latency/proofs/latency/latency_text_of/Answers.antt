@@ -6,7 +6,7 @@ use Rattle.aps_model.specs.Scenario.{Scenario}
 use Rattle.aps_model.specs.Valid.{IsScenario}
 use Rattle.aps_latency.specs.Text.{HasPlaces, thread_with}
 use Rattle.aps_latency.proofs.KnownLines.{lines_same, places}
-use Rattle.aps_latency.proofs.latency.latency_text.Goals as goal
+use Rattle.aps_latency.proofs.latency.latency_text_of.Goals as goal
 
 pub add_threads-requires : goal.add_threads-requires
 add_threads-requires c =
