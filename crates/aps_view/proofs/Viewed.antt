@@ -1,32 +1,29 @@
--- What a run that has ended, and a journal that was retraced, make due.
-use Rattle.std.proofs.Common.{◌≡◌, ◌∙◌, [], Some, ap, subst, sym}
-use Rattle.aps_model.specs.declared.entry.End.{End}
+-- What a run that has ended makes due.
+use Rattle.std.proofs.Common.{◌≡◌, ◌∙◌, [], Some, IsSome, ap, subst, sym}
+use Rattle.aps_model.specs.declared.entry.Order.{Order}
 use Rattle.aps_model.specs.declared.entry.Order.TheVariants.{Fixed}
 use Rattle.aps_model.specs.After.{end_of}
-use Rattle.aps_model.specs.Legal.{fixed_run}
-use Rattle.aps_model.specs.Scenario.{Scenario}
-use Rattle.aps_core.specs.Run.{Run, end_of_run, finished_run}
-use Rattle.aps_view_words.specs.declared.asked.Asked.{Asked}
-use Rattle.aps_view.specs.Due.{Due, IsDueOfRun, IsReported, status_by}
-use Rattle.aps_view.specs.declared.status.Status.{Status}
-use Rattle.aps_view.specs.Status.{status_of_end}
+use Rattle.aps_model.specs.Legal.{IsLegal, fixed_run}
+use Rattle.aps_model.specs.Valid.{IsScenario}
+use Rattle.aps_laws.specs.Runs.{EndsNoSooner}
+use Rattle.aps_laws.proofs.FixedRun.{run_is_one}
+use Rattle.aps_core.specs.Run.{Run, Setup, end_of_run}
+use Rattle.aps_view_words.specs.declared.asked.Report.{Report}
+use Rattle.aps_view.specs.Due.{Due, IsDueOfSetup, IsReported, status_by}
 
--- the core that begins the run of the scenario
-abbrev pub booted : Asked → Scenario → Run
-booted asked scenario = record { setup = record { scenario = scenario; order = Fixed; limit = asked.limit }; entries = [] }
+-- a run in fixed order that has ended is the one that its setup makes
+pub ended_run : (setup : Setup) (after : Run) → after.setup ≡ setup → setup.order ≡ Fixed → IsScenario after.setup.scenario
+    → IsLegal after.setup.scenario after.setup.order after.entries → EndsNoSooner after.setup.scenario after.setup.limit after.entries → IsSome (end_of_run after)
+    → after ≡ record { setup = setup; entries = fixed_run setup.scenario setup.limit }
+ended_run setup after same fixed valid legal no_sooner ended =
+    let order : after.setup.order ≡ Fixed = ap (λ (s : Setup). s.order) same ∙ fixed in
+    let in_fixed : IsLegal after.setup.scenario Fixed after.entries = subst (λ (o : Order). IsLegal after.setup.scenario o after.entries) order legal in
+    let entries : after.entries ≡ fixed_run after.setup.scenario after.setup.limit =
+    run_is_one after.setup.scenario after.setup.limit after.entries valid (record { legal = in_fixed; ended = ended; no_sooner = no_sooner }) in
+    ap (λ h. record { setup = after.setup; entries = h }) entries ∙ ap (λ (s : Setup). record { setup = s; entries = fixed_run s.scenario s.limit }) same
 
-pub run_due : (asked : Asked) (scenario : Scenario) (core after : Run) (end : End) (due : Due)
-    → core ≡ booted asked scenario → after ≡ finished_run core
-    → (core.entries ≡ [] → after.entries ≡ fixed_run core.setup.scenario core.setup.limit)
-    → end_of_run after ≡ Some end → IsReported asked.report after.setup.scenario after.entries (status_of_end end) due
-    → IsDueOfRun asked scenario due
-run_due asked scenario core after end due begun finished fixed ended told =
-    let ran : Run = record { setup = record { scenario = scenario; order = Fixed; limit = asked.limit }; entries = fixed_run scenario asked.limit } in
-    let entries : after.entries ≡ fixed_run scenario asked.limit =
-    fixed (ap (λ (r : Run). r.entries) begun) ∙ ap (λ (r : Run). fixed_run r.setup.scenario r.setup.limit) begun in
-    let setup : after.setup ≡ ran.setup = ap (λ (r : Run). r.setup) (finished ∙ ap finished_run begun) in
-    let whole : after ≡ ran = ap (λ s. record { setup = s; entries = after.entries }) setup ∙ ap (λ h. record { setup = ran.setup; entries = h }) entries in
-    let status : status_of_end end ≡ status_by (end_of scenario asked.limit (fixed_run scenario asked.limit)) =
-    sym (ap status_by (sym (ap end_of_run whole) ∙ ended)) in
-    subst (λ (s : Status). IsReported asked.report scenario ran.entries s due) status
-    (subst (λ (r : Run). IsReported asked.report r.setup.scenario r.entries (status_of_end end) due) whole told)
+-- so its report is due
+pub run_due : (report : Report) (setup : Setup) (after : Run) (due : Due) → after ≡ record { setup = setup; entries = fixed_run setup.scenario setup.limit }
+    → IsReported report after.setup.scenario after.entries (status_by (end_of_run after)) due → IsDueOfSetup report setup due
+run_due report setup after due is told =
+    subst (λ (r : Run). IsReported report r.setup.scenario r.entries (status_by (end_of_run r)) due) is told

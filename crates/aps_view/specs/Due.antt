@@ -73,6 +73,12 @@ IsDueOfRun asked scenario due =
     let h = fixed_run scenario asked.limit in
     IsReported asked.report scenario h (status_by (end_of scenario asked.limit h)) due
 
+-- the same of the run that begins with this setup
+abbrev pub IsDueOfSetup : Report → Setup → Due → Type 0
+IsDueOfSetup report setup due =
+    let h = fixed_run setup.scenario setup.limit in
+    IsReported report setup.scenario h (status_by (end_of setup.scenario setup.limit h)) due
+
 abbrev pub IsDueOfScenario : Asked → Result Scenario Refusal → Due → Type 0
 IsDueOfScenario asked (Ok scenario) due = IsDueOfRun asked scenario due
 IsDueOfScenario asked (Err refusal) due = due ≡ refused (Text refusal.kind refusal.path)

@@ -10,6 +10,7 @@ mod printing;
 mod reading;
 mod refusal;
 mod report;
+mod running;
 pub mod status;
 pub mod top;
 mod traced;

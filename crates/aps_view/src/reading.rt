@@ -8,7 +8,8 @@ ghost use Rattle.aps_view.specs.Intake.{intake_of};
 
 use crate::outcome::Outcome;
 use crate::refusal::InputRefusal;
-use crate::viewing::{judged, ran};
+use crate::running::ran;
+use crate::viewing::judged;
 use aps_io::{ReadRefusal, Source, read_all};
 use aps_model::Scenario;
 use aps_scenario::{ScenarioRefusal, scenario_of};
@@ -26,7 +27,8 @@ const MOST_SCENARIO_BYTES: usize = 1_048_576;
 pub fn outcome_of<S: Source>(alloc: Global, asked: Asked, source: &mut S) -> Outcome
     requires some { 1 ≤ asked.limit }
     requires few { asked.limit ≤ 4000000 }
-    ensures { IsOutcome (Some asked) (intake_of (S.left source.old) (S.left source.new) (S.faults source.old) (S.faults source.new)) result }
+    ensures { IsOutcome (Some asked)
+        (intake_of (S.left source.old) (S.left source.new) (S.faults source.old) (S.faults source.new)) result }
 {
     match read_all(alloc, source, MOST_BYTES) {
         Ok(bytes) => of_bytes(alloc, asked, &bytes),

@@ -1,10 +1,10 @@
-//! What comes of a scenario that is run, and of one with the entries of a journal.
+//! What comes of what a core has recorded, and of a scenario with the entries of a journal.
 ghost use Rattle.std.specs.Prelude.{◌≡◌, ℕ, ◌<◌, ◌≤◌, List, [], Option, option_map, string_bytes, IfOk};
 ghost use Rattle.aps_check.specs.Verdict.{IsRunSoFar};
 ghost use Rattle.aps_core.specs.Turn.{IsTaken, with_entry};
 ghost use Rattle.aps_view.specs.declared.status.Status.TheVariants.{Done};
 ghost use Rattle.aps_view.specs.Cause.{told_by};
-ghost use Rattle.aps_view.specs.Due.{IsDueOfEntries, IsDueOfRun, IsReported, judging, reported};
+ghost use Rattle.aps_view.specs.Due.{IsDueOfEntries, IsReported, judging, reported};
 ghost use Rattle.aps_view.specs.Report.{IsReport};
 
 use crate::outcome::Outcome;
@@ -18,20 +18,8 @@ use aps_model::{Entry, NoMemory, Order, Scenario};
 use aps_view_words::{Asked, Report};
 use std::alloc::Global;
 
-/// Runs the scenario in fixed order, and makes the report that was asked for.
-pub fn ran(alloc: Global, asked: Asked, scenario: Scenario) -> Result<Outcome, NoMemory>
-    requires some { 1 ≤ asked.limit }
-    requires few { asked.limit ≤ 4000000 }
-    ensures { IfOk result (λ outcome. IsDueOfRun asked scenario (told_by outcome)) }
-{
-    let mut core = Core::boot(alloc, scenario, Order::Fixed, asked.limit)?;
-    let end = core.finish();
-    let outcome = told(alloc, asked.report, core, Status::of_end(&end))?;
-    Ok(outcome)
-}
-
 /// What comes of what the core has recorded, under this status.
-fn told(alloc: Global, report: Report, core: Core, status: Status) -> Result<Outcome, NoMemory>
+pub fn told(alloc: Global, report: Report, core: Core, status: Status) -> Result<Outcome, NoMemory>
     requires few { core.setup.limit ≤ 4000000 }
     ensures { IfOk result (λ outcome. IsReported report core.setup.scenario core.entries status (told_by outcome)) }
 {
@@ -59,7 +47,7 @@ fn told_as_text(
 }
 
 /// What comes of a history with this report, under this status.
-fn of_text(status: Status, text: Option<String>) -> Outcome
+pub fn of_text(status: Status, text: Option<String>) -> Outcome
     ensures { told_by result ≡ reported status (option_map string_bytes text) }
 {
     match text {
