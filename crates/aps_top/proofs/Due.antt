@@ -1,17 +1,14 @@
 -- Each outcome has the status that is due to its cause, and no other is due.
-use Rattle.std.proofs.Common.{◌≡◌, ℕ, ◌+◌, ◌<◌, ◌≤◌, List, [], length, Option, Some, None, Result, Ok, Err, inl, inr, refl, sym, ap, subst, ◌∙◌, arith}
+use Rattle.std.proofs.Common.{◌≡◌, ℕ, ◌+◌, ◌≤◌, List, length, Option, Some, None, Result, Ok, Err, inl, inr, refl, sym, ap, subst, ◌∙◌, arith}
 use Rattle.std.specs.Result.{result_err}
 use Rattle.aps_admit.specs.declared.admission.Admission.{Admission}
-use Rattle.aps_admit.specs.Admission.{admission}
 use Rattle.aps_check.specs.declared.verdict.Verdict.{Verdict}
 use Rattle.aps_check.specs.Verdict.{IsVerdict}
 use Rattle.aps_check.proofs.Verdicts.{verdict_is_one}
 use Rattle.aps_model.specs.declared.entry.End.{End}
-use Rattle.aps_model.specs.declared.entry.Entry.{Entry}
 use Rattle.aps_model.specs.declared.entry.Order.{Order}
 use Rattle.aps_model.specs.History.{History}
-use Rattle.aps_model.specs.Journal.{IsJournal}
-use Rattle.aps_scenario.specs.Demands.{Demands, reads_demands}
+use Rattle.aps_scenario.specs.Demands.{reads_demands}
 use Rattle.aps_scenario.specs.Reading.{reads}
 use Rattle.aps_scenario.specs.Refusal.{Refusal}
 use Rattle.aps_text.proofs.Journals.{one_list}
@@ -20,12 +17,12 @@ use Rattle.aps_words.specs.declared.command.Command.TheVariants.{Solo, Run, Gen,
 use Rattle.aps_words.specs.declared.command.Report.{Report}
 use Rattle.aps_top.specs.declared.refusal.InputRefusal.{InputRefusal}
 use Rattle.aps_top.specs.declared.status.Status.{Status}
-use Rattle.aps_top.specs.declared.status.Status.TheVariants.{Done, WordsRefused, InputRefused, TooLong}
-use Rattle.aps_top.specs.Asked.{RunAsked, run_asked, run_of, IsToRead}
+use Rattle.aps_top.specs.declared.status.Status.TheVariants.{Done, InputRefused, TooLong}
+use Rattle.aps_top.specs.Asked.{RunAsked, run_asked, IsToRead}
 use Rattle.aps_top.specs.Cause.{Input, RanAsRead, GeneratedAsAsked, UpgradedAsRead, CheckedAsRead, AdmittedAsRead}
 use Rattle.aps_top.specs.CheckInput.{CheckInput, reads_check}
 use Rattle.aps_top.specs.Due.{or_refused, IsJudged, IsJudgedOf, IsDueTo, IsDueStatus}
-use Rattle.aps_top.specs.Reading.{most_of, most_taken, refusal_by, refusal_of}
+use Rattle.aps_top.specs.Reading.{most_of, refusal_by, refusal_of}
 use Rattle.aps_top.specs.Refusal.{refused_text}
 use Rattle.aps_top.specs.Status.{status_of_end, status_of_verdict, status_of_admission}
 

@@ -4,3 +4,4 @@ pub mod Due
 pub mod Separated
 pub mod CheckRead
 pub mod Statuses
+pub mod PrintedBound

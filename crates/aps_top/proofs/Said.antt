@@ -1,5 +1,5 @@
 -- How a text goes to a sink, under other names of the text and of its status.
-use Rattle.std.proofs.Common.{◌≡◌, ℕ, List, Option, ◌⊎◌, inl, inr, refl, sym, subst}
+use Rattle.std.proofs.Common.{◌≡◌, ℕ, List, Option, inl, inr, refl, sym, subst}
 use Rattle.std.proofs.KnownBytes.{Keeps-refl}
 use Rattle.aps_top.specs.declared.status.Status.{Status}
 use Rattle.aps_top.specs.declared.status.Status.TheVariants.{NoMemory}

@@ -1,5 +1,5 @@
 -- The parts of a text by its separating line lie inside it.
-use Rattle.std.proofs.Common.{◌≡◌, ℕ, zero, suc, ◌+◌, ◌≤◌, ◌<◌, List, drop, length, Bool, true, false, cond, ◌&&◌, Option, Some, None, IfSome, refl, sym, ap, subst, arith, length-append, length-drop}
+use Rattle.std.proofs.Common.{◌≡◌, ℕ, zero, suc, ◌+◌, ◌≤◌, ◌<◌, List, drop, length, Bool, true, false, cond, Option, Some, None, IfSome, refl, sym, ap, subst, arith, length-append, length-drop}
 use Rattle.std.specs.List.{find, range_with_len, starts_with}
 use Rattle.std.specs.Option.{option_map}
 use Rattle.std.specs.Prelude.{nat_eq}

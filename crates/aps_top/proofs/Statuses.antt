@@ -1,5 +1,5 @@
 -- The status of an answer, by the outcome of the call.
-use Rattle.std.proofs.Common.{rules, ◌≡◌, ◌≢◌, ℕ, zero, suc, ◌≤◌, List, [], length, take, append-nil, ◌⊎◌, inl, inr, Option, Some, None, IfSome, refl, sym, ap, subst, ◌∙◌, arith, Bool, true, false, ◌==◌, ◌||◌, true≢false}
+use Rattle.std.proofs.Common.{rules, ◌≡◌, ◌≢◌, ℕ, zero, suc, List, [], take, append-nil, ◌⊎◌, inl, inr, Option, Some, None, IfSome, refl, sym, ap, subst, ◌∙◌, arith, Bool, true, false, ◌==◌, ◌||◌, true≢false}
 use Rattle.std.specs.Io.KnownBytes.{Appends, IsAtEnd, Keeps}
 use Rattle.aps_admit.specs.declared.admission.Admission.{Admission}
 use Rattle.aps_admit.specs.declared.admission.Admission.TheVariants.{Budgets, Needs}
@@ -27,7 +27,7 @@ use Rattle.aps_top.specs.Cause.{Input, input_of, HasCause, RanAsRead, CheckedAsR
 use Rattle.aps_top.specs.Printing.{LacksMemory, Output, Says, WritesNothing, WritesPrefix, WritesWhole}
 use Rattle.aps_top.specs.Reading.{Intake, most_bytes, most_of, refusal_of}
 use Rattle.aps_top.specs.Refusal.{refused_text, scenario_refusal}
-use Rattle.aps_top.specs.Answers.{Tells, Answers, Comes, IsDue, Faulted, OrWanting, Wanting, ReachesHorizon, ReportsWhole, WritesAsked, IsAnswer}
+use Rattle.aps_top.specs.Answers.{Tells, Answers, Comes, OrWanting, Wanting, ReachesHorizon, ReportsWhole, WritesAsked, IsAnswer}
 use Rattle.aps_top.proofs.Due as due
 
 -- ---- what was told of a status that was wanted

@@ -1,5 +1,6 @@
 pub mod Asked
 pub mod Status
+pub mod PrintedBound
 pub mod Run
 pub mod Refusal
 pub mod CheckInput

@@ -1,5 +1,5 @@
 -- The outcome of a call: its status, its text and its history.
-use Rattle.std.specs.Prelude.{ℕ, List, [], ◌++◌, codes, string_bytes, Option, Some, None, ⊤}
+use Rattle.std.specs.Prelude.{ℕ, List, [], codes, string_bytes, Option, Some, None, ⊤}
 use Rattle.aps_io.specs.declared.all.ReadRefusal.{ReadRefusal}
 use Rattle.aps_io.specs.declared.all.ReadRefusal.TheVariants as unread
 use Rattle.aps_model.specs.Audit.{audit_of}

@@ -13,6 +13,7 @@ use Rattle.aps_laws.specs.Runs.{EndsNoSooner}
 use Rattle.aps_bound_laws.specs.Excess.{KeepsExcess}
 use Rattle.aps_load_laws.specs.OwnShare.{KeepsOwnShare}
 use Rattle.aps_load_laws.specs.Passing.{NeverPassesOver}
+use Rattle.aps_top.specs.PrintedBound.{TellsWorstWindows, HasSmallExcess}
 
 -- the history of a run of its scenario in this order, which ended so, or else by this many entries
 pub record IsRun (order : Order) (limit : ℕ) (end : End) (h : History) : Type 0 where
@@ -33,6 +34,10 @@ pub record IsRun (order : Order) (limit : ℕ) (end : End) (h : History) : Type 
   -- processor and critical time; and critical time to the critical budget, but for one tick of each processor
   pub bound : KeepsWindowBound h.scenario h.entries
   pub critical_bound : KeepsCriticalBound h.scenario h.entries
+  -- what the summary prints of them are the greatest amounts, each with its window and partition, and those that the bounds
+  -- allow where no change stands at the end
+  pub worst : TellsWorstWindows h
+  pub small : HasSmallExcess h
   -- whoever has work: in ticks without a change, at most as many as a window has, a partition goes beyond its budget only
   -- by free time, critical time and less than one tick of each processor, and falls short only by what the others so took
   -- and by idle time

@@ -81,16 +81,35 @@ impl Outcome {
             (intake_of (S.left source.old) (S.left source.new) (S.faults source.old) (S.faults source.new)) result }
     {
         match command_of(alloc, words) {
-            Ok(
-                Command::Run {
-                    order,
-                    report,
-                    limit,
-                },
-            ) => Outcome::of_run(rt, alloc, order, report, limit, source, gate),
-            Ok(command) => Outcome::of_calm(alloc, command, source),
+            Ok(command) => Outcome::of_command(rt, alloc, command, source, gate),
             Err(WordsRefusal::Words) => Outcome::WordsRefused,
             Err(WordsRefusal::NoMemory) => Outcome::NoMemory,
+        }
+    }
+
+    /// Decides by the reading of the source, then by what was read.
+    fn of_command<R: Threads + Wait + Sync, S: Source, G: Gate + Sync>(
+        rt: &R,
+        alloc: Global,
+        command: Command,
+        source: &mut S,
+        gate: &G,
+    ) -> Outcome
+        requires { HasRanges command }
+        ensures { IsOutcome (Some command)
+            (intake_of (S.left source.old) (S.left source.new) (S.faults source.old) (S.faults source.new)) result }
+    {
+        match command {
+            Command::Run {
+                order,
+                report,
+                limit,
+            } => Outcome::of_run(rt, alloc, order, report, limit, source, gate),
+            Command::Solo { .. }
+            | Command::Gen { .. }
+            | Command::Upgrade
+            | Command::Check { .. }
+            | Command::Admit => Outcome::of_calm(alloc, command, source),
         }
     }
 

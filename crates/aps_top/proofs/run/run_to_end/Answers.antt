@@ -1,5 +1,5 @@
 use Rattle.std.proofs.Common.{◌≡◌, ap, rules, sym, subst}
-use Rattle.aps_core.specs.Run.{Run, Setup}
+use Rattle.aps_core.specs.Run.{Run, Setup, rooms_of}
 use Rattle.aps_laws.proofs.FixedRun.{run_is_one}
 use Rattle.aps_model.specs.declared.entry.Order.TheVariants.{Fixed}
 use Rattle.aps_model.specs.Legal.{IsLegal, fixed_run}
@@ -13,6 +13,8 @@ use Rattle.aps_load_laws.specs.Passing.{NeverPassesOver}
 use Rattle.aps_bound_laws.proofs.Below.{excess}
 use Rattle.aps_load_laws.proofs.Moments.{never_passed}
 use Rattle.aps_load_laws.proofs.OwnShares.{own_share}
+use Rattle.aps_top.specs.PrintedBound.{HasSmallExcess}
+use Rattle.aps_top.proofs.PrintedBound.{small_excess, worst_windows}
 use Rattle.aps_top.proofs.run.run_to_end.Goals as goal
 
 pub returns-clause-run : goal.returns-clause-run
@@ -36,6 +38,9 @@ returns-clause-run c =
       picks = subst (λ (h : History). EachPickIsGreatest h.scenario h.entries) (sym known.same) known.picks;
       bound = subst (λ (h : History). KeepsWindowBound h.scenario h.entries) (sym known.same) known.bound;
       critical_bound = subst (λ (h : History). KeepsCriticalBound h.scenario h.entries) (sym known.same) known.critical_bound;
+      worst = worst_windows c.into_history.result;
+      small = subst HasSmallExcess (sym known.same)
+          (small_excess run.setup.scenario run.setup.order run.entries run.setup.limit (rooms_of run.setup) known.valid known.legal);
       excess = subst (λ (h : History). KeepsExcess h.scenario h.entries) (sym known.same)
           (excess run.setup.scenario run.setup.order run.entries known.valid known.legal);
       own_share = subst (λ (h : History). KeepsOwnShare h.scenario h.entries) (sym known.same)

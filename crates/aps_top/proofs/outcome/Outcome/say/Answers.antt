@@ -1,5 +1,5 @@
-use Rattle.std.proofs.Common.{refl, inl, ◌∙◌}
-use Rattle.aps_top.proofs.Said.{makes_as, said_as, says_of}
+use Rattle.std.proofs.Common.{refl, inl}
+use Rattle.aps_top.proofs.Said.{makes_as, says_of}
 use Rattle.aps_top.proofs.outcome.Outcome.say.Goals as goal
 
 pub returns-in-WordsRefused : goal.returns-in-WordsRefused
