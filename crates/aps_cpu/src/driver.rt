@@ -3,6 +3,7 @@ ghost use Rattle.aps_lock.specs.Seats.{IsSeatOf};
 ghost use Rattle.aps_cpu.specs.Driven.{IsDriven, IsOnFrom};
 
 use crate::gate::Gate;
+use crate::patience::Patience;
 use aps_core::Turn;
 use aps_lock::{CpuSeat, Dispatch};
 use aps_model::{CpuId, End, Nanos};
@@ -41,9 +42,10 @@ pub fn drive<R: Wait, G: Gate>(rt: &R, dispatch: &Dispatch, seat: &mut CpuSeat, 
 {
     let (first, last) = (seat.first(), seat.last());
     let mut cpu = first;
+    let mut patience = Patience::new();
     dispatch.set_at_hand(seat, true);
     for _ in rt.forever() {
-        wait(rt, dispatch, seat);
+        wait(rt, dispatch, seat, gate, &mut patience);
         enter(rt, dispatch, seat, gate, cpu);
         match dispatch.turn(rt, seat, cpu) {
             Turn::Ended(end) => {
@@ -63,11 +65,20 @@ pub fn drive<R: Wait, G: Gate>(rt: &R, dispatch: &Dispatch, seat: &mut CpuSeat, 
     unreachable!()
 }
 
-/// Waits for the seat's turn. In a long row of turns in vain it yields now and then: where all of the machine's processors
+/// Waits for the seat's turn. Where drivers share the processors of the machine it yields for a while first. In a long row of turns in vain it yields now and then: where all of the machine's processors
 /// are busy each yield can take as long as a time slice.
-fn wait<R: Wait>(rt: &R, dispatch: &Dispatch, seat: &CpuSeat) {
+fn wait<R: Wait, G: Gate>(
+    rt: &R,
+    dispatch: &Dispatch,
+    seat: &CpuSeat,
+    gate: &G,
+    patience: &mut Patience,
+) {
     let waited = seat.waited();
     if waited <= SHORT_WAIT {
+        if dispatch.is_crowded() && patience.yields_to_turn(dispatch, seat, gate) {
+            return;
+        }
         dispatch.await_turn(rt, seat);
     } else if waited % TURNS_A_YIELD == 0 {
         thread::yield_now();

@@ -5,9 +5,10 @@
 mod driver;
 mod gate;
 mod meet_gate;
+mod patience;
 mod threads;
 
 pub use driver::{Driven, drive};
-pub use gate::{Gate, OpenGate};
+pub use gate::{ClockGate, Gate, OpenGate};
 pub use meet_gate::MeetGate;
 pub use threads::run_all;

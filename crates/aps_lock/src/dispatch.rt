@@ -107,6 +107,17 @@ impl Dispatch {
         self.hint.set_cores(cores as u64);
     }
 
+    /// Whether more processors are simulated than the machine has, as far as was told. This is advice.
+    pub fn is_crowded(&self) -> bool {
+        self.hint.is_crowded()
+    }
+
+    /// Whether a processor of the seat may have the turn. This is advice: it takes no turn and waits for nobody, and the
+    /// turn may be another's by then.
+    pub fn may_turn(&self, seat: &CpuSeat) -> bool {
+        self.hint.may_turn(CpuSet::between(seat.first, seat.last))
+    }
+
     /// Waits until a processor of the seat may have the turn: where it comes soon the driver looks for a while, and else it
     /// sleeps until another driver's turn wakes it. It comes back sooner where a processor that may have the turn has no
     /// driver at hand, and so does a seat of several processors, which never sleeps. This is advice: it takes no turn, and

@@ -1,7 +1,7 @@
 //! Whose turn it may be. Threads read this advice without a ticket: no clause rests on it, and where it is wrong it costs
 //! time alone.
 use crate::cpu_set::CpuSet;
-use crate::turns::Turns;
+use crate::turns::{Turns, last_cpu};
 use aps_core::Core;
 use aps_model::{CpuId, NoMemory};
 use crossbeam_utils::CachePadded;
@@ -42,6 +42,8 @@ struct Board {
     next_pause: AtomicU64,
     /// How many drivers are to be awake at most: one for each processor of the machine.
     cores: AtomicU64,
+    /// How many processors are simulated.
+    cpus: u64,
 }
 
 /// Where the driver of a processor waits.
@@ -83,6 +85,7 @@ impl Hint {
             pause: AtomicU64::new(0),
             next_pause: AtomicU64::new(SHORT_PAUSE),
             cores: AtomicU64::new(USUAL_CORES),
+            cpus: last_cpu(core).index() as u64 + 1,
         });
         Ok(Hint { board, doors })
     }
@@ -90,6 +93,12 @@ impl Hint {
     /// The drivers run on so many processors of the machine; 0 counts as 1, since whoever has the turn is to be awake.
     pub(crate) fn set_cores(&self, cores: u64) {
         self.board.cores.store(cores.max(1), SeqCst);
+    }
+
+    /// Whether the machine has fewer processors than are simulated.
+    pub(crate) fn is_crowded(&self) -> bool {
+        let board: &Board = &self.board;
+        board.cores.load(SeqCst) < board.cpus
     }
 
     /// The turns after what the core has done. Whoever calls it has the core in hand.
@@ -194,6 +203,11 @@ impl Hint {
             }
         }
         true
+    }
+
+    /// Whether one of these processors may have the turn.
+    pub(crate) fn may_turn(&self, cpus: CpuSet) -> bool {
+        self.turns().next.meets(cpus)
     }
 
     /// Waits until the processor may have the turn: it looks for a while where its turn comes soon, and else sleeps. It

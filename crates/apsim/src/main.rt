@@ -1,7 +1,7 @@
 //! The program: it reads a scenario from standard input, runs it, and writes what came of it to standard output.
 #![tactic(auto)]
 
-use aps_cpu::OpenGate;
+use aps_cpu::ClockGate;
 use aps_io::{StdSink, StdSource};
 use aps_top::hint::{Given, tell_person};
 use aps_top::kept::KeptSource;
@@ -30,7 +30,14 @@ fn main(rt: HostRuntime) -> ExitCode {
     let mut source = KeptSource::new(alloc, StdSource::new(rt.stdin()));
     // standard output takes each piece at once, so that no fault comes after the last answer
     let mut sink = StdSink::new(rt.stdout());
-    let ended = top(&rt, alloc, &words, &mut source, &mut sink, &OpenGate);
+    let ended = top(
+        &rt,
+        alloc,
+        &words,
+        &mut source,
+        &mut sink,
+        &ClockGate::new(&rt),
+    );
     let given = Given {
         bytes: source.kept(),
         is_whole: !source.is_full(),
