@@ -123,16 +123,16 @@ take_over() {
     rm -rf "$2"
 }
 
-# Whether the start can hardly end sooner than what stands on this crate.
+# Whether the start can hardly end sooner than what stands on this crate, of those left, at work, and begun now.
 is_pressing() {
     local name longest=0
-    for name in "${left[@]}" "${!build_of[@]}" "$1"; do
+    for name in "${left[@]}" "${!build_of[@]}" "$beginning"; do
         ((chain_seconds[$name] <= longest)) || longest=${chain_seconds[$name]}
     done
     ((chain_seconds[$1] * 5 >= longest * 4))
 }
 
-# How many processes a build gets: those that press share the processors, each other has one.
+# How many processes the build that begins gets: those that press share the processors, each other has one.
 share_of() {
     local name pressing=1 share
     if ! is_pressing "$1"; then
@@ -149,7 +149,7 @@ share_of() {
 
 # Begins the build of a crate in the background, in a process group of its own. One that doesn't press yields to the others.
 begin_build() {
-    local name=$1 log=$first_start_folder/$1.log share yields=0
+    local name=$1 log=$first_start_folder/$1.log share yields=0 beginning=$1
     share=$(share_of "$name")
     is_pressing "$name" || yields=5
     rm -f "$first_start_folder/$name.status"
