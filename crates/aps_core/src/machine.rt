@@ -59,7 +59,6 @@ use wake::Woken;
 
 /// Everything that stands between two steps, beside the history. Contracts see it as the scheduler state of the
 /// definitions, and each method is the part of the definitions' step that its clause names.
-#[derive(Drop)]
 pub struct Machine {
     tree: Tree,
     shape: Shape,
@@ -70,6 +69,23 @@ pub struct Machine {
     cpus: Vec<CpuNow>,
     replies: Vec<Reply>,
     changes: Vec<Change>,
+}
+
+// Written out, so that it is proved here alone: a derived drop is proved again in each crate that lets a value go.
+impl Drop for Machine {
+    fn drop(self) {
+        let Self {
+            tree: _,
+            shape: _,
+            threads: _,
+            stamps: _,
+            channels: _,
+            triples: _,
+            cpus: _,
+            replies: _,
+            changes: _,
+        } = self;
+    }
 }
 
 impl Model for Machine {

@@ -38,7 +38,6 @@ use std::marker::Model;
 
 /// A run under way. Contracts see its setup, which is the scenario, the order of turns and the limit, and its
 /// entries so far. What a scenario, an entry, a turn and a step are is said in docs/DEFINITIONS.md.
-#[derive(Drop)]
 pub struct Core {
     history: History,
     order: Order,
@@ -52,6 +51,26 @@ pub struct Core {
     timer: Timer,
     woken: Woken,
     ctl: Ctl,
+}
+
+// Written out, so that it is proved here alone: a derived drop is proved again in each crate that lets a value go.
+impl Drop for Core {
+    fn drop(self) {
+        let Self {
+            history: _,
+            order: _,
+            limit: _,
+            machine: _,
+            ends: _,
+            dues: _,
+            window: _,
+            standing: _,
+            ready: _,
+            timer: _,
+            woken: _,
+            ctl: _,
+        } = self;
+    }
 }
 
 impl Model for Core {
@@ -80,11 +99,11 @@ impl Core {
         ensures { IfOk result (λ core. core
             ≡ record { setup = record { scenario = scenario; order = order; limit = limit }; entries = [] }) }
     {
+        let replies = scenario.commands().len() as u16;
+        let changes = most_changes(&scenario);
         let machine = Machine::boot(alloc, &scenario)?;
         let (window, standing) = start_window(alloc, &machine, &scenario)?;
         let (ready, timer, woken, ctl) = start_queues(alloc, &machine, &scenario)?;
-        let replies = scenario.commands().len() as u16;
-        let changes = most_changes(&scenario);
         let history = History::begin(alloc, scenario, limit, replies, changes)?;
         let ends = Ends::new();
         let dues = Dues::new();
@@ -158,7 +177,21 @@ impl Core {
         ensures critical_bound { KeepsCriticalBound self.setup.scenario self.entries }
         ensures cpus { All (λ e. e.cpu < self.setup.scenario.shape.cpus) self.entries }
     {
-        self.history
+        let Core {
+            history,
+            order: _,
+            limit: _,
+            machine: _,
+            ends: _,
+            dues: _,
+            window: _,
+            standing: _,
+            ready: _,
+            timer: _,
+            woken: _,
+            ctl: _,
+        } = self;
+        history
     }
 
     /// For how many entries, replies and changes `boot` took room. It is the room of the history, takes no memory, and

@@ -15,7 +15,7 @@ use std::marker::Model;
 /// and the end as they stand last. It keeps room for its lists, so that adding to them takes no memory. The type keeps
 /// that its rows and its shape have their ranges, and that of each entry `from` is at most `to`, `to` at most
 /// 10,000,000,000,000 ns and `to - from` at most 10,000,000 ns.
-#[derive(Debug, Drop)]
+#[derive(Debug)]
 pub struct History {
     scenario: Scenario,
     entries: Vec<Entry>,
@@ -27,6 +27,24 @@ pub struct History {
     entry_room: u32,
     reply_room: u16,
     change_room: u32,
+}
+
+// Written out, so that it is proved here alone: a derived drop is proved again in each crate that lets a value go.
+impl Drop for History {
+    fn drop(self) {
+        let Self {
+            scenario: _,
+            entries: _,
+            replies: _,
+            changes: _,
+            rows: _,
+            shape: _,
+            end: _,
+            entry_room: _,
+            reply_room: _,
+            change_room: _,
+        } = self;
+    }
 }
 
 impl Model for History {

@@ -37,7 +37,6 @@ pub struct Drawn {
 /// Threads of one partition, critical or not, are a group, and all of a group are candidates or none. Each group has a
 /// bracket, whose first has its highest priority and the smallest stamp there. The thread that was put in last stands
 /// aside: it is in the row and in no bracket, so that one that runs on is put in and drawn at no bracket's cost.
-#[derive(Drop)]
 pub struct Ready {
     row: Vec<Entrant>,
     /// nobody, or who was put in last
@@ -45,6 +44,18 @@ pub struct Ready {
     brackets: Vec<Bracket>,
     /// the level of the first of each bracket
     index: Index,
+}
+
+// Written out, so that it is proved here alone: a derived drop is proved again in each crate that lets a value go.
+impl Drop for Ready {
+    fn drop(self) {
+        let Self {
+            row: _,
+            aside: _,
+            brackets: _,
+            index: _,
+        } = self;
+    }
 }
 
 impl Model for Ready {

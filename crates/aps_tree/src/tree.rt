@@ -24,10 +24,16 @@ const MOST_CRITICAL: u64 = 64_000_000_000;
 /// budgets and maxima count, and the rows in order of their ids. The type keeps that names are distinct, that each
 /// parent stands before its children, that budgets sum to the parts, and that each budget is at most its maximum and
 /// each maximum at most the parts. Room for 32 rows is taken when a tree is made; no other call takes memory.
-#[derive(Drop)]
 pub struct Tree {
     parts: u16,
     rows: Rows,
+}
+
+// Written out, so that it is proved here alone: a derived drop is proved again in each crate that lets a value go.
+impl Drop for Tree {
+    fn drop(self) {
+        let Self { parts: _, rows: _ } = self;
+    }
 }
 
 impl Model for Tree {

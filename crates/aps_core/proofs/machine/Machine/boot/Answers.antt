@@ -6,13 +6,10 @@ use Rattle.aps_core.specs.Machine.{IsMachine}
 use Rattle.aps_core.proofs.Boot.{machine_opening, opening_by_parts}
 use Rattle.aps_core.proofs.machine.Machine.boot.Goals as goal
 
-tree : (c : goal.In_ok-with_capacity-2) → ◌≡◌ {A = Tree} (record { parts = c.tree.inside.parts; rows = c.tree.inside.rows }) (record { parts = c.shape-shape.result.now.parts; rows = c.partitions.result.now })
-tree c = c.tree.view_is ∙ c.in_ok-tree.ensures
-
 pub returns : goal.returns
 returns c =
     opening_by_parts c.args.scenario.now _ _ _ _ _ _ _ _ _
-    (ap (λ (t : Tree). t.rows) (tree c) ∙ c.partitions.ensures.same)
+    (ap (λ (t : Tree). t.rows) c.in_ok-tree.ensures ∙ c.partitions.ensures.same)
     c.shape-shape.ensures.same
     c.in_ok-threads.ensures.threads
     c.in_ok-threads.ensures.stamps
@@ -22,9 +19,9 @@ returns c =
     c.in_ok-with_capacity.ensures.items
     c.in_ok-with_capacity-2.ensures.items
 
-pub invariant_of-result-3 : goal.invariant_of-result-3
-invariant_of-result-3 c =
-    subst (λ s. IsMachine s c.tree.inside.parts (vec_capacity c.in_ok-with_capacity.field-0) (vec_capacity c.in_ok-with_capacity-2.field-0)) (sym (returns c))
+pub invariant_of-result-2 : goal.invariant_of-result-2
+invariant_of-result-2 c =
+    subst (λ s. IsMachine s c.in_ok-tree.tree.parts (vec_capacity c.in_ok-with_capacity.field-0) (vec_capacity c.in_ok-with_capacity-2.field-0)) (sym (returns c))
     (machine_opening c.args.scenario.now _ _ _ c.partitions.ensures.valid
-    (ap (λ (t : Tree). t.parts) (tree c) ∙ ap (λ (shape : Shape). shape.parts) c.shape-shape.ensures.same)
+    (ap (λ (t : Tree). t.parts) c.in_ok-tree.ensures ∙ ap (λ (shape : Shape). shape.parts) c.shape-shape.ensures.same)
     c.in_ok-with_capacity.ensures.capacity c.in_ok-with_capacity-2.ensures.capacity)

@@ -1,6 +1,5 @@
 use Rattle.std.proofs.Common.{ap, refl, subst, sym}
 use Rattle.aps_model.specs.SchedulerState.{SchedulerState}
-use Rattle.aps_model.specs.Valid.{IsScenario}
 use Rattle.aps_ctl.specs.Pending.{all_at}
 use Rattle.aps_laws.specs.Stamps.{IsStamped}
 use Rattle.aps_core.specs.Run.{Setup}
@@ -14,7 +13,7 @@ use Rattle.aps_core.proofs.simulator.Core.boot.Goals as goal
 pub start_queues-requires : goal.start_queues-requires
 start_queues-requires c =
     subst (λ (s : SchedulerState). IsStamped s.threads s.stamps) (sym c.in_ok-machine.ensures)
-    (opening_stamped c.args.scenario c.args.order (subst IsScenario c.scenario.view_is c.scenario.invariant))
+    (opening_stamped c.args.scenario c.args.order c.commands.ensures.valid)
 
 pub invariant_of-result : goal.invariant_of-result
 invariant_of-result c =
