@@ -38,7 +38,6 @@ use std::marker::Model;
 
 /// A run under way. Contracts see its setup, which is the scenario, the order of turns and the limit, and its
 /// entries so far. What a scenario, an entry, a turn and a step are is said in docs/DEFINITIONS.md.
-#[derive(Drop)]
 pub struct Core {
     history: History,
     order: Order,
@@ -52,6 +51,34 @@ pub struct Core {
     timer: Timer,
     woken: Woken,
     ctl: Ctl,
+}
+
+// Written out, so that a function which drops a core calls this: each would have a derived drop in its own proof.
+impl Drop for Core {
+    fn drop(self) {
+        let Core {
+            history,
+            order: _,
+            limit: _,
+            machine,
+            ends: _,
+            dues: _,
+            window,
+            standing,
+            ready,
+            timer,
+            woken,
+            ctl,
+        } = self;
+        drop(history);
+        drop(machine);
+        drop(window);
+        drop(standing);
+        drop(ready);
+        drop(timer);
+        drop(woken);
+        drop(ctl);
+    }
 }
 
 impl Model for Core {
@@ -158,7 +185,21 @@ impl Core {
         ensures critical_bound { KeepsCriticalBound self.setup.scenario self.entries }
         ensures cpus { All (λ e. e.cpu < self.setup.scenario.shape.cpus) self.entries }
     {
-        self.history
+        let Core {
+            history,
+            order: _,
+            limit: _,
+            machine: _machine,
+            ends: _,
+            dues: _,
+            window: _window,
+            standing: _standing,
+            ready: _ready,
+            timer: _timer,
+            woken: _woken,
+            ctl: _ctl,
+        } = self;
+        history
     }
 
     /// For how many entries, replies and changes `boot` took room. It is the room of the history, takes no memory, and
