@@ -1,5 +1,5 @@
 //! The lives of all threads of a history, made beside a core that makes its steps again.
-ghost use Rattle.std.specs.Prelude.{◌≡◌, ◌<◌, ◌≤◌, [], length, replicate, IfOk, OnOk};
+ghost use Rattle.std.specs.Prelude.{◌≡◌, ◌<◌, ◌≤◌, [], length, max, replicate, IfOk, OnOk};
 ghost use Rattle.aps_model.specs.Legal.{IsLegal};
 ghost use Rattle.aps_model.specs.Valid.{IsScenario};
 ghost use Rattle.aps_core.specs.Turn.{IsTaken, with_entry};
@@ -18,14 +18,42 @@ pub fn lives(alloc: Global, history: &History, order: Order) -> Result<Vec<Life>
     requires few { length history.now.entries ≤ 4000000 }
     ensures { IfOk result (λ lives. AreLives history.now.scenario history.now.entries lives.items) }
 {
-    let scenario = history.scenario();
-    let entries = history.entries();
-    let limit = (entries.len() as u32).max(1);
-    let mut lives = GrowingLives::unborn(alloc, scenario.threads().len())?;
-    let mut core = Core::boot(alloc, scenario.copy(alloc)?, order, limit)?;
-    lengthen_all(&mut lives, &mut core, entries)?;
+    let count = history.scenario().threads().len();
+    let mut lives = GrowingLives::unborn(alloc, count)?;
+    grow(alloc, &mut lives, history, order)?;
     let lives = lives.into_lives()?;
     Ok(lives)
+}
+
+/// The lives that have not begun go on with all entries of a history that is legal in this order of turns.
+fn grow(
+    alloc: Global,
+    lives: &mut GrowingLives,
+    history: &History,
+    order: Order,
+) -> Result<(), NoMemory>
+    requires legal { IsLegal history.now.scenario order history.now.entries }
+    requires few { length history.now.entries ≤ 4000000 }
+    requires unborn { lives.old ≡ replicate (length history.now.scenario.threads) [] }
+    ensures { OnOk result (AreLives history.now.scenario history.now.entries lives.new) }
+{
+    let mut core = boot(alloc, history, order)?;
+    lengthen_all(lives, &mut core, history.entries())
+}
+
+/// A core that has made no step of the history's scenario, with room for all its entries.
+fn boot(alloc: Global, history: &History, order: Order) -> Result<Core, NoMemory>
+    requires { length history.now.entries ≤ 4000000 }
+    ensures same { IfOk result (λ core. core ≡ record {
+        setup = record { scenario = history.now.scenario; order = order; limit = max (length history.now.entries) 1 };
+        entries = [] }) }
+    ensures valid { IfOk result (λ core. IsScenario history.now.scenario) }
+{
+    // the check wants the scenario's own word that it is valid
+    let _shape = history.scenario().shape();
+    let scenario = history.scenario().copy(alloc)?;
+    let limit = (history.entries().len() as u32).max(1);
+    Core::boot(alloc, scenario, order, limit)
 }
 
 /// The lives that have not begun go on with all entries, and the core makes their steps.

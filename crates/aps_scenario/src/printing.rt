@@ -1,5 +1,6 @@
 //! A scenario as text.
 ghost use Rattle.std.specs.Prelude.{◌≡◌, Ok, IfOk, OnOk, string_bytes};
+ghost use Rattle.toml.specs.Data.{no_members};
 ghost use Rattle.toml.specs.View.{table_view};
 ghost use Rattle.aps_model.specs.Shape.{IsShape};
 ghost use Rattle.aps_model.specs.Valid.{IsScenario};
@@ -24,39 +25,51 @@ use aps_model::{NoMemory, Scenario, Shape};
 use std::alloc::{AllocError, Global};
 use toml::Table;
 
-/// The table of the sizes and the policies: version 1 counts budgets in parts of 100, version 2 in parts of 1,000.
-fn shape_table(alloc: Global, shape: &Shape) -> Result<Table, NoMemory>
-    requires { IsShape shape.now }
-    ensures { IfOk result (λ table. table_view table ≡ shape_members shape.now) }
+/// Puts the sizes and the policies into an empty table: version 1 counts budgets in parts of 100, version 2 in parts of 1,000.
+fn put_shape(alloc: Global, table: &mut Table, shape: &Shape) -> Result<(), NoMemory>
+    requires shape { IsShape shape.now }
+    requires empty { table_view table.old ≡ no_members }
+    ensures { OnOk result (table_view table.new ≡ shape_members shape.now) }
 {
     let version = if shape.parts == 100 { 1 } else { 2 };
-    let mut table = Table::new(alloc);
-    put_number(alloc, &mut table, Key::Version, version)?;
-    put_number(alloc, &mut table, Key::Cpus, u64::from(shape.cpus))?;
-    put_number(alloc, &mut table, Key::Tick, shape.tick)?;
-    put_number(alloc, &mut table, Key::Window, u64::from(shape.window))?;
-    put_number(alloc, &mut table, Key::Ticks, u64::from(shape.ticks))?;
-    put_number(alloc, &mut table, Key::CallNs, shape.call_ns)?;
-    put_text(alloc, &mut table, Key::Free, free_word(shape.free))?;
-    put_truth(alloc, &mut table, Key::Limit, shape.limit)?;
-    let bankruptcy = bankruptcy_word(shape.bankruptcy);
-    put_text(alloc, &mut table, Key::Bankruptcy, bankruptcy)?;
-    Ok(table)
+    put_number(alloc, table, Key::Version, version)?;
+    put_number(alloc, table, Key::Cpus, u64::from(shape.cpus))?;
+    put_number(alloc, table, Key::Tick, shape.tick)?;
+    put_number(alloc, table, Key::Window, u64::from(shape.window))?;
+    put_number(alloc, table, Key::Ticks, u64::from(shape.ticks))?;
+    put_number(alloc, table, Key::CallNs, shape.call_ns)?;
+    put_text(alloc, table, Key::Free, free_word(shape.free))?;
+    put_truth(alloc, table, Key::Limit, shape.limit)?;
+    put_text(
+        alloc,
+        table,
+        Key::Bankruptcy,
+        bankruptcy_word(shape.bankruptcy),
+    )
+}
+
+/// Puts the partitions, the channels, the threads and the commands behind the sizes and the policies.
+fn put_lists(alloc: Global, table: &mut Table, scenario: &Scenario) -> Result<(), NoMemory>
+    requires { table_view table.old ≡ shape_members scenario.now.shape }
+    ensures { OnOk result (table_view table.new ≡ scenario_members scenario.now) }
+{
+    let partitions = partitions_value(alloc, scenario)?;
+    put(alloc, table, Key::Partition, partitions)?;
+    let channels = channels_value(alloc, scenario.channels())?;
+    put(alloc, table, Key::Channel, channels)?;
+    let threads = threads_value(alloc, scenario)?;
+    put(alloc, table, Key::Thread, threads)?;
+    let commands = commands_value(alloc, scenario)?;
+    put(alloc, table, Key::Command, commands)
 }
 
 fn scenario_table(alloc: Global, scenario: &Scenario) -> Result<Table, NoMemory>
     ensures table { IfOk result (λ table. table_view table ≡ scenario_members scenario.now) }
     ensures valid { OnOk result (IsScenario scenario.now) }
 {
-    let partitions = partitions_value(alloc, scenario)?;
-    let channels = channels_value(alloc, scenario.channels())?;
-    let threads = threads_value(alloc, scenario)?;
-    let commands = commands_value(alloc, scenario)?;
-    let mut table = shape_table(alloc, scenario.shape())?;
-    put(alloc, &mut table, Key::Partition, partitions)?;
-    put(alloc, &mut table, Key::Channel, channels)?;
-    put(alloc, &mut table, Key::Thread, threads)?;
-    put(alloc, &mut table, Key::Command, commands)?;
+    let mut table = Table::new(alloc);
+    put_shape(alloc, &mut table, scenario.shape())?;
+    put_lists(alloc, &mut table, scenario)?;
     Ok(table)
 }
 

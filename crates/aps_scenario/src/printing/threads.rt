@@ -1,6 +1,8 @@
 //! The channels and the threads as arrays of tables.
-ghost use Rattle.std.specs.Prelude.{◌≡◌, ◌<◌, length, IfOk};
-ghost use Rattle.toml.specs.View.{view};
+ghost use Rattle.std.specs.Prelude.{◌≡◌, ◌<◌, length, IfOk, OnOk};
+ghost use Rattle.toml.specs.Data as values;
+ghost use Rattle.toml.specs.Data.{no_members};
+ghost use Rattle.toml.specs.View.{view, table_view};
 ghost use Rattle.aps_model.specs.Valid.{IsThreadRow, joinable};
 ghost use Rattle.aps_scenario.specs.PrintedTable.{array_of_each};
 ghost use Rattle.aps_scenario.specs.PrintedThreads.{channel_table, thread_table};
@@ -32,20 +34,34 @@ pub fn channels_value(alloc: Global, channels: &[Name]) -> Result<Value, NoMemor
     Ok(Value::Array(values))
 }
 
+/// Puts the keys of a thread into an empty table.
+fn put_thread(
+    alloc: Global,
+    table: &mut Table,
+    scenario: &Scenario,
+    row: &ThreadRow,
+) -> Result<(), NoMemory>
+    requires row { IsThreadRow (length scenario.now.partitions) (length scenario.now.channels) (joinable scenario.now) row.now }
+    requires empty { table_view table.old ≡ no_members }
+    ensures { OnOk result (values.table (table_view table.new) ≡ thread_table scenario.now.partitions scenario.now.channels row.now) }
+{
+    let partitions = scenario.partitions();
+    let partition = text_of(&partitions[row.partition.index()].name);
+    put_text(alloc, table, Key::Name, text_of(&row.name))?;
+    put_text(alloc, table, Key::Partition, partition)?;
+    put_number(alloc, table, Key::Priority, u64::from(row.priority))?;
+    put_text(alloc, table, Key::Policy, policy_word(row.policy))?;
+    put_truth(alloc, table, Key::Critical, row.critical)?;
+    let program = program_value(alloc, scenario.channels(), row.program.ops())?;
+    put(alloc, table, Key::Program, program)
+}
+
 fn thread_value(alloc: Global, scenario: &Scenario, row: &ThreadRow) -> Result<Value, NoMemory>
     requires { IsThreadRow (length scenario.now.partitions) (length scenario.now.channels) (joinable scenario.now) row.now }
     ensures { IfOk result (λ value. view value ≡ thread_table scenario.now.partitions scenario.now.channels row.now) }
 {
-    let partitions = scenario.partitions();
-    let partition = text_of(&partitions[row.partition.index()].name);
-    let program = program_value(alloc, scenario.channels(), row.program.ops())?;
     let mut table = Table::new(alloc);
-    put_text(alloc, &mut table, Key::Name, text_of(&row.name))?;
-    put_text(alloc, &mut table, Key::Partition, partition)?;
-    put_number(alloc, &mut table, Key::Priority, u64::from(row.priority))?;
-    put_text(alloc, &mut table, Key::Policy, policy_word(row.policy))?;
-    put_truth(alloc, &mut table, Key::Critical, row.critical)?;
-    put(alloc, &mut table, Key::Program, program)?;
+    put_thread(alloc, &mut table, scenario, row)?;
     Ok(Value::Table(table))
 }
 
