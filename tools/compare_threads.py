@@ -5,8 +5,8 @@
 
 PROGRAM and OTHER are commands, each as one argument, with the same command line; FOLDER holds scenarios, *.toml. Each is
 run N times (1) in either order, with the report `journal`. In fixed order standard output and status must be those of
-PROGRAM's `solo`; in free order OTHER's `check` must find the journal legal. A run that takes longer than so many seconds
-(60) counts as one that hangs. Each fault is printed with its file, and the exit status is 1 where there was one. It is no
+PROGRAM's `solo`; in free order OTHER's `check` must find the journal legal, and the status must be that of the end which
+it names. A run that takes longer than so many seconds (60) counts as one that hangs. Each fault is printed with its file, and the exit status is 1 where there was one. It is no
 part of the gate.
 """
 import argparse
@@ -17,6 +17,7 @@ import subprocess
 import sys
 
 SEPARATOR = b"--- journal\n"
+STATUS_OF_END = {b"horizon": 0, b"reboot": 3, b"limit": 6}
 
 
 def answer(command, words, data, seconds):
@@ -44,8 +45,9 @@ def faults_of(given, path):
             if order == "free":
                 check = ["check", "--order", "free", "--limit", given.limit]
                 verdict = answer(given.other, check, text + SEPARATOR + found[1], None)
-                if found[0] != alone[0] or not verdict[1].startswith(b"check legal"):
-                    faults.append(f"{path} {order} {turn}: status {found[0]} for {alone[0]}, {verdict}")
+                told = verdict[1].split()
+                if told[:2] != [b"check", b"legal"] or STATUS_OF_END.get(told[2]) != found[0]:
+                    faults.append(f"{path} {order} {turn}: status {found[0]}, {verdict}")
     return faults, 2 * given.runs
 
 
