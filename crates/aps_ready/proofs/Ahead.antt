@@ -91,13 +91,13 @@ ahead_one_way parts a b a_small b_small h =
 not_smaller : (u b : ℕ) → smaller u b u b ≡ false
 not_smaller u b = grind (arith, nat_tests)
 
--- in one group the level and the stamp decide
-pub ahead_in_group : (parts : List PartFacts) (a b : Entrant) → a.group ≡ b.group → is_ahead parts a b ≡ goes_before a b
-ahead_in_group parts a b same =
+-- in one partition the level and the stamp decide
+pub ahead_in_part : (parts : List PartFacts) (a b : Entrant) → a.group % 32 ≡ b.group % 32 → is_ahead parts a b ≡ goes_before a b
+ahead_in_part parts a b same =
     let part = part_of parts b in
     let flat : ahead_by part part (goes_before a b) ≡ goes_before a b =
     ap (λ (t : Bool). cond t true (cond t false (goes_before a b))) (not_smaller part.used part.budget) in
-    ap (λ (g : ℕ). ahead_by (part_at parts (g % 32)) part (goes_before a b)) same ∙ flat
+    ap (λ (p : ℕ). ahead_by (part_at parts p) part (goes_before a b)) same ∙ flat
 
 -- ---- merits
 

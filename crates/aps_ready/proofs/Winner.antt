@@ -24,7 +24,7 @@ use Rattle.aps_ready.specs.Winner.{is_above, is_candidate_at, IsWinner}
 use Rattle.aps_ready.proofs.Queued.{seat_at, seat_in}
 use Rattle.aps_ready.proofs.Content.{open_from, open_group, open_among, all_candidates}
 use Rattle.aps_ready.proofs.Tops.{IsKept, level_at_most, Occupant, occupant, sits_level}
-use Rattle.aps_ready.proofs.Ahead.{class_at, ahead_in_group, above_tie, above_by_ratio, above_lower_first, above_lower_second, above_class}
+use Rattle.aps_ready.proofs.Ahead.{class_at, ahead_in_part, above_tie, above_by_ratio, above_lower_first, above_lower_second, above_class}
 
 -- ---- what the gates say of somebody
 
@@ -176,7 +176,7 @@ at_least parts row brackets tops set found best kept least is_best = record { th
         let who = at best.group there (is_best.inside there) in
         let e = entrant_at row who.place in
         let before : goes_before e best ≡ false =
-        sym (ahead_in_group parts e best who.group) ∙ (behind best.group there (is_best.inside there)).1 in
+        sym (ahead_in_part parts e best (ap (λ (g : ℕ). g % 32) who.group)) ∙ (behind best.group there (is_best.inside there)).1 in
         omega (arith, not_before best e before, who.level, own.0)
 
 -- of the set nobody is above it

@@ -5,12 +5,16 @@ use Rattle.aps_model.specs.Budget.{part_at}
 use Rattle.aps_ready.specs.declared.entrant.Entrant.{Entrant}
 use Rattle.aps_ready.specs.Entrant.{goes_before}
 
+-- the first partition has used the smaller fraction
+abbrev pub has_used_less : PartFacts → PartFacts → Bool
+has_used_less a b = smaller a.used a.budget b.used b.budget
+
 -- a thread of the first partition is ahead of one of the second: the smaller fraction, and where neither is smaller the
 -- rest decides
 abbrev pub ahead_by : PartFacts → PartFacts → Bool → Bool
 ahead_by a b rest =
-    if smaller a.used a.budget b.used b.budget then true
-    else if smaller b.used b.budget a.used a.budget then false
+    if has_used_less a b then true
+    else if has_used_less b a then false
     else rest
 
 -- the order of candidates of one class, where they have one level too or free time goes by ratio
@@ -21,7 +25,7 @@ is_ahead parts a b = ahead_by (part_at parts (a.group % 32)) (part_at parts (b.g
 abbrev pub is_ahead_by_level : List PartFacts → Entrant → Entrant → Bool
 is_ahead_by_level parts a b = if nat_eq a.level b.level then is_ahead parts a b else nat_lt a.level b.level
 
--- the best so far, or the first of one more group, if somebody is there and ahead of it
+-- the best so far, or the first of one more partition, if somebody is there and ahead of it
 abbrev pub ahead_of : List PartFacts → Entrant → Entrant → Entrant
 ahead_of parts best top =
     if nat_lt best.group 64 then (if nat_lt top.group 64 && is_ahead parts top best then top else best) else top

@@ -1,11 +1,11 @@
 //! Which of two candidates of one class is chosen.
-ghost use Rattle.std.specs.Prelude.{◌≡◌, All};
+ghost use Rattle.std.specs.Prelude.{◌≡◌, ◌<◌, ◌%◌, false, All};
 ghost use Rattle.aps_model.specs.Budget.{part_at};
-ghost use Rattle.aps_ready.specs.Choice.{is_ahead, ahead_of};
+ghost use Rattle.aps_ready.specs.Choice.{has_used_less, is_ahead, ahead_of};
 ghost use Rattle.aps_ready.specs.Small.{IsSmall};
 
 use crate::entrant::{Entrant, goes_before};
-use aps_model::PartFacts;
+use aps_model::{PartFacts, less_fraction};
 
 /// How a partition stands. One that doesn't exist has no budget and is shut.
 #[inline(always)]
@@ -25,6 +25,17 @@ pub fn part_at(parts: &[PartFacts], p: usize) -> PartFacts
     }
 }
 
+/// Whether the first of two partitions has used the smaller fraction of its budget.
+#[inline(always)]
+pub fn has_used_less(parts: &[PartFacts], p: usize, q: usize) -> bool
+    requires { All IsSmall parts.now }
+    ensures { result ≡ has_used_less (part_at parts.now p) (part_at parts.now q) }
+{
+    let one = part_at(parts, p);
+    let two = part_at(parts, q);
+    less_fraction(one.used, one.budget, two.used, two.budget)
+}
+
 /// Whether `a` is ahead of `b`: the smaller fraction of the budget is used, or neither fraction is smaller and it goes
 /// before `b`.
 #[inline(always)]
@@ -32,25 +43,22 @@ pub fn is_ahead(parts: &[PartFacts], a: &Entrant, b: &Entrant) -> bool
     requires { All IsSmall parts.now }
     ensures { result ≡ is_ahead parts.now a.now b.now }
 {
-    let one = part_at(parts, (a.group % 32) as usize);
-    let two = part_at(parts, (b.group % 32) as usize);
-    if one.budget == 0 || two.budget == 0 {
-        return two.budget < one.budget || (one.budget == two.budget && goes_before(a, b));
-    }
-    let left = one.used * u64::from(two.budget);
-    let right = two.used * u64::from(one.budget);
-    left < right || (left == right && goes_before(a, b))
+    let p = (a.group % 32) as usize;
+    let q = (b.group % 32) as usize;
+    has_used_less(parts, p, q) || (!has_used_less(parts, q, p) && goes_before(a, b))
 }
 
-/// The best so far, or the first of one more group, if somebody is there and ahead of it.
+/// The best so far, who is somebody, or the first of partition `p`, if somebody is there and ahead of it. The best's
+/// partition has not used less than this one.
 #[inline(always)]
-pub fn ahead_of(parts: &[PartFacts], best: Entrant, top: Entrant) -> Entrant
-    requires { All IsSmall parts.now }
-    ensures { result ≡ ahead_of parts.now best top }
+pub fn ahead_of(parts: &[PartFacts], p: usize, best: Entrant, top: Entrant) -> Entrant
+    requires small { All IsSmall parts.now }
+    requires there { best.group < 64 }
+    requires not_less { has_used_less (part_at parts.now (best.group % 32)) (part_at parts.now p) ≡ false }
+    ensures { (top.group < 64 → top.group % 32 ≡ p) → result ≡ ahead_of parts.now best top }
 {
-    if best.group >= 64 {
-        top
-    } else if top.group < 64 && is_ahead(parts, &top, &best) {
+    let q = (best.group % 32) as usize;
+    if top.group < 64 && (has_used_less(parts, p, q) || goes_before(&top, &best)) {
         top
     } else {
         best

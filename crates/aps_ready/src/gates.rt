@@ -104,7 +104,10 @@ pub(crate) fn is_in_first(parts: &[PartFacts], group: usize) -> bool
     requires { group < 64 }
     ensures { result ≡ open_first parts.now group }
 {
-    is_open_first(&part_at(parts, group % PARTITIONS), 31 < group)
+    match parts.get(group % PARTITIONS) {
+        Some(part) => is_open_first(part, 31 < group),
+        None => false,
+    }
 }
 
 /// Whether they are candidates of class 1.

@@ -1,8 +1,7 @@
 //! The look at the brackets: who of those in them is the greatest candidate.
-ghost use Rattle.std.specs.Prelude.{◌≡◌, ◌<◌, ◌&&◌, true, All, List, length};
+ghost use Rattle.std.specs.Prelude.{◌≡◌, ℕ, ◌+◌, ◌<◌, ◌%◌, ◌&&◌, ◌||◌, nat_eq, true, Bool, All, List, length};
 ghost use Rattle.aps_model.specs.declared.shape.Free.{Free};
-ghost use Rattle.aps_levels.specs.Bits.{has};
-ghost use Rattle.aps_ready.specs.Best.{IsBest};
+ghost use Rattle.aps_ready.specs.Best.{is_wanted, IsBest};
 ghost use Rattle.aps_ready.specs.Gates.{open_first, AreGates};
 ghost use Rattle.aps_ready.specs.Likely.{AreLikely, AreLikelySecond};
 ghost use Rattle.aps_ready.specs.Ready.{AreDrawn, IsQueued};
@@ -12,13 +11,20 @@ ghost use Rattle.aps_ready.specs.Winner.{IsWinner};
 ghost use Rattle.aps_ready.specs.declared.entrant.Entrant.{Entrant};
 
 use crate::bracket::Bracket;
-use crate::choice::ahead_of;
-use crate::entrant::{Entrant, vacant};
-use crate::gates::{Gates, is_in_first};
+use crate::choice::{ahead_of, has_used_less};
+use crate::entrant::{Entrant, earlier, vacant};
+use crate::gates::{Gates, PARTITIONS, is_in_first};
 use crate::index::Index;
 use crate::seat::GROUPS;
 use aps_levels::Bits64;
 use aps_model::{Free, PartFacts};
+
+/// Which groups are wanted: these, or those of them alone whose threads are candidates of class 1.
+#[derive(Clone, Copy)]
+struct Wanted {
+    groups: Bits64,
+    first_alone: bool,
+}
 
 /// The greatest candidate of those in the brackets; nobody where none of them is a candidate.
 pub fn look(
@@ -34,7 +40,12 @@ pub fn look(
     requires topped { AreTopped brackets.now index.now }
     ensures { (row : List Entrant) → AreDrawn row brackets.now → IsQueued row → IsWinner free parts.now row result }
 {
-    best_among(brackets, parts, likely(index, gates, free))
+    let groups = likely(index, gates, free);
+    let wanted = Wanted {
+        groups,
+        first_alone: false,
+    };
+    best_among(brackets, parts, wanted)
 }
 
 /// The greatest candidate of those in the brackets, where it is of class 1 and at the highest priority that anybody there
@@ -49,7 +60,13 @@ pub fn near(brackets: &[Bracket], index: &Index, parts: &[PartFacts]) -> Entrant
         → open_first parts.now result.group ≡ true }
 {
     match index.least(index.occupied()) {
-        Some(groups) => best_first(brackets, parts, groups),
+        Some(groups) => {
+            let wanted = Wanted {
+                groups,
+                first_alone: true,
+            };
+            best_among(brackets, parts, wanted)
+        }
         None => vacant(),
     }
 }
@@ -79,43 +96,109 @@ fn likely_second(index: &Index, second: Bits64, free: Free) -> Bits64
     }
 }
 
-/// The one that is ahead of the others, of the first of these groups.
+/// The one that is ahead of the others, of the first of the groups that are wanted. Between the two groups of one
+/// partition it compares no fractions.
 #[inline(always)]
-fn best_among(brackets: &[Bracket], parts: &[PartFacts], groups: Bits64) -> Entrant
+fn best_among(brackets: &[Bracket], parts: &[PartFacts], wanted: Wanted) -> Entrant
     requires small { All IsSmall parts.now }
     requires count { length brackets.now ≡ 64 }
-    ensures { (row : List Entrant) → AreDrawn row brackets.now → IsQueued row → IsBest parts.now row (has groups) result }
+    ensures { (row : List Entrant) → AreDrawn row brackets.now → IsQueued row
+        → IsBest parts.now row (is_wanted parts.now wanted) result }
 {
     let mut best = vacant();
-    let mut left = groups;
+    let mut left = wanted.groups;
     for _ in 0..GROUPS {
         let Some(group) = left.least() else {
             return best;
         };
-        best = ahead_of(parts, best, brackets[group].first());
-        left = left.without(group);
+        let other = other_group(group);
+        best = with_two(brackets, parts, wanted, best, group, other);
+        left = left.without(group).without(other);
     }
     best
 }
 
-/// The one that is ahead of the others, of the first of those of these groups that have candidates of class 1.
+/// The best so far, or the first of two groups of one more partition, if somebody is there and ahead of it. It looks at
+/// none of them where the partition has used more.
 #[inline(always)]
-fn best_first(brackets: &[Bracket], parts: &[PartFacts], groups: Bits64) -> Entrant
+fn with_two(
+    brackets: &[Bracket],
+    parts: &[PartFacts],
+    wanted: Wanted,
+    best: Entrant,
+    group: usize,
+    other: usize,
+) -> Entrant
     requires small { All IsSmall parts.now }
     requires count { length brackets.now ≡ 64 }
-    ensures { (row : List Entrant) → AreDrawn row brackets.now → IsQueued row
-        → IsBest parts.now row (λ g. has groups g && open_first parts.now g) result }
+    requires group { group < 64 }
+    requires other { other < 64 }
+    requires same { group % 32 ≡ other % 32 }
+    ensures { (row : List Entrant) (before : ℕ → Bool) → AreDrawn row brackets.now → IsQueued row → IsBest parts.now row before best
+        → IsBest parts.now row (λ g. before g || (is_wanted parts.now wanted g && (nat_eq g group || nat_eq g other))) result }
 {
-    let mut best = vacant();
-    let mut left = groups;
-    'firsts: for _ in 0..GROUPS {
-        let Some(group) = left.least() else {
-            return best;
-        };
-        if is_in_first(parts, group) {
-            best = ahead_of(parts, best, brackets[group].first());
-        }
-        left = left.without(group);
+    if best.group >= 64 {
+        return first_of_two(brackets, parts, wanted, group, other);
     }
-    best
+    let p = group % PARTITIONS;
+    if has_used_less(parts, (best.group % 32) as usize, p) {
+        return best;
+    }
+    let top = first_of_two(brackets, parts, wanted, group, other);
+    ahead_of(parts, p, best, top)
+}
+
+/// The other group of the same partition.
+#[inline(always)]
+fn other_group(group: usize) -> usize
+    requires { group < 64 }
+    ensures { result ≡ (group + 32) % 64 }
+{
+    (group + PARTITIONS) % GROUPS
+}
+
+/// The one that goes before the other, of the first of two groups of one partition.
+#[inline(always)]
+fn first_of_two(
+    brackets: &[Bracket],
+    parts: &[PartFacts],
+    wanted: Wanted,
+    group: usize,
+    other: usize,
+) -> Entrant
+    requires count { length brackets.now ≡ 64 }
+    requires group { group < 64 }
+    requires other { other < 64 }
+    requires same { group % 32 ≡ other % 32 }
+    ensures { (row : List Entrant) → AreDrawn row brackets.now → IsQueued row
+        → IsBest parts.now row (λ g. is_wanted parts.now wanted g && (nat_eq g group || nat_eq g other)) result }
+{
+    earlier(
+        first_of(brackets, parts, wanted, group),
+        first_of(brackets, parts, wanted, other),
+    )
+}
+
+/// The first of a group; nobody where it isn't wanted.
+#[inline(always)]
+fn first_of(brackets: &[Bracket], parts: &[PartFacts], wanted: Wanted, group: usize) -> Entrant
+    requires count { length brackets.now ≡ 64 }
+    requires group { group < 64 }
+    ensures { (row : List Entrant) → AreDrawn row brackets.now → IsQueued row
+        → IsBest parts.now row (λ g. is_wanted parts.now wanted g && nat_eq g group) result }
+{
+    if is_wanted(parts, wanted, group) {
+        brackets[group].first()
+    } else {
+        vacant()
+    }
+}
+
+/// Whether a group is wanted.
+#[inline(always)]
+fn is_wanted(parts: &[PartFacts], wanted: Wanted, group: usize) -> bool
+    requires { group < 64 }
+    ensures { result ≡ is_wanted parts.now wanted group }
+{
+    wanted.groups.has(group) && (!wanted.first_alone || is_in_first(parts, group))
 }
