@@ -45,8 +45,9 @@ fn grow(
 fn boot(alloc: Global, history: &History, order: Order) -> Result<Core, NoMemory>
     requires { length history.now.entries ≤ 4000000 }
     ensures same { IfOk result (λ core. core ≡ record {
-        setup = record { scenario = history.now.scenario; order = order; limit = max (length history.now.entries) 1 };
-        entries = [] }) }
+      setup = record { scenario = history.now.scenario; order = order; limit = max (length history.now.entries) 1 };
+      entries = [];
+    }) }
     ensures valid { IfOk result (λ core. IsScenario history.now.scenario) }
 {
     // the check wants the scenario's own word that it is valid

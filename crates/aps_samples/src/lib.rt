@@ -13,5 +13,5 @@ pub mod table;
 mod truth;
 
 pub use pass::Samples;
-pub use retracing::rows_after;
+pub use retracing::{boot, retrace, rows_after};
 pub use sample::Sample;

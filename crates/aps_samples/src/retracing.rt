@@ -27,7 +27,7 @@ pub fn rows_after(
     rows_of(alloc, &core)
 }
 
-/// A core that has made no step of the history's scenario.
+/// A core that has made no step of the history's scenario, with room for all its entries. `NoMemory` comes where memory runs out.
 pub fn boot(alloc: Global, history: &History, order: Order) -> Result<Core, NoMemory>
     requires { length history.now.entries ≤ 4000000 }
     ensures same { IfOk result (λ core. core ≡ start_of history.now order) }

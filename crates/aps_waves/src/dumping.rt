@@ -1,13 +1,14 @@
 //! A history as a value change dump: every change of every signal, to the nanosecond.
-ghost use Rattle.std.specs.Prelude.{◌≤◌, IsErrOf, length};
+ghost use Rattle.std.specs.Prelude.{◌≡◌, ◌≤◌, [], IsErrOf, length};
 ghost use Rattle.aps_io.specs.Causes.{Rose};
 ghost use Rattle.aps_model.specs.Legal.{IsLegal};
+ghost use Rattle.aps_waves.specs.Retraced.{IsAt, order_of, scenario_of};
 
 use crate::dump::Dump;
 use crate::signals::add_head;
 use aps_bars::Overspent;
 use aps_io::Sink;
-use aps_model::{History, Order};
+use aps_model::{History, Order, PartitionRow};
 use aps_samples::rows_after;
 use aps_traces::fault::TraceFault;
 use aps_traces::piece::write_out;
@@ -31,11 +32,38 @@ pub fn vcd<K: Sink>(
     ensures later { K.faults sink.old ≤ K.faults sink.new }
 {
     let rows = rows_after(alloc, history, order)?;
-    let threads = history.scenario().threads();
-    let mut out = String::new(alloc);
-    add_head(&mut out, history.scenario().shape().cpus, &rows, threads)?;
     let mut dump = Dump::begin(alloc, history, order)?;
-    dump.go_through(sink, &mut out, threads, &rows, overspent, history.entries())?;
-    dump.tell(&mut out, threads, &rows, true)?;
-    write_out(sink, &mut out)
+    let mut out = String::new(alloc);
+    write_dump(
+        sink,
+        &mut out,
+        &mut dump,
+        history,
+        rows.as_slice(),
+        overspent,
+    )
+}
+
+/// Writes the dump of the history, by a dump that has told nothing and the rows that stand last.
+fn write_dump<K: Sink>(
+    sink: &mut K,
+    out: &mut String,
+    dump: &mut Dump,
+    history: &History,
+    rows: &[PartitionRow],
+    overspent: &[Overspent],
+) -> Result<(), TraceFault>
+    requires at { IsAt dump.old.at }
+    requires begins { dump.old.at.core.entries ≡ [] }
+    requires legal { IsLegal (scenario_of dump.old.at) (order_of dump.old.at) history.now.entries }
+    requires few { length history.now.entries ≤ dump.old.at.core.setup.limit }
+    requires few_rows { length rows.now ≤ 32 }
+    ensures fault { IsErrOf result TraceFault.WriteFault → Rose (K.faults sink.old) (K.faults sink.new) }
+    ensures later { K.faults sink.old ≤ K.faults sink.new }
+{
+    let threads = history.scenario().threads();
+    add_head(out, history.scenario().shape().cpus, rows, threads)?;
+    dump.go_through(sink, out, threads, rows, overspent, history.entries())?;
+    dump.tell(out, threads, rows, true)?;
+    write_out(sink, out)
 }
