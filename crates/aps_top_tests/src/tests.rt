@@ -208,6 +208,7 @@ fn told_by_failing_write(
     write_to_failing(alloc, words, &mut source, failing)
 }
 
+/// The same over this source.
 fn write_to_failing(
     alloc: Global,
     words: &[&str],
