@@ -1,6 +1,5 @@
 //! Demands that are answered.
-use super::{bytes_of, calm, entries_of};
-use std::alloc::{AllocError, Global};
+use super::{check_answer, ended};
 use std::test::Fail;
 
 /// Texts of demands, each with the status of its answer and its text.
@@ -85,30 +84,17 @@ demand = [{name = "System", need = 1}]
     ),
 ];
 
-fn admitted(alloc: Global, text: &str) -> Result<(u8, Vec<u8>), AllocError> {
-    let (ended, sink) = calm(alloc, &["admit"], bytes_of(alloc, text)?)?;
-    Ok((ended.status, sink.written().to_vec(alloc)?))
-}
-
 #[test]
 fn demands_are_answered(rt: HostRuntime) -> Result<(), Fail> {
-    let alloc = rt.alloc();
     for (text, status, answer) in ANSWERS {
-        let (told, written) = admitted(alloc, text)?;
-        assert_eq!(rt; told, status);
-        assert_eq!(rt; written.as_slice(), answer.as_bytes());
+        check_answer(&rt, rt.alloc(), &["admit"], text.as_bytes(), status, answer)?;
     }
     Ok(())
 }
 
 #[test]
 fn an_answer_hands_back_no_history(rt: HostRuntime) -> Result<(), Fail> {
-    let alloc = rt.alloc();
-    let (ended, _) = calm(
-        alloc,
-        &["admit"],
-        bytes_of(alloc, "version = 1\ncpus = 1\n")?,
-    )?;
-    assert_eq!(rt; entries_of(&ended.history), None);
+    let (_, entries) = ended(rt.alloc(), &["admit"], b"version = 1\ncpus = 1\n")?;
+    assert_eq!(rt; entries, None);
     Ok(())
 }

@@ -1,6 +1,7 @@
 //! Journals that are judged.
-use super::{calm, entries_of};
+use super::{check_answer, told};
 use std::alloc::{AllocError, Global};
+use std::process::Abort;
 use std::test::Fail;
 
 const SLEEPING_WORKER: &str = r#"version = 1
@@ -46,141 +47,144 @@ const SECOND_PROCESSOR_FIRST: &str = "1 0 0 - - - - 0 - -\n";
 
 const SEPARATOR: &str = "--- journal\n";
 
-/// How `check` with these options answers these texts, one after the other.
-fn checked(alloc: Global, options: &[&str], texts: &[&str]) -> Result<(u8, Vec<u8>), AllocError> {
-    let mut words = Vec::new(alloc);
-    words.push("check")?;
-    for option in options {
-        words.push(*option)?;
-    }
-    let mut input = Vec::new(alloc);
+const LEGAL: &str = "check legal horizon\n";
+
+/// Inputs of `check` that are refused, with what is written of each.
+const REFUSED_INPUTS: [(&[&str], &str); 5] = [
+    (&[SLEEPING_WORKER], "aps: scenario refused: no-journal -\n"),
+    (
+        &["colour = 2\n", SEPARATOR, "0 0 x"],
+        "aps: scenario refused: unknown-key colour\n",
+    ),
+    (
+        &[SLEEPING_WORKER, SEPARATOR, "0 0 x"],
+        "aps: scenario refused: bad-journal 1:5\n",
+    ),
+    (
+        &[SLEEPING_WORKER, SEPARATOR, "0 0 0 - - - - 1 - -\r\n"],
+        "aps: scenario refused: bad-journal 1:20\n",
+    ),
+    (
+        &[SLEEPING_WORKER, SEPARATOR, "0 0 0 - - - - 1 - -\n0 0 4"],
+        "aps: scenario refused: bad-journal 2:6\n",
+    ),
+];
+
+/// These texts behind the bytes.
+fn push_all(bytes: &mut Vec<u8>, texts: &[&str]) -> Result<(), AllocError> {
     for text in texts {
-        input.extend_from_slice(text.as_bytes())?;
+        bytes.extend_from_slice(text.as_bytes())?;
     }
-    let (ended, sink) = calm(alloc, &words, input)?;
-    Ok((ended.status, sink.written().to_vec(alloc)?))
+    Ok(())
 }
 
-/// How `check` answers the journal of the sleeping worker that these texts are, with these options.
-fn judged(alloc: Global, options: &[&str], journal: &[&str]) -> Result<(u8, Vec<u8>), AllocError> {
-    let mut texts = Vec::new(alloc);
-    texts.push(SLEEPING_WORKER)?;
-    texts.push(SEPARATOR)?;
-    for text in journal {
-        texts.push(*text)?;
-    }
-    checked(alloc, options, &texts)
+/// A call with these words over these texts, one after the other, has this status and writes this line.
+fn check_texts(
+    rt: &impl Abort,
+    alloc: Global,
+    words: &[&str],
+    texts: &[&str],
+    status: u8,
+    line: &str,
+) -> Result<(), AllocError> {
+    let mut input = Vec::new(alloc);
+    push_all(&mut input, texts)?;
+    check_answer(rt, alloc, words, &input, status, line)?;
+    Ok(())
 }
 
 #[test]
 fn the_journal_of_a_run_is_legal(rt: HostRuntime) -> Result<(), Fail> {
+    let texts = [SLEEPING_WORKER, SEPARATOR, SLEEPING_WORKER_JOURNAL];
     let alloc = rt.alloc();
-    let (status, line) = judged(alloc, &[], &[SLEEPING_WORKER_JOURNAL])?;
-    assert_eq!(rt; status, 0);
-    assert_eq!(rt; line.as_slice(), b"check legal horizon\n".as_slice());
-    let (status, line) = judged(alloc, &["--order", "fixed"], &[SLEEPING_WORKER_JOURNAL])?;
-    assert_eq!(rt; status, 0);
-    assert_eq!(rt; line.as_slice(), b"check legal horizon\n".as_slice());
+    check_texts(&rt, alloc, &["check"], &texts, 0, LEGAL)?;
+    check_texts(&rt, alloc, &["check", "--order", "fixed"], &texts, 0, LEGAL)?;
     Ok(())
 }
 
 #[test]
 fn another_pick_breaks(rt: HostRuntime) -> Result<(), Fail> {
-    let alloc = rt.alloc();
-    let (status, line) = judged(alloc, &[], &[OTHER_PICK])?;
-    assert_eq!(rt; status, 9);
-    assert_eq!(rt; line.as_slice(), b"check breaks 1 picked\n".as_slice());
+    let texts = [SLEEPING_WORKER, SEPARATOR, OTHER_PICK];
+    let line = "check breaks 1 picked\n";
+    check_texts(&rt, rt.alloc(), &["check"], &texts, 9, line)?;
     Ok(())
 }
 
 #[test]
 fn turns_are_judged_by_the_named_order(rt: HostRuntime) -> Result<(), Fail> {
-    let alloc = rt.alloc();
     let texts = [TWO_PROCESSORS, SEPARATOR, SECOND_PROCESSOR_FIRST];
-    let (status, line) = checked(alloc, &["--order", "fixed"], &texts)?;
-    assert_eq!(rt; status, 9);
-    assert_eq!(rt; line.as_slice(), b"check breaks 0 turn\n".as_slice());
-    let (status, line) = checked(alloc, &["--order=free"], &texts)?;
-    assert_eq!(rt; status, 0);
-    assert_eq!(rt; line.as_slice(), b"check legal open\n".as_slice());
+    let fixed = ["check", "--order", "fixed"];
+    let free = ["check", "--order=free"];
+    let alloc = rt.alloc();
+    check_texts(&rt, alloc, &fixed, &texts, 9, "check breaks 0 turn\n")?;
+    check_texts(&rt, alloc, &free, &texts, 0, "check legal open\n")?;
     Ok(())
 }
 
 #[test]
 fn what_follows_the_end_breaks(rt: HostRuntime) -> Result<(), Fail> {
-    let alloc = rt.alloc();
-    let (status, line) = judged(alloc, &[], &[SLEEPING_WORKER_JOURNAL, LAST_LINE])?;
-    assert_eq!(rt; status, 9);
-    assert_eq!(rt; line.as_slice(), b"check breaks 7 after\n".as_slice());
-    let (status, line) = judged(alloc, &["--limit=2"], &[SLEEPING_WORKER_JOURNAL])?;
-    assert_eq!(rt; status, 9);
-    assert_eq!(rt; line.as_slice(), b"check breaks 2 after\n".as_slice());
-    let (status, line) = judged(alloc, &["--limit=7"], &[SLEEPING_WORKER_JOURNAL])?;
-    assert_eq!(rt; status, 0);
-    assert_eq!(rt; line.as_slice(), b"check legal horizon\n".as_slice());
+    let whole = [SLEEPING_WORKER, SEPARATOR, SLEEPING_WORKER_JOURNAL];
+    let longer = [
+        SLEEPING_WORKER,
+        SEPARATOR,
+        SLEEPING_WORKER_JOURNAL,
+        LAST_LINE,
+    ];
+    let cases: [(&[&str], &[&str], u8, &str); 3] = [
+        (&["check"], &longer, 9, "check breaks 7 after\n"),
+        (&["check", "--limit=2"], &whole, 9, "check breaks 2 after\n"),
+        (&["check", "--limit=7"], &whole, 0, LEGAL),
+    ];
+    for (words, texts, status, line) in cases {
+        check_texts(&rt, rt.alloc(), words, texts, status, line)?;
+    }
     Ok(())
 }
 
 #[test]
 fn a_journal_without_entries_is_open(rt: HostRuntime) -> Result<(), Fail> {
-    let alloc = rt.alloc();
-    let (status, line) = judged(alloc, &[], &[])?;
-    assert_eq!(rt; status, 0);
-    assert_eq!(rt; line.as_slice(), b"check legal open\n".as_slice());
+    let texts = [SLEEPING_WORKER, SEPARATOR];
+    check_texts(&rt, rt.alloc(), &["check"], &texts, 0, "check legal open\n")?;
     Ok(())
 }
 
 #[test]
 fn other_inputs_are_refused(rt: HostRuntime) -> Result<(), Fail> {
-    let alloc = rt.alloc();
-    let (status, line) = checked(alloc, &[], &[SLEEPING_WORKER])?;
-    assert_eq!(rt; status, 2);
-    assert_eq!(rt;
-        line.as_slice(),
-        b"aps: scenario refused: no-journal -\n".as_slice()
-    );
-    let (status, line) = checked(alloc, &[], &["colour = 2\n", SEPARATOR, "0 0 x"])?;
-    assert_eq!(rt; status, 2);
-    assert_eq!(rt;
-        line.as_slice(),
-        b"aps: scenario refused: unknown-key colour\n".as_slice()
-    );
-    let bad: [(&str, &[u8]); 3] = [
-        ("0 0 x", b"aps: scenario refused: bad-journal 1:5\n"),
-        (
-            "0 0 0 - - - - 1 - -\r\n",
-            b"aps: scenario refused: bad-journal 1:20\n",
-        ),
-        (
-            "0 0 0 - - - - 1 - -\n0 0 4",
-            b"aps: scenario refused: bad-journal 2:6\n",
-        ),
-    ];
-    for (journal, refusal) in bad {
-        let (status, line) = judged(alloc, &[], &[journal])?;
-        assert_eq!(rt; status, 2);
-        assert_eq!(rt; line.as_slice(), refusal);
+    for (texts, refusal) in REFUSED_INPUTS {
+        check_texts(&rt, rt.alloc(), &["check"], texts, 2, refusal)?;
     }
+    Ok(())
+}
+
+/// The journal is legal behind a comment of 2,000,000 bytes, and no history is handed back.
+fn check_behind_comment(rt: &impl Abort, alloc: Global) -> Result<(), AllocError> {
+    let mut input = vec![in alloc; b'#'; 2_000_000]?;
+    push_all(
+        &mut input,
+        &["\n", SLEEPING_WORKER, SEPARATOR, SLEEPING_WORKER_JOURNAL],
+    )?;
+    let entries = check_answer(rt, alloc, &["check"], &input, 0, LEGAL)?;
+    assert_eq!(rt; entries, None);
     Ok(())
 }
 
 #[test]
 fn more_bytes_than_a_scenario_has_are_read(rt: HostRuntime) -> Result<(), Fail> {
-    let alloc = rt.alloc();
-    let mut input = vec![in alloc; b'#'; 2_000_000]?;
-    for text in ["\n", SLEEPING_WORKER, SEPARATOR, SLEEPING_WORKER_JOURNAL] {
-        input.extend_from_slice(text.as_bytes())?;
-    }
-    let (ended, sink) = calm(alloc, &["check"], input)?;
-    assert_eq!(rt; ended.status, 0);
-    assert_eq!(rt; sink.written(), b"check legal horizon\n".as_slice());
-    assert_eq!(rt; entries_of(&ended.history), None);
+    check_behind_comment(&rt, rt.alloc())?;
     Ok(())
 }
 
-#[test]
-fn the_journal_of_a_generated_load_is_legal(rt: HostRuntime) -> Result<(), Fail> {
-    let alloc = rt.alloc();
+/// A scenario, and behind it the journal of its run in fixed order.
+fn with_journal(alloc: Global, scenario: &[u8]) -> Result<Vec<u8>, AllocError> {
+    let mut whole = scenario.to_vec(alloc)?;
+    whole.extend_from_slice(SEPARATOR.as_bytes())?;
+    let journal = told(alloc, &["solo", "--report", "journal"], scenario)?;
+    whole.extend_from_slice(&journal.text)?;
+    Ok(whole)
+}
+
+/// A generated scenario, and behind it the journal of its run.
+fn recorded_load(alloc: Global) -> Result<Vec<u8>, AllocError> {
     let words = [
         "gen",
         "--seed=7",
@@ -188,15 +192,14 @@ fn the_journal_of_a_generated_load_is_legal(rt: HostRuntime) -> Result<(), Fail>
         "--partitions=3",
         "--ticks=100",
     ];
-    let (_, load) = calm(alloc, &words, Vec::new(alloc))?;
-    let scenario = load.written();
-    let words = ["solo", "--report", "journal"];
-    let (_, journal) = calm(alloc, &words, scenario.to_vec(alloc)?)?;
-    let mut input = scenario.to_vec(alloc)?;
-    input.extend_from_slice(SEPARATOR.as_bytes())?;
-    input.extend_from_slice(journal.written())?;
-    let (ended, sink) = calm(alloc, &["check", "--order", "fixed"], input)?;
-    assert_eq!(rt; ended.status, 0);
-    assert_eq!(rt; sink.written(), b"check legal horizon\n".as_slice());
+    let load = told(alloc, &words, b"")?;
+    with_journal(alloc, &load.text)
+}
+
+#[test]
+fn the_journal_of_a_generated_load_is_legal(rt: HostRuntime) -> Result<(), Fail> {
+    let alloc = rt.alloc();
+    let input = recorded_load(alloc)?;
+    check_answer(&rt, alloc, &["check", "--order", "fixed"], &input, 0, LEGAL)?;
     Ok(())
 }

@@ -2,10 +2,13 @@
 ghost use Rattle.std.specs.Prelude.{◌<◌, ◌≤◌, ◌+◌, length, None};
 ghost use Rattle.aps_io.specs.Bytes.{Reads, ReadCause};
 
-use super::{TWO_EQUAL, bytes_of, call, calm, entries_of};
-use aps_io::{CalmSink, CalmSource, MemSink, MemSource, ReadAnswer, Source};
+use super::{
+    TWO_EQUAL, check_answer, ended, told, told_by_failing_read, told_by_failing_write, told_of,
+};
+use aps_io::{ReadAnswer, Source};
 use aps_scenario::scenario_of;
 use std::alloc::{AllocError, Global};
+use std::process::Abort;
 use std::test::Fail;
 
 const TWO_PROCESSORS: &str = r#"version = 1
@@ -70,12 +73,6 @@ impl Source for Endless {
     }
 }
 
-/// What `solo` writes of a text, with its status.
-fn answer(alloc: Global, text: &str) -> Result<(u8, CalmSink), AllocError> {
-    let (ended, sink) = calm(alloc, &["solo"], bytes_of(alloc, text)?)?;
-    Ok((ended.status, sink))
-}
-
 /// A head, then this piece so many times, then an end.
 fn repeated(
     alloc: Global,
@@ -93,133 +90,136 @@ fn repeated(
     Ok(text)
 }
 
+/// `solo` refuses the text that is made so, with this line.
+fn check_refused(
+    rt: &impl Abort,
+    alloc: Global,
+    (head, piece, count, end): (&str, &str, usize, &str),
+    line: &str,
+) -> Result<(), AllocError> {
+    let text = repeated(alloc, head, piece, count, end)?;
+    check_answer(rt, alloc, &["solo"], text.as_bytes(), 2, line)?;
+    Ok(())
+}
+
 #[test]
 fn the_first_or_second_read_fails(rt: HostRuntime) -> Result<(), Fail> {
-    let alloc = rt.alloc();
     for failing in [0, 1] {
-        let mut source = MemSource::new(bytes_of(alloc, TWO_EQUAL)?, vec![in alloc; failing]?);
-        let mut sink = CalmSink::new(Vec::new(alloc));
-        let ended = call(alloc, &["solo"], &mut source, &mut sink)?;
-        assert_eq!(rt; ended.status, 4);
-        assert_eq!(rt; sink.written(), b"aps: read fault\n".as_slice());
+        let told = told_by_failing_read(rt.alloc(), failing)?;
+        assert_eq!(rt; told.status, 4);
+        assert_eq!(rt; told.text.as_slice(), b"aps: read fault\n".as_slice());
     }
     Ok(())
 }
 
 #[test]
 fn an_endless_input_is_too_long(rt: HostRuntime) -> Result<(), Fail> {
-    let alloc = rt.alloc();
-    let mut sink = CalmSink::new(Vec::new(alloc));
-    let ended = call(alloc, &["solo"], &mut Endless, &mut sink)?;
-    assert_eq!(rt; ended.status, 8);
-    assert_eq!(rt; sink.written(), b"aps: input too long\n".as_slice());
+    let told = told_of(rt.alloc(), &["solo"], &mut Endless)?;
+    assert_eq!(rt; told.status, 8);
+    assert_eq!(rt; told.text.as_slice(), b"aps: input too long\n".as_slice());
     Ok(())
+}
+
+/// Whether the call was whole where the write of this number fails, as no such write is made; else a prefix was written.
+fn is_whole(
+    rt: &impl Abort,
+    alloc: Global,
+    whole: &[u8],
+    failing: u32,
+) -> Result<bool, AllocError> {
+    let words = ["solo", "--report", "journal"];
+    let told = told_by_failing_write(alloc, &words, TWO_EQUAL, failing)?;
+    if told.status == 0 {
+        return Ok(true);
+    }
+    assert_eq!(rt; told.status, 5);
+    assert!(rt; told.text.len() < whole.len());
+    assert!(rt; whole.starts_with(&told.text));
+    Ok(false)
 }
 
 #[test]
 fn each_write_fails_in_turn(rt: HostRuntime) -> Result<(), Fail> {
-    let alloc = rt.alloc();
     let words = ["solo", "--report", "journal"];
-    let (_, whole) = calm(alloc, &words, bytes_of(alloc, TWO_EQUAL)?)?;
+    let whole = told(rt.alloc(), &words, TWO_EQUAL.as_bytes())?;
     for failing in 0..64 {
-        let mut source = CalmSource::new(bytes_of(alloc, TWO_EQUAL)?);
-        let mut sink = MemSink::new(Vec::new(alloc), vec![in alloc; failing]?);
-        let ended = call(alloc, &words, &mut source, &mut sink)?;
-        if ended.status == 0 {
-            assert_eq!(rt; failing > 0, true);
+        if is_whole(&rt, rt.alloc(), &whole.text, failing)? {
+            assert!(rt; failing > 0);
             return Ok(());
         }
-        assert_eq!(rt; ended.status, 5);
-        assert_eq!(rt; sink.written().len() < whole.written().len(), true);
-        assert_eq!(rt; whole.written().starts_with(sink.written()), true);
     }
     panic!(rt; "a journal takes fewer writes")
 }
 
 #[test]
 fn a_refusal_of_words_keeps_its_status_without_a_sink(rt: HostRuntime) -> Result<(), Fail> {
-    let alloc = rt.alloc();
-    let mut source = CalmSource::new(Vec::new(alloc));
-    let mut sink = MemSink::new(Vec::new(alloc), vec![in alloc; 0]?);
-    let ended = call(alloc, &["fly"], &mut source, &mut sink)?;
-    assert_eq!(rt; ended.status, 1);
-    assert_eq!(rt; sink.written().len(), 0);
+    let told = told_by_failing_write(rt.alloc(), &["fly"], "", 0)?;
+    assert_eq!(rt; told.status, 1);
+    assert_eq!(rt; told.text.len(), 0);
     Ok(())
+}
+
+/// The status of the bytes as a scenario that is run.
+fn status_of(alloc: Global, bytes: &[u8]) -> u8 {
+    if scenario_of(alloc, bytes).is_ok() {
+        0
+    } else {
+        2
+    }
 }
 
 #[test]
 fn each_prefix_is_a_scenario_or_is_refused(rt: HostRuntime) -> Result<(), Fail> {
-    let alloc = rt.alloc();
     let text = TWO_PROCESSORS.as_bytes();
     for length in 0..text.len() {
         let prefix = &text[..length];
-        let status = if scenario_of(alloc, prefix).is_ok() {
-            0
-        } else {
-            2
-        };
-        let (ended, _) = calm(alloc, &["solo"], prefix.to_vec(alloc)?)?;
-        assert_eq!(rt; ended.status, status);
+        let (status, _) = ended(rt.alloc(), &["solo"], prefix)?;
+        assert_eq!(rt; status, status_of(rt.alloc(), prefix));
     }
     Ok(())
 }
 
 #[test]
 fn too_many_threads_or_operations_are_refused(rt: HostRuntime) -> Result<(), Fail> {
-    let alloc = rt.alloc();
-    let piece = "[[thread]]\nname = \"t\"\nprogram = [\"exit\"]\n";
-    let threads = repeated(alloc, HEAD, piece, 1025, "")?;
-    let (status, sink) = answer(alloc, threads.as_str())?;
-    assert_eq!(rt; status, 2);
-    assert_eq!(rt;
-        sink.written(),
-        b"aps: scenario refused: out-of-range thread\n".as_slice()
-    );
+    let thread = "[[thread]]\nname = \"t\"\nprogram = [\"exit\"]\n";
+    let threads = (HEAD, thread, 1025, "");
+    let line = "aps: scenario refused: out-of-range thread\n";
+    check_refused(&rt, rt.alloc(), threads, line)?;
     let head = "version = 1\ncpus = 1\nticks = 1\nthread = [{name = \"s\", program = [";
-    let operations = repeated(alloc, head, "\"yield\", ", 256, "\"exit\"]}]\n")?;
-    let (status, sink) = answer(alloc, operations.as_str())?;
-    assert_eq!(rt; status, 2);
-    assert_eq!(rt;
-        sink.written(),
-        b"aps: scenario refused: out-of-range thread[0].program\n".as_slice()
-    );
+    let operations = (head, "\"yield\", ", 256, "\"exit\"]}]\n");
+    let line = "aps: scenario refused: out-of-range thread[0].program\n";
+    check_refused(&rt, rt.alloc(), operations, line)?;
     Ok(())
 }
 
 #[test]
 fn operations_out_of_place_or_range_are_refused(rt: HostRuntime) -> Result<(), Fail> {
-    let alloc = rt.alloc();
+    let head = "version = 1\ncpus = 1\nticks = 1\nthread = [{name = \"s\", program = ";
     for program in BAD_PROGRAMS {
-        let mut text = repeated(alloc, HEAD, "", 0, "thread = [{name = \"s\", program = ")?;
-        text.push_str(program)?;
-        text.push_str("}]\n")?;
-        let (status, sink) = answer(alloc, text.as_str())?;
-        assert_eq!(rt; status, 2);
-        assert_eq!(rt; sink.written(), BAD_OPERATION.as_bytes());
+        check_refused(&rt, rt.alloc(), (head, program, 1, "}]\n"), BAD_OPERATION)?;
     }
     Ok(())
 }
 
+/// The window as an array nested so deep.
+fn nested(alloc: Global, depth: usize) -> Result<String, AllocError> {
+    let opened = repeated(alloc, "version = 1\ncpus = 1\nwindow = ", "[", depth, "7")?;
+    repeated(alloc, opened.as_str(), "]", depth, "\nticks = 1\n")
+}
+
 #[test]
 fn deep_arrays_are_refused(rt: HostRuntime) -> Result<(), Fail> {
-    let alloc = rt.alloc();
-    let opened = repeated(alloc, "version = 1\ncpus = 1\nwindow = ", "[", 1000, "7")?;
-    let text = repeated(alloc, opened.as_str(), "]", 1000, "\nticks = 1\n")?;
-    let (status, _) = answer(alloc, text.as_str())?;
+    let text = nested(rt.alloc(), 1000)?;
+    let (status, _) = ended(rt.alloc(), &["solo"], text.as_bytes())?;
     assert_eq!(rt; status, 2);
     Ok(())
 }
 
 #[test]
 fn a_run_stops_before_a_flag_is_served(rt: HostRuntime) -> Result<(), Fail> {
-    let alloc = rt.alloc();
-    let (ended, sink) = calm(
-        alloc,
-        &["solo", "--limit", "12"],
-        bytes_of(alloc, TWO_PROCESSORS)?,
-    )?;
-    assert_eq!(rt; ended.status, 6);
-    assert_eq!(rt; entries_of(&ended.history), Some(12));
-    assert_eq!(rt; sink.written(), TWO_PROCESSORS_LIMITED.as_bytes());
+    let words = ["solo", "--limit", "12"];
+    let input = TWO_PROCESSORS.as_bytes();
+    let entries = check_answer(&rt, rt.alloc(), &words, input, 6, TWO_PROCESSORS_LIMITED)?;
+    assert_eq!(rt; entries, Some(12));
     Ok(())
 }

@@ -1,8 +1,8 @@
 //! Whole calls with a thread for each processor.
-use crate::tests::{TWO_EQUAL, bytes_of, calm, owned};
+use crate::tests::{TWO_EQUAL, bytes_of, owned, told};
 use aps_cpu::{Gate, MeetGate, OpenGate};
 use aps_io::{CalmSink, CalmSource};
-use aps_top::top::{Ended, top};
+use aps_top::top::top;
 use std::alloc::{AllocError, Global};
 use std::sync::Wait;
 use std::test::Fail;
@@ -38,28 +38,40 @@ short 0 partition 0 window 0
 overcritical 0 partition 0 window 0
 ";
 
-/// How a call with these words and this input ended, with this gate, and what it wrote.
+/// The status of a call with these words over this source, with this gate.
+fn called<R: Threads + Wait + Sync, G: Gate + Sync>(
+    rt: &R,
+    alloc: Global,
+    words: &[&str],
+    source: &mut CalmSource,
+    sink: &mut CalmSink,
+    gate: &G,
+) -> Result<u8, AllocError> {
+    let words = owned(alloc, words)?;
+    let ended = top(rt, alloc, &words, source, sink, gate);
+    Ok(ended.status)
+}
+
+/// The status of a call with these words over this input, with this gate, and the sink with what it writes.
 fn threaded<R: Threads + Wait + Sync, G: Gate + Sync>(
     rt: &R,
     alloc: Global,
     words: &[&str],
     input: &str,
     gate: &G,
-) -> Result<(Ended, CalmSink), AllocError> {
-    let words = owned(alloc, words)?;
+) -> Result<(u8, CalmSink), AllocError> {
     let mut source = CalmSource::new(bytes_of(alloc, input)?);
     let mut sink = CalmSink::new(Vec::new(alloc));
-    let ended = top(rt, alloc, &words, &mut source, &mut sink, gate);
-    Ok((ended, sink))
+    let status = called(rt, alloc, words, &mut source, &mut sink, gate)?;
+    Ok((status, sink))
 }
 
 #[test]
 fn two_threads_meet(rt: HostRuntime) -> Result<(), Fail> {
-    let alloc = rt.alloc();
     let gate = MeetGate::new();
-    let (ended, sink) = threaded(&rt, alloc, &["run"], TWO_PROCESSORS, &gate)?;
+    let (status, sink) = threaded(&rt, rt.alloc(), &["run"], TWO_PROCESSORS, &gate)?;
     assert!(rt; gate.met());
-    assert_eq!(rt; ended.status, 0);
+    assert_eq!(rt; status, 0);
     assert_eq!(rt; sink.written(), TWO_PROCESSORS_SUMMARY.as_bytes());
     Ok(())
 }
@@ -68,12 +80,11 @@ fn two_threads_meet(rt: HostRuntime) -> Result<(), Fail> {
 fn where_one_run_is_possible_threads_make_it(rt: HostRuntime) -> Result<(), Fail> {
     let alloc = rt.alloc();
     for (input, order) in [(TWO_EQUAL, "free"), (TWO_PROCESSORS, "fixed")] {
+        let alone = told(alloc, &["solo", "--report=journal"], input.as_bytes())?;
         let words = ["run", "--report=journal", "--order", order];
-        let (ended, sink) = threaded(&rt, alloc, &words, input, &OpenGate)?;
-        let words = ["solo", "--report=journal"];
-        let (alone, journal) = calm(alloc, &words, bytes_of(alloc, input)?)?;
-        assert_eq!(rt; (ended.status, alone.status), (0, 0));
-        assert_eq!(rt; sink.written(), journal.written());
+        let (status, sink) = threaded(&rt, alloc, &words, input, &OpenGate)?;
+        assert_eq!(rt; (status, alone.status), (0, 0));
+        assert_eq!(rt; sink.written(), alone.text.as_slice());
     }
     Ok(())
 }

@@ -1,8 +1,11 @@
 //! Scenarios that are written anew with their budgets in parts per thousand.
-use super::{TWO_EQUAL, bytes_of, calm};
+use super::{TWO_EQUAL, ended, owned, told};
+use aps_io::{CalmSink, CalmSource};
 use aps_model::{Answer, CtlRefusal, PartitionId, Reply};
+use aps_top::top::calm_top;
 use aps_upgrade_laws::upgraded_reply;
 use std::alloc::{AllocError, Global};
+use std::process::Abort;
 use std::test::Fail;
 
 const UPGRADED_SUMMARY: &str = "aps summary 1
@@ -73,50 +76,79 @@ command = [
 
 const THIRD_VERSION: &str = "version = 3\ncpus = 1\nticks = 1\n";
 
-/// The text of the upgraded scenario, and the status.
+/// The status of an upgrade, and the text of the upgraded scenario.
 fn upgraded(alloc: Global, text: &[u8]) -> Result<(u8, Vec<u8>), AllocError> {
-    let (ended, sink) = calm(alloc, &["upgrade"], text.to_vec(alloc)?)?;
-    Ok((ended.status, sink.written().to_vec(alloc)?))
+    let told = told(alloc, &["upgrade"], text)?;
+    Ok((told.status, told.text))
 }
 
 /// What `solo` writes of a text under this report.
 fn report_of(alloc: Global, report: &str, text: &[u8]) -> Result<Vec<u8>, AllocError> {
-    let (_, sink) = calm(alloc, &["solo", "--report", report], text.to_vec(alloc)?)?;
-    sink.written().to_vec(alloc)
+    let told = told(alloc, &["solo", "--report", report], text)?;
+    Ok(told.text)
+}
+
+/// The run of the upgraded scenario has this summary.
+fn check_summary(
+    rt: &impl Abort,
+    alloc: Global,
+    scenario: &str,
+    summary: &str,
+) -> Result<(), AllocError> {
+    let (status, text) = upgraded(alloc, scenario.as_bytes())?;
+    assert_eq!(rt; status, 0);
+    let written = report_of(alloc, "summary", &text)?;
+    assert_eq!(rt; written.as_slice(), summary.as_bytes());
+    Ok(())
+}
+
+/// The journal of the run of the upgraded scenario.
+fn upgraded_journal(alloc: Global, scenario: &str) -> Result<Vec<u8>, AllocError> {
+    let (_, text) = upgraded(alloc, scenario.as_bytes())?;
+    report_of(alloc, "journal", &text)
 }
 
 #[test]
 fn an_upgraded_scenario_runs_as_before(rt: HostRuntime) -> Result<(), Fail> {
     let alloc = rt.alloc();
-    let (status, text) = upgraded(alloc, TWO_EQUAL.as_bytes())?;
-    assert_eq!(rt; status, 0);
-    let summary = report_of(alloc, "summary", &text)?;
-    assert_eq!(rt; summary.as_slice(), UPGRADED_SUMMARY.as_bytes());
-    let journal = report_of(alloc, "journal", &text)?;
-    assert_eq!(rt; journal, report_of(alloc, "journal", TWO_EQUAL.as_bytes())?);
+    check_summary(&rt, alloc, TWO_EQUAL, UPGRADED_SUMMARY)?;
+    let before = report_of(alloc, "journal", TWO_EQUAL.as_bytes())?;
+    assert_eq!(rt; upgraded_journal(alloc, TWO_EQUAL)?, before);
     Ok(())
 }
 
 #[test]
 fn an_upgraded_scenario_has_its_replies_in_thousandths(rt: HostRuntime) -> Result<(), Fail> {
-    let alloc = rt.alloc();
-    let (status, text) = upgraded(alloc, TREE_COMMANDS.as_bytes())?;
-    assert_eq!(rt; status, 0);
-    let summary = report_of(alloc, "summary", &text)?;
-    assert_eq!(rt;
-        summary.as_slice(),
-        TREE_COMMANDS_UPGRADED_SUMMARY.as_bytes()
-    );
+    check_summary(
+        &rt,
+        rt.alloc(),
+        TREE_COMMANDS,
+        TREE_COMMANDS_UPGRADED_SUMMARY,
+    )?;
     Ok(())
 }
 
-/// The replies of the run of a text.
-fn replies_of(alloc: Global, text: &[u8]) -> Result<Vec<Reply>, AllocError> {
-    let (ended, _) = calm(alloc, &["solo"], text.to_vec(alloc)?)?;
+/// The replies of the run of a source.
+fn replies_in(alloc: Global, source: &mut CalmSource) -> Result<Vec<Reply>, AllocError> {
+    let words = owned(alloc, &["solo"])?;
+    let mut sink = CalmSink::new(Vec::new(alloc));
+    let ended = calm_top(alloc, &words, source, &mut sink);
     match &ended.history {
         Some(history) => history.replies().to_vec(alloc),
         None => Ok(Vec::new(alloc)),
     }
+}
+
+/// The replies of the run of a text.
+fn replies_of(alloc: Global, text: &[u8]) -> Result<Vec<Reply>, AllocError> {
+    let mut source = CalmSource::new(text.to_vec(alloc)?);
+    replies_in(alloc, &mut source)
+}
+
+/// The replies of the run of the upgraded scenario.
+fn replies_when_upgraded(alloc: Global, scenario: &str) -> Result<Vec<Reply>, AllocError> {
+    let (_, text) = upgraded(alloc, scenario.as_bytes())?;
+    replies_of(alloc, &text)
 }
 
 /// The replies that those of the upgraded run have to be.
@@ -130,24 +162,25 @@ fn upgraded_replies(alloc: Global, replies: &[Reply]) -> Result<Vec<Reply>, Allo
     Ok(upgraded)
 }
 
+/// The same, of the run of a text.
+fn upgraded_replies_of(alloc: Global, scenario: &str) -> Result<Vec<Reply>, AllocError> {
+    let before = replies_of(alloc, scenario.as_bytes())?;
+    upgraded_replies(alloc, &before)
+}
+
 #[test]
 fn an_upgraded_run_gives_the_upgraded_replies(rt: HostRuntime) -> Result<(), Fail> {
-    let alloc = rt.alloc();
     for (scenario, count) in [(TREE_COMMANDS, 5), (MAXIMUM_BELOW_THE_BUDGET, 2)] {
-        let (_, text) = upgraded(alloc, scenario.as_bytes())?;
-        let replies = replies_of(alloc, &text)?;
+        let replies = replies_when_upgraded(rt.alloc(), scenario)?;
         assert_eq!(rt; replies.len(), count);
-        let before = replies_of(alloc, scenario.as_bytes())?;
-        assert_eq!(rt; replies, upgraded_replies(alloc, &before)?);
+        assert_eq!(rt; replies, upgraded_replies_of(rt.alloc(), scenario)?);
     }
     Ok(())
 }
 
 #[test]
 fn the_least_maximum_is_told_in_thousandths(rt: HostRuntime) -> Result<(), Fail> {
-    let alloc = rt.alloc();
-    let (_, text) = upgraded(alloc, MAXIMUM_BELOW_THE_BUDGET.as_bytes())?;
-    let replies = replies_of(alloc, &text)?;
+    let replies = replies_when_upgraded(rt.alloc(), MAXIMUM_BELOW_THE_BUDGET)?;
     let why = CtlRefusal::BadMax {
         partition: PartitionId::at(1),
         least: 400,
@@ -162,18 +195,15 @@ fn the_least_maximum_is_told_in_thousandths(rt: HostRuntime) -> Result<(), Fail>
 
 #[test]
 fn an_upgraded_scenario_is_upgraded_to_itself(rt: HostRuntime) -> Result<(), Fail> {
-    let alloc = rt.alloc();
-    let (_, once) = upgraded(alloc, TREE_COMMANDS.as_bytes())?;
-    let (status, twice) = upgraded(alloc, &once)?;
-    assert_eq!(rt; status, 0);
-    assert_eq!(rt; twice, once);
+    let (_, once) = upgraded(rt.alloc(), TREE_COMMANDS.as_bytes())?;
+    let twice = upgraded(rt.alloc(), &once)?;
+    assert_eq!(rt; twice, (0, once));
     Ok(())
 }
 
 #[test]
 fn a_text_that_is_no_scenario_is_not_upgraded(rt: HostRuntime) -> Result<(), Fail> {
-    let alloc = rt.alloc();
-    let (status, text) = upgraded(alloc, THIRD_VERSION.as_bytes())?;
+    let (status, text) = upgraded(rt.alloc(), THIRD_VERSION.as_bytes())?;
     assert_eq!(rt; status, 2);
     assert_eq!(rt;
         text.as_slice(),
@@ -184,10 +214,9 @@ fn a_text_that_is_no_scenario_is_not_upgraded(rt: HostRuntime) -> Result<(), Fai
 
 #[test]
 fn an_upgrade_hands_back_no_history(rt: HostRuntime) -> Result<(), Fail> {
-    let alloc = rt.alloc();
-    let (ended, _) = calm(alloc, &["upgrade"], bytes_of(alloc, TWO_EQUAL)?)?;
-    assert_eq!(rt; ended.history.is_none(), true);
-    let (ended, _) = calm(alloc, &["upgrade", "--limit", "7"], Vec::new(alloc))?;
-    assert_eq!(rt; ended.status, 1);
+    let (_, entries) = ended(rt.alloc(), &["upgrade"], TWO_EQUAL.as_bytes())?;
+    assert_eq!(rt; entries, None);
+    let (status, _) = ended(rt.alloc(), &["upgrade", "--limit", "7"], b"")?;
+    assert_eq!(rt; status, 1);
     Ok(())
 }
