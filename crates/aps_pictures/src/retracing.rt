@@ -1,12 +1,11 @@
 //! A core that makes the steps of a recorded history again, up to a moment.
-ghost use Rattle.std.specs.Prelude.{◌≡◌, ◌<◌, ◌≤◌, [], length, IfOk};
+ghost use Rattle.std.specs.Prelude.{◌≡◌, ◌≤◌, [], length};
 ghost use Rattle.aps_model.specs.Legal.{IsLegal};
 ghost use Rattle.aps_model.specs.Valid.{IsScenario};
-ghost use Rattle.aps_core.specs.Turn.{IsTaken, with_entry};
-ghost use Rattle.aps_samples.specs.Retraced.{start_of};
 
 use aps_core::Core;
 use aps_model::{Entry, History, Nanos, NoMemory, Order, PartitionRow};
+use aps_samples::{boot, retrace};
 use std::alloc::Global;
 
 /// The partition rows and the window (ticks) as they stand at some moment.
@@ -32,19 +31,6 @@ pub fn standing_at(
     standing_of(alloc, &core)
 }
 
-/// A core that has made no step of the history's scenario.
-fn boot(alloc: Global, history: &History, order: Order) -> Result<Core, NoMemory>
-    requires { length history.now.entries ≤ 4000000 }
-    ensures same { IfOk result (λ core. core ≡ start_of history.now order) }
-    ensures valid { IfOk result (λ core. IsScenario history.now.scenario) }
-{
-    // the check wants the scenario's own word that it is valid
-    let _shape = history.scenario().shape();
-    let scenario = history.scenario().copy(alloc)?;
-    let limit = (history.entries().len() as u32).max(1);
-    Core::boot(alloc, scenario, order, limit)
-}
-
 /// What stands as the core has it.
 fn standing_of(alloc: Global, core: &Core) -> Result<Standing, NoMemory> {
     let mut rows = Vec::new(alloc);
@@ -66,13 +52,4 @@ fn retrace_to(core: &mut Core, entries: &[Entry], moment: Nanos)
             return;
         }
     }
-}
-
-/// The core makes the step of which this is the entry.
-fn retrace(core: &mut Core, e: &Entry)
-    requires exists { e.now.cpu < core.old.setup.scenario.shape.cpus }
-    requires taken { IsTaken core.old e.now.cpu e.now }
-    ensures { core.new ≡ with_entry core.old e.now }
-{
-    let _turn = core.step(e.cpu);
 }

@@ -55,19 +55,32 @@ fn draw(
     requires { length threads.now ≤ 1024 }
 {
     let mut out = String::new(alloc);
+    add_picture(alloc, &mut out, threads, scene, lives)?;
+    Ok(out)
+}
+
+/// Adds the picture of these threads.
+fn add_picture(
+    alloc: Global,
+    out: &mut String,
+    threads: &[ThreadRow],
+    scene: &Scene,
+    lives: &[Life],
+) -> Result<(), NoMemory>
+    requires { length threads.now ≤ 1024 }
+{
     let top = below_partitions(scene.rows.len()) + 300;
     let bottom = top + threads.len() as u64 * LANE;
     let exact = are_few(&scene.span, lives);
-    add_head(&mut out, "threads", bottom + 330, scene.rows.len())?;
-    add_top(&mut out, scene, exact)?;
-    add_axis(&mut out, frame_of(top, bottom), scene.span)?;
+    add_head(out, "threads", bottom + 330, scene.rows.len())?;
+    add_top(out, scene, exact)?;
+    add_axis(out, frame_of(top, bottom), scene.span)?;
     if exact {
-        add_lives(&mut out, scene, threads, lives, top)?;
+        add_lives(out, scene, threads, lives, top)?;
     } else {
-        add_stacks(alloc, &mut out, scene, threads, lives, top)?;
+        add_stacks(alloc, out, scene, threads, lives, top)?;
     }
-    add_foot(&mut out)?;
-    Ok(out)
+    add_foot(out)
 }
 
 /// The axis of a picture of a span.
@@ -172,19 +185,32 @@ fn add_stacks(
     let mut columns = Columns::new(alloc, scene.span)?;
     for (x, thread) in threads.iter().enumerate() {
         let y = top + x as u64 * LANE + 50;
-        open_lane(out, x, thread, y)?;
         columns.clear();
         if let Some(life) = lives.get(x) {
             stacked(&mut columns, &scene.span, life);
         }
-        let strip = Strip {
-            top: y,
-            height: HEIGHT,
-        };
-        columns.draw(out, strip)?;
-        close_group(out)?;
+        add_stack(out, &mut columns, x, thread, y)?;
     }
     Ok(())
+}
+
+/// The lane of a thread, as these columns.
+fn add_stack(
+    out: &mut String,
+    columns: &mut Columns,
+    x: usize,
+    thread: &ThreadRow,
+    y: u64,
+) -> Result<(), NoMemory>
+    requires { y ≤ 1000000 }
+{
+    open_lane(out, x, thread, y)?;
+    let strip = Strip {
+        top: y,
+        height: HEIGHT,
+    };
+    columns.draw(out, strip)?;
+    close_group(out)
 }
 
 /// The beginning of a thread's lane: its name.

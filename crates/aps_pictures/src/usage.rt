@@ -86,12 +86,16 @@ pub fn usage_text(
 /// The picture where no sample is shown.
 fn nothing(alloc: Global, sizes: Sizes, count: usize) -> Result<String, NoMemory> {
     let mut out = String::new(alloc);
-    add_head(&mut out, "usage", 1100, count)?;
-    add_top(&mut out, sizes, 0)?;
-    let place = Place { x: 200, y: 900 };
-    add_text(&mut out, place, 140, Anchor::Start, "No tick is finished.")?;
-    add_foot(&mut out)?;
+    add_nothing(&mut out, sizes, count)?;
     Ok(out)
+}
+
+fn add_nothing(out: &mut String, sizes: Sizes, count: usize) -> Result<(), NoMemory> {
+    add_head(out, "usage", 1100, count)?;
+    add_top(out, sizes, 0)?;
+    let place = Place { x: 200, y: 900 };
+    add_text(out, place, 140, Anchor::Start, "No tick is finished.")?;
+    add_foot(out)
 }
 
 /// The picture of these samples.
@@ -127,12 +131,27 @@ fn draw(
     requires { length rows.now ≤ 32 }
 {
     let mut out = String::new(alloc);
-    let height = TOP + height_of(rows.len()) * PITCH;
-    add_head(&mut out, "usage", height, rows.len())?;
-    add_top(&mut out, sizes, survey.unchanged)?;
-    add_panels(&mut out, rows, parts, sizes, range, survey, groups)?;
-    add_foot(&mut out)?;
+    add_picture(&mut out, rows, parts, sizes, range, survey, groups)?;
     Ok(out)
+}
+
+/// Adds the picture of these groups of samples.
+fn add_picture(
+    out: &mut String,
+    rows: &[PartitionRow],
+    parts: u16,
+    sizes: Sizes,
+    range: Range,
+    survey: &Survey,
+    groups: &Groups,
+) -> Result<(), NoMemory>
+    requires { length rows.now ≤ 32 }
+{
+    let height = TOP + height_of(rows.len()) * PITCH;
+    add_head(out, "usage", height, rows.len())?;
+    add_top(out, sizes, survey.unchanged)?;
+    add_panels(out, rows, parts, sizes, range, survey, groups)?;
+    add_foot(out)
 }
 
 /// What stands above the panels.
