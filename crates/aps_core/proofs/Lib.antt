@@ -31,3 +31,4 @@ pub mod FirstDue
 pub mod Recorded
 pub mod Pending
 pub mod Scan
+pub mod FlagAfter

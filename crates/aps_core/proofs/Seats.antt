@@ -97,6 +97,11 @@ chosen_seats s parts c best seats are = by_best best
               get_or-set_other seats x y None None other ∙ ap (λ (l : List (Option Contender)). who_at l y) are ∙ who_seats s y ∙ sym (seat_stays s x y t other refl)
         ])
 
+-- so the queues without the picked thread are those of the state after the choice
+pub taken_seats : (s s1 : SchedulerState) (parts : List PartFacts) (c : ℕ) (best : Option Contender) (seats rest : List (Option Contender))
+    → seats ≡ seats_of s → rest ≡ without best seats → s1 ≡ chosen s parts c best → rest ≡ seats_of s1
+taken_seats s s1 parts c best seats rest are out chose = out ∙ chosen_seats s parts c best seats are ∙ ap seats_of (sym chose)
+
 -- a flag changes nobody's seat
 pub flagged_seats : (s : SchedulerState) (now : ℕ) (o : Option ℕ) → seats_of (with_flag s now o) ≡ seats_of s
 flagged_seats s now None = refl

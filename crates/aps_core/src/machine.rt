@@ -176,10 +176,10 @@ impl Machine {
         let parts = standing.parts();
         let gates = standing.gates();
         let starved = ready.missing_by(gates);
-        let drawn = ready.draw(gates, parts, self.shape.free);
-        let picked = thread_of(&drawn.picked);
-        self.choose(parts, cpu, drawn.picked);
-        let flagged = self.flag_for(entries, dues, parts, cpu, now, &drawn.left);
+        let best = ready.take_greatest(gates, parts, self.shape.free);
+        let picked = thread_of(&best);
+        self.choose(parts, cpu, best);
+        let flagged = self.flag_after(entries, dues, parts, gates, ready, cpu, now, &best);
         self.flag(now, &flagged);
         Entry {
             picked,

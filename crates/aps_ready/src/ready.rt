@@ -185,6 +185,37 @@ impl Ready {
         }
     }
 
+    /// The greatest candidate with what is known of it, as `best_by`.
+    pub fn greatest_by(&self, gates: Gates, parts: &[PartFacts], free: Free) -> Option<Contender>
+        requires gates { AreGates parts.now gates }
+        requires small { All IsSmall parts.now }
+        ensures { result ≡ greatest free parts.now (members self.now) }
+    {
+        let best = self.greatest(gates, parts, free);
+        known(&best)
+    }
+
+    /// Takes the greatest candidate out, if there is one, and tells what is known of it. The gates of the partitions are kept, as
+    /// for `best_by`.
+    pub fn take_greatest(
+        &mut self,
+        gates: Gates,
+        parts: &[PartFacts],
+        free: Free,
+    ) -> Option<Contender>
+        requires gates { AreGates parts.now gates }
+        requires small { All IsSmall parts.now }
+        ensures picked { result ≡ greatest free parts.now (members self.old) }
+        ensures out { self.new ≡ without result self.old }
+    {
+        let best = self.greatest(gates, parts, free);
+        if best.group < 64 {
+            self.pop(&best)
+        } else {
+            None
+        }
+    }
+
     /// Takes the greatest candidate out, if there is one, and tells it, and the greatest of those that are left. The gates of
     /// the partitions are kept, as for `best_by`.
     pub fn draw(&mut self, gates: Gates, parts: &[PartFacts], free: Free) -> Drawn
@@ -194,26 +225,9 @@ impl Ready {
         ensures out { self.new ≡ without result.picked self.old }
         ensures left { result.left ≡ greatest free parts.now (members self.new) }
     {
-        let found = look(&self.brackets, &self.index, gates, parts, free);
-        let aside = self.aside;
-        if wins(gates, parts, free, &aside, &found) {
-            return Drawn {
-                picked: self.pop(&aside),
-                left: known(&found),
-            };
-        }
-        if found.group >= 64 {
-            return Drawn {
-                picked: None,
-                left: None,
-            };
-        }
-        let picked = self.pop(&found);
-        let left = self.greatest(gates, parts, free);
-        Drawn {
-            picked,
-            left: known(&left),
-        }
+        let picked = self.take_greatest(gates, parts, free);
+        let left = self.greatest_by(gates, parts, free);
+        Drawn { picked, left }
     }
 
     /// Takes somebody out, and tells what is known of it.

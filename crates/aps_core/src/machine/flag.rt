@@ -1,8 +1,11 @@
-ghost use Rattle.std.specs.Prelude.{◌≡◌, ℕ, ◌<◌, ◌≤◌, length, All, IfSome};
+ghost use Rattle.std.specs.Prelude.{◌≡◌, ℕ, ◌<◌, ◌≤◌, length, All, IfSome, false};
 ghost use Rattle.std.specs.Option.{option_map};
 ghost use Rattle.aps_model.specs.Flag.{rank_of, looked_at, flag_for, with_flag};
-ghost use Rattle.aps_core.specs.Lowest.{lowest};
+ghost use Rattle.aps_model.specs.Pick.{contenders, greatest};
+ghost use Rattle.aps_ready.specs.Gates.{AreGates};
+ghost use Rattle.aps_core.specs.Lowest.{lowest, IsNoLess, NobodyRanks};
 ghost use Rattle.aps_core.specs.NextDues.{AreOthersDues};
+ghost use Rattle.aps_core.specs.Seats.{seats_of};
 ghost use Rattle.aps_core.specs.Small.{IsSmall};
 
 use super::Machine;
@@ -10,6 +13,7 @@ use crate::dues::Dues;
 use crate::merit;
 use aps_merit::{is_below, merit_of};
 use aps_model::{Contender, CpuId, CpuNow, Entry, Merit, Nanos, PartFacts, Pick, Rank};
+use aps_ready::{Gates, Ready};
 
 impl Machine {
     /// The rank of a processor that keeps this, if it is idle or its thread is below a candidate of this merit.
@@ -77,8 +81,63 @@ impl Machine {
         best
     }
 
+    /// Whether some other processor that isn't due yet may be flagged for a candidate of this merit.
+    fn may_flag(
+        &self,
+        entries: &[Entry],
+        dues: &Dues,
+        parts: &[PartFacts],
+        c: CpuId,
+        now: Nanos,
+        merit: &Merit,
+    ) -> bool
+        requires { AreOthersDues self.now entries.now c dues.now }
+        ensures { result ≡ false → NobodyRanks self.now entries.now parts.now merit.now c now self.now.shape.cpus }
+    {
+        for d in 0..self.cpus.len() {
+            let rank = self.looked_at(entries, dues, parts, merit, c, now, CpuId::at(d));
+            if rank.is_some() {
+                return true;
+            }
+        }
+        false
+    }
+
+    /// The processor that is flagged for the greatest candidate left after this pick. That candidate is no greater than the
+    /// pick, so it is looked for only where some processor may be flagged for the pick itself.
+    pub fn flag_after(
+        &self,
+        entries: &[Entry],
+        dues: &Dues,
+        parts: &[PartFacts],
+        gates: Gates,
+        ready: &Ready,
+        c: CpuId,
+        now: Nanos,
+        picked: &Option<Contender>,
+    ) -> Option<CpuId>
+        requires small { All IsSmall parts.now }
+        requires gates { AreGates parts.now gates }
+        requires dues { AreOthersDues self.now entries.now c dues.now }
+        requires seats { ready.now ≡ seats_of self.now }
+        requires picked { IsNoLess self.now.shape.free parts.now (contenders self.now) picked.now }
+        ensures same { result
+            ≡ flag_for self.now entries.now parts.now c now (greatest self.now.shape.free parts.now (contenders self.now)) }
+        ensures within { IfSome result (λ d. d < length self.now.cpus) }
+    {
+        let Some(picked) = picked else {
+            return None;
+        };
+        let merit = merit::merit_among(parts, picked);
+        if !self.may_flag(entries, dues, parts, c, now, &merit) {
+            return None;
+        }
+        let left = ready.greatest_by(gates, parts, self.shape.free);
+        self.flag_for(entries, dues, parts, c, now, &left)
+    }
+
     /// The processor that is flagged for the greatest candidate left.
-    pub fn flag_for(
+    fn flag_for(
         &self,
         entries: &[Entry],
         dues: &Dues,

@@ -1,50 +1,56 @@
-use Rattle.std.proofs.Common.{◌≡◌, List, Option, ap, ◌∙◌, ◌++◌, [], ◌∷◌, ◌/◌, subst, sym, length, arith}
-use Rattle.aps_model.specs.declared.merit.Contender.{Contender}
+use Rattle.std.proofs.Common.{◌≡◌, ap, ◌∙◌, ◌++◌, [], ◌∷◌, ◌/◌, subst, sym, length, arith}
+use Rattle.aps_model.specs.declared.shape.Shape.{Shape}
 use Rattle.aps_model.specs.Budget.{all_parts}
 use Rattle.aps_model.specs.Pick.{contenders, greatest, missing}
 use Rattle.aps_model.specs.SchedulerState.{SchedulerState}
+use Rattle.aps_laws.proofs.PickSays.{chosen_shape}
 use Rattle.aps_ready.specs.Gates.{AreGates}
 use Rattle.aps_ready.specs.Ready.{members}
 use Rattle.aps_core.specs.Seats.{seats_of}
+use Rattle.aps_core.proofs.FlagAfter.{picked_no_less}
 use Rattle.aps_core.proofs.NextDues.{others_chosen}
 use Rattle.aps_core.proofs.PickStep.{pick_by_parts}
-use Rattle.aps_core.proofs.Seats.{chosen_seats, flagged_seats, missing_in}
+use Rattle.aps_core.proofs.Seats.{flagged_seats, missing_in, taken_seats}
 use Rattle.aps_core.proofs.machine.Machine.pick.Goals as goal
-
-parts : (c : goal.After-flag) → c.parts-parts.result.now ≡ all_parts c.args.self.now.shape c.args.self.now.rows (c.args.entries.now ++ c.args.e ∷ []) (c.args.e.to / c.args.self.now.shape.tick)
-parts c = c.parts-parts.ensures.same ∙ c.requires.stands
-
-starved : (c : goal.After-flag) → c.missing_by-starved.result ≡ missing c.parts-parts.result.now (contenders c.args.self.now)
-starved c =
-    c.missing_by-starved.ensures c.parts-parts.result.now (subst (λ l. AreGates l c.gates-gates.result) (sym c.parts-parts.ensures.same) c.gates-gates.ensures)
-    (let few = c.parts-parts.ensures.few in omega (arith, few, ap length c.parts-parts.ensures.same))
-    ∙ ap (missing c.parts-parts.result.now) (missing_in c.args.self.now c.args.ready.now c.requires.seats)
-
--- the greatest of those in the queues, which hold the ready threads of s
-among : (c : goal.After-flag) (s : SchedulerState) (seats : List (Option Contender)) → seats ≡ seats_of s
-    → greatest c.self.inside.shape.free c.parts-parts.result.now (members seats)
-    ≡ greatest c.args.self.now.shape.free c.parts-parts.result.now (contenders s)
-among c s seats are =
-    ap (λ (t : SchedulerState). greatest t.shape.free c.parts-parts.result.now (members seats)) c.self.view_is
-    ∙ ap (greatest c.args.self.now.shape.free c.parts-parts.result.now) (missing_in s seats are)
-
-left : (c : goal.After-flag) → c.draw-drawn.new.self ≡ seats_of c.choose.new.self
-left c =
-    c.draw-drawn.ensures.out
-    ∙ chosen_seats c.args.self.now c.parts-parts.result.now c.args.cpu c.draw-drawn.result.picked c.args.ready.now c.requires.seats
-    ∙ ap seats_of (sym c.choose.ensures)
 
 pub returns-clause-same : goal.returns-clause-same
 returns-clause-same c =
-    pick_by_parts c.args.self.now c.args.entries.now c.args.cpu c.args.e.to c.args.e
-    c.parts-parts.result.now c.missing_by-starved.result c.draw-drawn.result.picked c.thread_of-picked.result c.choose.new.self c.draw-drawn.result.left c.flag_for-flagged.result c.flag.new.self
-    (parts c) (starved c) (c.draw-drawn.ensures.picked ∙ among c c.args.self.now c.args.ready.now c.requires.seats) c.thread_of-picked.ensures c.choose.ensures
-    (c.draw-drawn.ensures.left ∙ among c c.choose.new.self c.draw-drawn.new.self (left c)) c.flag_for-flagged.ensures.same c.flag.ensures
+    let s = c.args.self.now in
+    let parts : c.parts-parts.result.now ≡ all_parts s.shape s.rows (c.args.entries.now ++ c.args.e ∷ []) (c.args.e.to / s.shape.tick) =
+    c.parts-parts.ensures.same ∙ c.requires.stands in
+    let starved : c.missing_by-starved.result ≡ missing c.parts-parts.result.now (contenders s) =
+    c.missing_by-starved.ensures c.parts-parts.result.now (subst (λ l. AreGates l c.gates-gates.result) (sym c.parts-parts.ensures.same) c.gates-gates.ensures)
+    (let few = c.parts-parts.ensures.few in omega (arith, few, ap length c.parts-parts.ensures.same))
+    ∙ ap (missing c.parts-parts.result.now) (missing_in s c.args.ready.now c.requires.seats) in
+    let best : c.take_greatest-best.result ≡ greatest s.shape.free c.parts-parts.result.now (contenders s) =
+    c.take_greatest-best.ensures.picked
+    ∙ ap (λ (t : SchedulerState). greatest t.shape.free c.parts-parts.result.now (members c.args.ready.now)) c.self.view_is
+    ∙ ap (greatest s.shape.free c.parts-parts.result.now) (missing_in s c.args.ready.now c.requires.seats) in
+    let same_free =
+    ap (λ (t : SchedulerState). t.shape.free) c.choose.ensures
+    ∙ ap (λ (shape : Shape). shape.free) (chosen_shape s c.parts-parts.result.now c.args.cpu c.take_greatest-best.result) in
+    pick_by_parts s c.args.entries.now c.args.cpu c.args.e.to c.args.e
+    c.parts-parts.result.now c.missing_by-starved.result c.take_greatest-best.result c.thread_of-picked.result c.choose.new.self
+    (greatest c.choose.new.self.shape.free c.parts-parts.result.now (contenders c.choose.new.self)) c.flag_after-flagged.result c.flag.new.self
+    parts starved best c.thread_of-picked.ensures c.choose.ensures
+    (ap (λ free. greatest free c.parts-parts.result.now (contenders c.choose.new.self)) same_free) c.flag_after-flagged.ensures.same c.flag.ensures
 
 pub returns-clause-seats : goal.returns-clause-seats
 returns-clause-seats c =
-    left c ∙ sym (ap seats_of c.flag.ensures ∙ flagged_seats c.choose.new.self c.args.e.to c.flag_for-flagged.result)
+    taken_seats c.args.self.now c.choose.new.self c.parts-parts.result.now c.args.cpu c.take_greatest-best.result c.args.ready.now c.take_greatest-best.new.self c.requires.seats c.take_greatest-best.ensures.out c.choose.ensures
+    ∙ sym (ap seats_of c.flag.ensures ∙ flagged_seats c.choose.new.self c.args.e.to c.flag_after-flagged.result)
 
-pub flag_for-flagged-requires-clause-dues : goal.flag_for-flagged-requires-clause-dues
-flag_for-flagged-requires-clause-dues c =
-    others_chosen c.args.self.now c.choose.new.self c.parts-parts.result.now c.args.cpu c.draw-drawn.result.picked c.args.entries.now c.args.dues.now c.requires.dues c.choose.ensures
+pub flag_after-flagged-requires-clause-dues : goal.flag_after-flagged-requires-clause-dues
+flag_after-flagged-requires-clause-dues c =
+    others_chosen c.args.self.now c.choose.new.self c.parts-parts.result.now c.args.cpu c.take_greatest-best.result c.args.entries.now c.args.dues.now c.requires.dues c.choose.ensures
+
+pub flag_after-flagged-requires-clause-seats : goal.flag_after-flagged-requires-clause-seats
+flag_after-flagged-requires-clause-seats c =
+    taken_seats c.args.self.now c.choose.new.self c.parts-parts.result.now c.args.cpu c.take_greatest-best.result c.args.ready.now c.take_greatest-best.new.self c.requires.seats c.take_greatest-best.ensures.out c.choose.ensures
+
+pub flag_after-flagged-requires-clause-picked : goal.flag_after-flagged-requires-clause-picked
+flag_after-flagged-requires-clause-picked c =
+    picked_no_less c.args.self.now c.choose.new.self c.self.inside.shape.free c.parts-parts.result.now c.args.cpu c.take_greatest-best.result c.args.ready.now c.take_greatest-best.new.self
+    (ap (λ (t : SchedulerState). t.shape.free) c.self.view_is) c.take_greatest-best.ensures.picked c.take_greatest-best.ensures.out
+    (taken_seats c.args.self.now c.choose.new.self c.parts-parts.result.now c.args.cpu c.take_greatest-best.result c.args.ready.now c.take_greatest-best.new.self c.requires.seats c.take_greatest-best.ensures.out c.choose.ensures)
+    c.choose.ensures
