@@ -78,7 +78,7 @@ nobody_flagged s h parts c now cs picked none least = by_left (greatest s.shape.
     by_left (Some left) is =
         ap (option_map (λ (best : ℕ × Rank). best.0))
         (scan_none (looked_at s h parts (merit_among parts left) c now) 0 s.shape.cpus
-            (λ d low high. looked_less s h parts (merit_among parts left) (merit_among parts picked) c now d (least left is) (none d (omega (arith, high)))))
+        (λ d low high. looked_less s h parts (merit_among parts left) (merit_among parts picked) c now d (least left is) (none d (omega (arith, high)))))
 
 -- ---- who is left is no greater than who was picked
 

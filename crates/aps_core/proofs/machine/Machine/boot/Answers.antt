@@ -1,4 +1,4 @@
-use Rattle.std.proofs.Common.{◌≡◌, ◌∙◌, ap, replicate, length, subst, sym, vec_capacity}
+use Rattle.std.proofs.Common.{◌∙◌, ap, replicate, length, subst, sym, vec_capacity}
 use Rattle.aps_model.specs.declared.shape.Shape.{Shape}
 use Rattle.aps_model.specs.SchedulerState.{no_channel}
 use Rattle.aps_tree.specs.Tree.{Tree}

@@ -1,5 +1,4 @@
-use Rattle.std.proofs.Common.{◌≡◌, Option, ap, subst, sym, ◌∙◌}
-use Rattle.aps_model.specs.declared.merit.Contender.{Contender}
+use Rattle.std.proofs.Common.{ap, subst, sym, ◌∙◌}
 use Rattle.aps_model.specs.declared.merit.Merit.{Merit}
 use Rattle.aps_model.specs.Flag.{flag_for}
 use Rattle.aps_model.specs.Pick.{contenders, greatest}
@@ -15,9 +14,9 @@ returns-then-not-may_flag-clause-same c =
     let s = c.args.self.now in
     sym
     (nobody_flagged s c.args.entries.now c.args.parts.now c.args.c c.args.now (contenders s) c.in-Some.picked
-        (subst (λ (m : Merit). NobodyRanks s c.args.entries.now c.args.parts.now m c.args.c c.args.now s.shape.cpus) c.merit_among-merit.ensures.same
-            (c.may_flag.ensures c.if-not-may_flag.true))
-        (subst (IsNoLess s.shape.free c.args.parts.now (contenders s)) c.in-Some.is c.requires.picked))
+    (subst (λ (m : Merit). NobodyRanks s c.args.entries.now c.args.parts.now m c.args.c c.args.now s.shape.cpus) c.merit_among-merit.ensures.same
+    (c.may_flag.ensures c.if-not-may_flag.true))
+    (subst (IsNoLess s.shape.free c.args.parts.now (contenders s)) c.in-Some.is c.requires.picked))
 
 pub returns-clause-same : goal.returns-clause-same
 returns-clause-same c =
@@ -25,5 +24,5 @@ returns-clause-same c =
     c.flag_for.ensures.same
     ∙ ap (flag_for s c.args.entries.now c.args.parts.now c.args.c c.args.now)
     (c.greatest_by-left.ensures
-        ∙ ap (λ (t : SchedulerState). greatest t.shape.free c.args.parts.now (members c.args.ready.now)) c.self.view_is
-        ∙ ap (greatest s.shape.free c.args.parts.now) (missing_in s c.args.ready.now c.requires.seats))
+    ∙ ap (λ (t : SchedulerState). greatest t.shape.free c.args.parts.now (members c.args.ready.now)) c.self.view_is
+    ∙ ap (greatest s.shape.free c.args.parts.now) (missing_in s c.args.ready.now c.requires.seats))

@@ -7,7 +7,6 @@ use Rattle.aps_core.proofs.Boot.{opening_stamped}
 use Rattle.aps_core.proofs.Counting.{counts_begin}
 use Rattle.aps_core.proofs.DuesKept.{dues_none}
 use Rattle.aps_core.proofs.Kept.{begun_core}
-use Rattle.aps_model.specs.declared.shape.Shape.{Shape}
 use Rattle.aps_core.proofs.simulator.Core.boot.Goals as goal
 
 pub start_queues-requires : goal.start_queues-requires
