@@ -243,9 +243,10 @@ impl Machine {
     {
         let now = dues.of(cpu);
         let from = ends.last_end(entries, cpu);
-        let is_later = usage::go_on(window, self.tick_of(now));
+        let tick = self.tick_of(now);
+        let is_later = usage::go_on(window, tick);
         let running = self.begin(cpu);
-        let commanded = self.work_tick(scenario, entries, window, timer, woken, ctl, now);
+        let commanded = self.work_tick(scenario, entries, window, timer, woken, ctl, now, tick);
         let e = bill::bill_of(cpu, from, now, &running);
         usage::add_time(window, &self.shape, &e);
         self.bill(&e, &running);

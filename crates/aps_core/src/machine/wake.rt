@@ -124,15 +124,24 @@ impl Machine {
         }
     }
 
-    /// Whether this is the first step at a boundary below the horizon.
-    fn has_tick_work(&self, entries: &[Entry], now: Nanos) -> bool
-        requires { IsRising entries.now }
+    /// Whether this is the first step at a boundary below the horizon. The moment lies in this tick.
+    fn has_tick_work(&self, entries: &[Entry], now: Nanos, tick: u64) -> bool
+        requires rising { IsRising entries.now }
+        requires tick { tick ≡ now / self.now.shape.tick }
         ensures { result ≡ has_tick_work self.now entries.now now }
     {
-        now % self.shape.tick == 0 && now < self.horizon() && !due::is_met(entries, now)
+        self.is_boundary(now, tick) && now < self.horizon() && !due::is_met(entries, now)
     }
 
-    /// The work of the tick, if it begins with this step: the commands of the tick, and then the wakes, from the timer,
+    /// Whether the tick begins at this moment, which lies in it.
+    fn is_boundary(&self, now: Nanos, tick: u64) -> bool
+        requires { tick ≡ now / self.now.shape.tick }
+        ensures { result ≡ nat_eq (now % self.now.shape.tick) 0 }
+    {
+        tick * self.shape.tick == now
+    }
+
+    /// The work of this tick, if it begins with this step: the commands of the tick, and then the wakes, from the timer,
     /// which then has the sleepers that are left. The answer is whether there was a command; else no thread's seat changes
     /// but of those who woke, who are told.
     pub fn work_tick(
@@ -144,7 +153,10 @@ impl Machine {
         woken: &mut Woken,
         ctl: &mut Ctl,
         now: Nanos,
+        tick: u64,
     ) -> bool
+        requires tick { tick ≡ now / self.old.shape.tick }
+        requires few { tick ≤ 1000000 }
         requires valid { IsScenario scenario.now }
         requires pending { IsPending scenario.now self.old.shape.tick entries.now ctl.old }
         requires rising { IsRising entries.now }
@@ -162,8 +174,7 @@ impl Machine {
         ensures counts { Counts self.new.shape entries.now (now / self.old.shape.tick) window.new }
         ensures pending { (e : EntryOf) → e.to ≡ now → IsPending scenario.now self.old.shape.tick (entries.now ++ e ∷ []) ctl.new }
     {
-        if self.has_tick_work(entries, now) {
-            let tick = self.tick_of(now);
+        if self.has_tick_work(entries, now, tick) {
             let commanded = self.do_commands(entries, window, ctl, tick);
             self.wake_all(scenario, now, timer, woken);
             return commanded;

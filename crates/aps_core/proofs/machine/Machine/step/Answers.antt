@@ -35,6 +35,9 @@ use Rattle.aps_core.proofs.machine.Machine.step.Goals as goal
 pub work_tick-commanded-requires-clause-now : goal.work_tick-commanded-requires-clause-now
 work_tick-commanded-requires-clause-now c = rw (c.of-now.ensures ∙ c.requires.dues c.args.cpu c.requires.ready.exists) c.requires.ready.early
 
+pub work_tick-commanded-requires-clause-tick : goal.work_tick-commanded-requires-clause-tick
+work_tick-commanded-requires-clause-tick c = c.tick_of-tick.ensures.same ∙ ap (λ (s : SchedulerState). c.of-now.result / s.shape.tick) (sym c.begin-running.ensures.same)
+
 pub work_tick-commanded-requires-clause-room : goal.work_tick-commanded-requires-clause-room
 work_tick-commanded-requires-clause-room c =
     subst (HasRoomToWake 256 6000000000) (sym c.begin-running.ensures.same)
@@ -83,14 +86,14 @@ returns-clause-same c =
 
 pub work_tick-commanded-requires-clause-counts : goal.work_tick-commanded-requires-clause-counts
 work_tick-commanded-requires-clause-counts c =
-    counts_begun c.args.self.now c.begin-running.new.self c.args.entries.now c.args.cpu c.of-now.result c.tick_of.result c.args.window.now c.go_on-is_later.new.window c.requires.counts
-    (omega (arith, c.requires.ready.rises, (c.of-now.ensures ∙ c.requires.dues c.args.cpu c.requires.ready.exists))) c.tick_of.ensures.same c.go_on-is_later.ensures.same c.begin-running.ensures.same
+    counts_begun c.args.self.now c.begin-running.new.self c.args.entries.now c.args.cpu c.of-now.result c.tick_of-tick.result c.args.window.now c.go_on-is_later.new.window c.requires.counts
+    (omega (arith, c.requires.ready.rises, (c.of-now.ensures ∙ c.requires.dues c.args.cpu c.requires.ready.exists))) c.tick_of-tick.ensures.same c.go_on-is_later.ensures.same c.begin-running.ensures.same
 
 pub add_time-requires-clause-entry : goal.add_time-requires-clause-entry
 add_time-requires-clause-entry c =
     let s2 = state_of c.self.inside in
     let e = c.bill_of-e.result in
-    let b : IsBilling c.args.scenario.now c.args.self.now c.args.entries.now c.args.cpu c.of-now.result c.last_end-from.result c.tick_of.result c.begin-running.result c.begin-running.new.self s2 e =
+    let b : IsBilling c.args.scenario.now c.args.self.now c.args.entries.now c.args.cpu c.of-now.result c.last_end-from.result c.tick_of-tick.result c.begin-running.result c.begin-running.new.self s2 e =
     record {
       at_due = (c.of-now.ensures ∙ c.requires.dues c.args.cpu c.requires.ready.exists);
       from_end = c.last_end-from.ensures.same;
@@ -100,15 +103,15 @@ add_time-requires-clause-entry c =
       entry = c.bill_of-e.ensures.same;
       begins = c.bill_of-e.ensures.from;
       ends = c.bill_of-e.ensures.to;
-      at_tick = c.tick_of.ensures.same;
+      at_tick = c.tick_of-tick.ensures.same;
     } in
-    entry_of c.args.scenario.now c.args.self.now c.args.entries.now c.args.cpu c.of-now.result c.last_end-from.result c.tick_of.result c.begin-running.result c.begin-running.new.self s2 e c.requires.ready b
+    entry_of c.args.scenario.now c.args.self.now c.args.entries.now c.args.cpu c.of-now.result c.last_end-from.result c.tick_of-tick.result c.begin-running.result c.begin-running.new.self s2 e c.requires.ready b
 
 pub add_time-requires-clause-room : goal.add_time-requires-clause-room
 add_time-requires-clause-room c =
     let s2 = state_of c.self.inside in
     let e = c.bill_of-e.result in
-    let b : IsBilling c.args.scenario.now c.args.self.now c.args.entries.now c.args.cpu c.of-now.result c.last_end-from.result c.tick_of.result c.begin-running.result c.begin-running.new.self s2 e =
+    let b : IsBilling c.args.scenario.now c.args.self.now c.args.entries.now c.args.cpu c.of-now.result c.last_end-from.result c.tick_of-tick.result c.begin-running.result c.begin-running.new.self s2 e =
     record {
       at_due = (c.of-now.ensures ∙ c.requires.dues c.args.cpu c.requires.ready.exists);
       from_end = c.last_end-from.ensures.same;
@@ -118,19 +121,19 @@ add_time-requires-clause-room c =
       entry = c.bill_of-e.ensures.same;
       begins = c.bill_of-e.ensures.from;
       ends = c.bill_of-e.ensures.to;
-      at_tick = c.tick_of.ensures.same;
+      at_tick = c.tick_of-tick.ensures.same;
     } in
     let before = subst (λ (u : SchedulerState). Counts u.shape c.args.entries.now (c.of-now.result / c.begin-running.new.self.shape.tick) c.work_tick-commanded.new.window) (sym c.self.view_is) c.work_tick-commanded.ensures.counts in
-    room_to_bill c.args.scenario.now c.args.self.now c.args.entries.now c.args.cpu c.of-now.result c.last_end-from.result c.tick_of.result c.begin-running.result c.begin-running.new.self s2 e c.work_tick-commanded.new.window
-    c.requires.ready b c.tick_of.ensures.few c.self.invariant.shape
-    (entry_of c.args.scenario.now c.args.self.now c.args.entries.now c.args.cpu c.of-now.result c.last_end-from.result c.tick_of.result c.begin-running.result c.begin-running.new.self s2 e c.requires.ready b)
+    room_to_bill c.args.scenario.now c.args.self.now c.args.entries.now c.args.cpu c.of-now.result c.last_end-from.result c.tick_of-tick.result c.begin-running.result c.begin-running.new.self s2 e c.work_tick-commanded.new.window
+    c.requires.ready b c.tick_of-tick.ensures.few c.self.invariant.shape
+    (entry_of c.args.scenario.now c.args.self.now c.args.entries.now c.args.cpu c.of-now.result c.last_end-from.result c.tick_of-tick.result c.begin-running.result c.begin-running.new.self s2 e c.requires.ready b)
     before
 
 pub test-reboot-requires-clause-counts : goal.test-reboot-requires-clause-counts
 test-reboot-requires-clause-counts c =
     let s2 = state_of c.self.inside in
     let e = c.bill_of-e.result in
-    let b : IsBilling c.args.scenario.now c.args.self.now c.args.entries.now c.args.cpu c.of-now.result c.last_end-from.result c.tick_of.result c.begin-running.result c.begin-running.new.self s2 e =
+    let b : IsBilling c.args.scenario.now c.args.self.now c.args.entries.now c.args.cpu c.of-now.result c.last_end-from.result c.tick_of-tick.result c.begin-running.result c.begin-running.new.self s2 e =
     record {
       at_due = (c.of-now.ensures ∙ c.requires.dues c.args.cpu c.requires.ready.exists);
       from_end = c.last_end-from.ensures.same;
@@ -140,12 +143,12 @@ test-reboot-requires-clause-counts c =
       entry = c.bill_of-e.ensures.same;
       begins = c.bill_of-e.ensures.from;
       ends = c.bill_of-e.ensures.to;
-      at_tick = c.tick_of.ensures.same;
+      at_tick = c.tick_of-tick.ensures.same;
     } in
     let before = subst (λ (u : SchedulerState). Counts u.shape c.args.entries.now (c.of-now.result / c.begin-running.new.self.shape.tick) c.work_tick-commanded.new.window) (sym c.self.view_is) c.work_tick-commanded.ensures.counts in
     let with_bill = c.add_time.ensures.counts c.args.entries.now (c.of-now.result / c.begin-running.new.self.shape.tick) before in
     let spent : c.bill.new.self.shape ≡ s2.shape = spent_shape c.work_tick-commanded.new.self e c.begin-running.result c.bill.new.self c.bill.ensures ∙ ap (λ (u : SchedulerState). u.shape) (sym c.self.view_is) in
-    counts_left c.args.scenario.now c.args.self.now c.args.entries.now c.args.cpu c.of-now.result c.last_end-from.result c.tick_of.result c.begin-running.result c.begin-running.new.self s2 e c.add_time.new.window
+    counts_left c.args.scenario.now c.args.self.now c.args.entries.now c.args.cpu c.of-now.result c.last_end-from.result c.tick_of-tick.result c.begin-running.result c.begin-running.new.self s2 e c.add_time.new.window
     c.requires.ready b with_bill c.bill.new.self e (spent) (own_bill e)
 
 pub returns-then-is_some-clause-pending : goal.returns-then-is_some-clause-pending
@@ -157,7 +160,7 @@ pub returns-then-is_some-clause-counts : goal.returns-then-is_some-clause-counts
 returns-then-is_some-clause-counts c =
     let s2 = state_of c.self.inside in
     let e = c.bill_of-e.result in
-    let b : IsBilling c.args.scenario.now c.args.self.now c.args.entries.now c.args.cpu c.of-now.result c.last_end-from.result c.tick_of.result c.begin-running.result c.begin-running.new.self s2 e =
+    let b : IsBilling c.args.scenario.now c.args.self.now c.args.entries.now c.args.cpu c.of-now.result c.last_end-from.result c.tick_of-tick.result c.begin-running.result c.begin-running.new.self s2 e =
     record {
       at_due = (c.of-now.ensures ∙ c.requires.dues c.args.cpu c.requires.ready.exists);
       from_end = c.last_end-from.ensures.same;
@@ -167,13 +170,13 @@ returns-then-is_some-clause-counts c =
       entry = c.bill_of-e.ensures.same;
       begins = c.bill_of-e.ensures.from;
       ends = c.bill_of-e.ensures.to;
-      at_tick = c.tick_of.ensures.same;
+      at_tick = c.tick_of-tick.ensures.same;
     } in
     let before = subst (λ (u : SchedulerState). Counts u.shape c.args.entries.now (c.of-now.result / c.begin-running.new.self.shape.tick) c.work_tick-commanded.new.window) (sym c.self.view_is) c.work_tick-commanded.ensures.counts in
     let with_bill = c.add_time.ensures.counts c.args.entries.now (c.of-now.result / c.begin-running.new.self.shape.tick) before in
     let spent : c.bill.new.self.shape ≡ s2.shape = spent_shape c.work_tick-commanded.new.self e c.begin-running.result c.bill.new.self c.bill.ensures ∙ ap (λ (u : SchedulerState). u.shape) (sym c.self.view_is) in
     let tested = tested_shape c.bill.new.self c.args.entries.now e c.test-reboot.new.self c.test-reboot.result c.test-reboot.ensures in
-    counts_left c.args.scenario.now c.args.self.now c.args.entries.now c.args.cpu c.of-now.result c.last_end-from.result c.tick_of.result c.begin-running.result c.begin-running.new.self s2 e c.add_time.new.window
+    counts_left c.args.scenario.now c.args.self.now c.args.entries.now c.args.cpu c.of-now.result c.last_end-from.result c.tick_of-tick.result c.begin-running.result c.begin-running.new.self s2 e c.add_time.new.window
     c.requires.ready b with_bill c.test-reboot.new.self e (tested ∙ spent) (own_bill e)
 
 pub returns-then-now-horizon-clause-pending : goal.returns-then-now-horizon-clause-pending
@@ -185,7 +188,7 @@ pub returns-then-now-horizon-clause-counts : goal.returns-then-now-horizon-claus
 returns-then-now-horizon-clause-counts c =
     let s2 = state_of c.self.inside in
     let e = c.bill_of-e.result in
-    let b : IsBilling c.args.scenario.now c.args.self.now c.args.entries.now c.args.cpu c.of-now.result c.last_end-from.result c.tick_of.result c.begin-running.result c.begin-running.new.self s2 e =
+    let b : IsBilling c.args.scenario.now c.args.self.now c.args.entries.now c.args.cpu c.of-now.result c.last_end-from.result c.tick_of-tick.result c.begin-running.result c.begin-running.new.self s2 e =
     record {
       at_due = (c.of-now.ensures ∙ c.requires.dues c.args.cpu c.requires.ready.exists);
       from_end = c.last_end-from.ensures.same;
@@ -195,13 +198,13 @@ returns-then-now-horizon-clause-counts c =
       entry = c.bill_of-e.ensures.same;
       begins = c.bill_of-e.ensures.from;
       ends = c.bill_of-e.ensures.to;
-      at_tick = c.tick_of.ensures.same;
+      at_tick = c.tick_of-tick.ensures.same;
     } in
     let before = subst (λ (u : SchedulerState). Counts u.shape c.args.entries.now (c.of-now.result / c.begin-running.new.self.shape.tick) c.work_tick-commanded.new.window) (sym c.self.view_is) c.work_tick-commanded.ensures.counts in
     let with_bill = c.add_time.ensures.counts c.args.entries.now (c.of-now.result / c.begin-running.new.self.shape.tick) before in
     let spent : c.bill.new.self.shape ≡ s2.shape = spent_shape c.work_tick-commanded.new.self e c.begin-running.result c.bill.new.self c.bill.ensures ∙ ap (λ (u : SchedulerState). u.shape) (sym c.self.view_is) in
     let tested = tested_shape c.bill.new.self c.args.entries.now e c.test-reboot.new.self c.test-reboot.result c.test-reboot.ensures in
-    counts_left c.args.scenario.now c.args.self.now c.args.entries.now c.args.cpu c.of-now.result c.last_end-from.result c.tick_of.result c.begin-running.result c.begin-running.new.self s2 e c.add_time.new.window
+    counts_left c.args.scenario.now c.args.self.now c.args.entries.now c.args.cpu c.of-now.result c.last_end-from.result c.tick_of-tick.result c.begin-running.result c.begin-running.new.self s2 e c.add_time.new.window
     c.requires.ready b with_bill c.test-reboot.new.self e (tested ∙ spent) (own_bill e)
 
 pub settle-done-requires-clause-room : goal.settle-done-requires-clause-room
@@ -215,7 +218,7 @@ pub pick-entry-requires-clause-stands : goal.pick-entry-requires-clause-stands
 pick-entry-requires-clause-stands c =
     let s2 = state_of c.self.inside in
     let e = c.bill_of-e.result in
-    let b : IsBilling c.args.scenario.now c.args.self.now c.args.entries.now c.args.cpu c.of-now.result c.last_end-from.result c.tick_of.result c.begin-running.result c.begin-running.new.self s2 e =
+    let b : IsBilling c.args.scenario.now c.args.self.now c.args.entries.now c.args.cpu c.of-now.result c.last_end-from.result c.tick_of-tick.result c.begin-running.result c.begin-running.new.self s2 e =
     record {
       at_due = (c.of-now.ensures ∙ c.requires.dues c.args.cpu c.requires.ready.exists);
       from_end = c.last_end-from.ensures.same;
@@ -225,7 +228,7 @@ pick-entry-requires-clause-stands c =
       entry = c.bill_of-e.ensures.same;
       begins = c.bill_of-e.ensures.from;
       ends = c.bill_of-e.ensures.to;
-      at_tick = c.tick_of.ensures.same;
+      at_tick = c.tick_of-tick.ensures.same;
     } in
     let before = subst (λ (u : SchedulerState). Counts u.shape c.args.entries.now (c.of-now.result / c.begin-running.new.self.shape.tick) c.work_tick-commanded.new.window) (sym c.self.view_is) c.work_tick-commanded.ensures.counts in
     let with_bill = c.add_time.ensures.counts c.args.entries.now (c.of-now.result / c.begin-running.new.self.shape.tick) before in
@@ -236,7 +239,7 @@ pick-entry-requires-clause-stands c =
     let s4 = c.settle-done.new.self in
     let left = settled_kept c.args.scenario.now c.test-reboot.new.self c.of-now.result c.begin-running.result in
     let counts : Counts s4.shape (c.args.entries.now ++ e' ∷ []) (e'.to / s4.shape.tick) c.add_time.new.window =
-    counts_left c.args.scenario.now c.args.self.now c.args.entries.now c.args.cpu c.of-now.result c.last_end-from.result c.tick_of.result c.begin-running.result c.begin-running.new.self s2 e c.add_time.new.window
+    counts_left c.args.scenario.now c.args.self.now c.args.entries.now c.args.cpu c.of-now.result c.last_end-from.result c.tick_of-tick.result c.begin-running.result c.begin-running.new.self s2 e c.add_time.new.window
     c.requires.ready b with_bill c.settle-done.new.self (record e { done = c.settle-done.result }) (settled ∙ tested ∙ spent) (done_bill e c.settle-done.result) in
     let rows : s4.rows ≡ c.test-reboot.new.self.rows = sym (ap (λ (x : Effect). x.state.rows) c.settle-done.ensures) ∙ left.rows in
     c.stand_by.ensures.same
@@ -253,7 +256,7 @@ pub returns-clause-counts : goal.returns-clause-counts
 returns-clause-counts c =
     let s2 = state_of c.self.inside in
     let e = c.bill_of-e.result in
-    let b : IsBilling c.args.scenario.now c.args.self.now c.args.entries.now c.args.cpu c.of-now.result c.last_end-from.result c.tick_of.result c.begin-running.result c.begin-running.new.self s2 e =
+    let b : IsBilling c.args.scenario.now c.args.self.now c.args.entries.now c.args.cpu c.of-now.result c.last_end-from.result c.tick_of-tick.result c.begin-running.result c.begin-running.new.self s2 e =
     record {
       at_due = (c.of-now.ensures ∙ c.requires.dues c.args.cpu c.requires.ready.exists);
       from_end = c.last_end-from.ensures.same;
@@ -263,14 +266,14 @@ returns-clause-counts c =
       entry = c.bill_of-e.ensures.same;
       begins = c.bill_of-e.ensures.from;
       ends = c.bill_of-e.ensures.to;
-      at_tick = c.tick_of.ensures.same;
+      at_tick = c.tick_of-tick.ensures.same;
     } in
     let before = subst (λ (u : SchedulerState). Counts u.shape c.args.entries.now (c.of-now.result / c.begin-running.new.self.shape.tick) c.work_tick-commanded.new.window) (sym c.self.view_is) c.work_tick-commanded.ensures.counts in
     let with_bill = c.add_time.ensures.counts c.args.entries.now (c.of-now.result / c.begin-running.new.self.shape.tick) before in
     let spent : c.bill.new.self.shape ≡ s2.shape = spent_shape c.work_tick-commanded.new.self e c.begin-running.result c.bill.new.self c.bill.ensures ∙ ap (λ (u : SchedulerState). u.shape) (sym c.self.view_is) in
     let tested = tested_shape c.bill.new.self c.args.entries.now e c.test-reboot.new.self c.test-reboot.result c.test-reboot.ensures in
     let settled = settled_shape c.args.scenario.now c.test-reboot.new.self c.of-now.result c.begin-running.result _ c.settle-done.ensures in
-    counts_left c.args.scenario.now c.args.self.now c.args.entries.now c.args.cpu c.of-now.result c.last_end-from.result c.tick_of.result c.begin-running.result c.begin-running.new.self s2 e c.add_time.new.window
+    counts_left c.args.scenario.now c.args.self.now c.args.entries.now c.args.cpu c.of-now.result c.last_end-from.result c.tick_of-tick.result c.begin-running.result c.begin-running.new.self s2 e c.add_time.new.window
     c.requires.ready b with_bill c.pick-entry.new.self c.pick-entry.result (c.pick-entry.ensures.kept.shape ∙ settled ∙ tested ∙ spent) (picked_bill c.settle-done.new.self c.args.entries.now c.args.cpu c.bill_of-e.result.to c.bill_of-e.result c.settle-done.result _ c.pick-entry.ensures.same)
 
 pub pick-entry-requires-clause-dues : goal.pick-entry-requires-clause-dues
