@@ -1,4 +1,4 @@
-ghost use Rattle.std.specs.Prelude.{◌≡◌, ◌+◌, ◌<◌, ◌≤◌, IfSome, nat_eq};
+ghost use Rattle.std.specs.Prelude.{◌≡◌, ◌+◌, ◌/◌, ◌<◌, ◌≤◌, IfSome, nat_eq};
 ghost use Rattle.std.specs.List.{list_any};
 ghost use Rattle.aps_model.specs.declared.entry.Entry.{Entry as EntryOf};
 ghost use Rattle.aps_model.specs.After.{stands_at};
@@ -18,20 +18,48 @@ pub fn stands_at(moment: Nanos, last: Option<Nanos>) -> bool
     }
 }
 
-/// The first boundary after a moment.
-pub fn next_boundary(tick: u64, moment: Nanos) -> Nanos
+/// The tick of a moment. It costs no division where that is the tick at hand or the one before it.
+#[inline(always)]
+pub fn tick_of(tick: u64, moment: Nanos, at_hand: u64) -> u64
     requires some { 0 < tick }
     requires short { tick ≤ 10000000 }
+    requires at_hand { at_hand ≤ 100000000 }
+    requires moment { moment ≤ 10000000000000 }
+    ensures { result ≡ moment / tick }
+{
+    let begun = at_hand * tick;
+    if begun <= moment && moment < begun + tick {
+        at_hand
+    } else if moment < begun && begun <= moment + tick {
+        at_hand - 1
+    } else {
+        moment / tick
+    }
+}
+
+/// The first boundary after a moment. It costs no division where the moment lies in the tick at hand or the one before it.
+pub fn next_boundary(tick: u64, moment: Nanos, at_hand: u64) -> Nanos
+    requires some { 0 < tick }
+    requires short { tick ≤ 10000000 }
+    requires at_hand { at_hand ≤ 100000000 }
     requires moment { moment ≤ 10000000000000 }
     ensures same { result ≡ next_boundary tick moment }
     ensures soon { result ≤ moment + tick }
 {
-    (moment / tick + 1) * tick
+    (tick_of(tick, moment, at_hand) + 1) * tick
 }
 
-/// When a processor steps next, by its flag, the end of its last entry, and what is left of its operation.
-pub fn due_at(shape: &Shape, flag: Option<Nanos>, last: Option<Nanos>, left: Option<Nanos>) -> Nanos
+/// When a processor steps next, by its flag, the end of its last entry, and what is left of its operation. The tick at hand
+/// is best that of the end of its last entry.
+pub fn due_at(
+    shape: &Shape,
+    at_hand: u64,
+    flag: Option<Nanos>,
+    last: Option<Nanos>,
+    left: Option<Nanos>,
+) -> Nanos
     requires shape { IsShape shape.now }
+    requires at_hand { at_hand ≤ 100000000 }
     requires last { IfSome last (λ to. to ≤ 10000000000000) }
     ensures { result ≡ due_at shape.now.tick (horizon shape.now) flag last left }
 {
@@ -41,7 +69,7 @@ pub fn due_at(shape: &Shape, flag: Option<Nanos>, last: Option<Nanos>, left: Opt
     if let Some(moment) = flag {
         return moment;
     }
-    let boundary = next_boundary(shape.tick, last);
+    let boundary = next_boundary(shape.tick, last, at_hand);
     if last == shape.horizon() {
         return boundary;
     }

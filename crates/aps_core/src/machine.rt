@@ -103,8 +103,9 @@ impl Model for Machine {
 }
 
 impl Machine {
-    /// When the processor steps next.
-    pub fn due(&self, entries: &[Entry], ends: &Ends, cpu: CpuId) -> Nanos
+    /// When the processor steps next. The tick at hand is best that of the end of its last entry.
+    pub fn due(&self, entries: &[Entry], ends: &Ends, at_hand: u32, cpu: CpuId) -> Nanos
+        requires at_hand { at_hand ≤ 100000000 }
         requires cpu { cpu < length self.now.cpus }
         requires entries { All IsEntry entries.now }
         requires ends { AreEnds entries.now ends.now }
@@ -115,7 +116,8 @@ impl Machine {
             None => None,
             Some(pick) => self.thread(pick.thread).left,
         };
-        due::due_at(&self.shape, now.flag, ends.last_to(entries, cpu), left)
+        let last = ends.last_to(entries, cpu);
+        due::due_at(&self.shape, u64::from(at_hand), now.flag, last, left)
     }
 
     /// The lowest of the processors that are due least.

@@ -308,7 +308,10 @@ impl Core {
             &self.ends,
             self.limit,
         );
-        let due = self.machine.due(self.history.entries(), &self.ends, cpu);
+        let tick = self.window.tick();
+        let due = self
+            .machine
+            .due(self.history.entries(), &self.ends, tick, cpu);
         self.dues.go_on(&e, due);
         e
     }

@@ -9,6 +9,7 @@ ghost use Rattle.aps_core.specs.Counts.{CanBill, Counts, parts_in};
 ghost use Rattle.aps_core.specs.Part.{part_of};
 ghost use Rattle.aps_core.specs.Small.{IsSmall};
 
+use crate::due;
 use aps_model::{Entry, Nanos, PartFacts, PartitionId, PartitionRow, Shape, has_allowance};
 use aps_window::Window;
 
@@ -47,8 +48,8 @@ pub fn add_time(window: &mut Window, shape: &Shape, e: &Entry)
 {
     if let Some(p) = e.billed {
         if e.from < e.to {
-            let tick = (e.from / shape.tick) as u32;
-            window.bill_at(p, tick, e.to - e.from, e.critical);
+            let tick = due::tick_of(shape.tick, e.from, u64::from(window.tick()));
+            window.bill_at(p, tick as u32, e.to - e.from, e.critical);
         }
     }
 }
