@@ -42,7 +42,7 @@ pub struct Ready {
     /// nobody, or who was put in last
     aside: Entrant,
     brackets: Vec<Bracket>,
-    /// the level of the first of each bracket
+    /// the first of each bracket, and the groups by its level
     index: Index,
 }
 
@@ -194,7 +194,7 @@ impl Ready {
         ensures out { self.new ≡ without result.picked self.old }
         ensures left { result.left ≡ greatest free parts.now (members self.new) }
     {
-        let found = look(&self.brackets, &self.index, gates, parts, free);
+        let found = look(&self.index, gates, parts, free);
         let aside = self.aside;
         if wins(gates, parts, free, &aside, &found) {
             return Drawn {
@@ -239,7 +239,7 @@ impl Ready {
         ensures inside { result.group < 64 → result.thread < length self.now }
         ensures present { result.group < 64 → slice_index_or self.now result.thread None ≢ None }
     {
-        let found = look(&self.brackets, &self.index, gates, parts, free);
+        let found = look(&self.index, gates, parts, free);
         if wins(gates, parts, free, &self.aside, &found) {
             self.aside
         } else {
@@ -255,7 +255,7 @@ impl Ready {
         ensures inside { result.group < 64 → result.thread < length self.now }
         ensures present { result.group < 64 → slice_index_or self.now result.thread None ≢ None }
     {
-        let found = near(&self.brackets, &self.index, parts);
+        let found = near(&self.index, parts);
         if found.group >= 64 {
             return found;
         }
