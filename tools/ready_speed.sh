@@ -1,6 +1,7 @@
 #!/usr/bin/env bash
 # Times the calls of `aps_ready` with 16, 128 and 1,024 threads, and prints a table: nanoseconds for each call, the least of
-# fifteen times a million calls.
+# fifteen times a million calls. Where all threads tie it does so for partitions that have used more and more from the first
+# to the last, all the same, and less and less.
 #
 #   tools/ready_speed.sh [FOLDER]    FOLDER keeps what was built; without one a new folder is made, and removed at the end
 #
@@ -72,6 +73,14 @@ enum Load {
     AllTie,
 }
 
+/// How much the partitions have used, from the first to the last.
+#[derive(Clone, Copy, PartialEq, Eq)]
+enum Usage {
+    MoreAndMore,
+    AllTheSame,
+    LessAndLess,
+}
+
 /// The values of a thread: its group is one of 64 by its number.
 fn facts_of(x: usize, load: Load) -> Facts
     requires { x ≤ 1023 }
@@ -87,7 +96,7 @@ fn facts_of(x: usize, load: Load) -> Facts
 }
 
 /// A partition in budget.
-fn part_of(p: usize) -> PartFacts
+fn part_of(p: usize, usage: Usage) -> PartFacts
     requires { p < 32 }
     ensures { IsSmall result }
 {
@@ -95,18 +104,22 @@ fn part_of(p: usize) -> PartFacts
         funded: true,
         standing: true,
         shut: false,
-        used: 1000 * p as u64,
+        used: match usage {
+            Usage::MoreAndMore => 1000 * p as u64,
+            Usage::AllTheSame => 1000,
+            Usage::LessAndLess => 1000 * (31 - p) as u64,
+        },
         budget: 3,
     }
 }
 
 /// The row of partitions.
-fn all_parts(alloc: Global) -> Result<Vec<PartFacts>, NoMemory>
+fn all_parts(alloc: Global, usage: Usage) -> Result<Vec<PartFacts>, NoMemory>
     ensures { IfOk result (λ parts. All IsSmall parts.items) }
 {
     let mut parts = Vec::with_capacity(alloc, 32)?;
     for p in 0..32usize {
-        parts.push(part_of(p))?;
+        parts.push(part_of(p, usage))?;
     }
     Ok(parts)
 }
@@ -211,12 +224,12 @@ fn tenths(micros: u128) -> u64 {
 }
 
 /// Prints one row.
-fn measure(rt: &HostRuntime, count: usize, load: Load) -> anyhow::Result<()>
+fn measure(rt: &HostRuntime, count: usize, load: Load, usage: Usage) -> anyhow::Result<()>
     requires many { 16 ≤ count }
     requires few { count ≤ 1024 }
 {
     let alloc = rt.alloc();
-    let parts = all_parts(alloc)?;
+    let parts = all_parts(alloc, usage)?;
     let gates = twice(alloc, Gates::of(&parts))?;
     let mut ready = Ready::new(alloc, count as u16)?;
     fill(&mut ready, count, load);
@@ -234,19 +247,33 @@ fn measure(rt: &HostRuntime, count: usize, load: Load) -> anyhow::Result<()>
         renewed = renewed.min(tenths(start.elapsed(rt)?.as_micros()));
     }
     let ties = if load == Load::AllTie { "all tie" } else { "few ties" };
-    println!(rt; "| {count} | {ties} | {}.{} | {}.{} | {}.{} | {} |", best / 10, best % 10, best_by / 10, best_by % 10, renewed / 10, renewed % 10, sum % 9973)?;
+    let used = match usage {
+        Usage::MoreAndMore => "more and more",
+        Usage::AllTheSame => "all the same",
+        Usage::LessAndLess => "less and less",
+    };
+    println!(rt; "| {count} | {ties} | {used} | {}.{} | {}.{} | {}.{} | {} |", best / 10, best % 10, best_by / 10, best_by % 10, renewed / 10, renewed % 10, sum % 9973)?;
+    Ok(())
+}
+
+/// Prints the rows for so many threads.
+fn measure_all(rt: &HostRuntime, count: usize) -> anyhow::Result<()>
+    requires many { 16 ≤ count }
+    requires few { count ≤ 1024 }
+{
+    measure(rt, count, Load::FewTies, Usage::MoreAndMore)?;
+    measure(rt, count, Load::AllTie, Usage::MoreAndMore)?;
+    measure(rt, count, Load::AllTie, Usage::AllTheSame)?;
+    measure(rt, count, Load::AllTie, Usage::LessAndLess)?;
     Ok(())
 }
 
 fn main(rt: HostRuntime) -> anyhow::Result<()> {
-    println!(rt; "| threads | at the highest priority | best | best_by | take and put | (a sum) |")?;
-    println!(rt; "|---|---|---|---|---|---|")?;
-    measure(&rt, 16, Load::FewTies)?;
-    measure(&rt, 16, Load::AllTie)?;
-    measure(&rt, 128, Load::FewTies)?;
-    measure(&rt, 128, Load::AllTie)?;
-    measure(&rt, 1024, Load::FewTies)?;
-    measure(&rt, 1024, Load::AllTie)?;
+    println!(rt; "| threads | at the highest priority | partitions have used | best | best_by | take and put | (a sum) |")?;
+    println!(rt; "|---|---|---|---|---|---|---|")?;
+    measure_all(&rt, 16)?;
+    measure_all(&rt, 128)?;
+    measure_all(&rt, 1024)?;
     Ok(())
 }
 END

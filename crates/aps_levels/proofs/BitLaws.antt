@@ -1,9 +1,9 @@
-use Rattle.std.proofs.Common.{◌≡◌, ◌≢◌, ◌⊎◌, inl, inr, ℕ, ◌+◌, ◌*◌, ◌%◌, ◌/◌, ◌-◌, ◌<◌, ◌≤◌, Bool, true, false, ◌||◌, ◌&&◌, not, nat_eq, bit_and, bit_or, w64, sym, ◌∙◌, ap, arith}
-use Prim.Native.Nat.{◌^◌}
+use Rattle.std.proofs.Common.{◌≡◌, ◌≢◌, ◌⊎◌, inl, inr, ℕ, ◌+◌, ◌*◌, ◌%◌, ◌/◌, ◌-◌, ◌<◌, ◌≤◌, Bool, true, false, ◌||◌, ◌&&◌, not, nat_eq, nat_lt, bit_and, bit_or, w64, sym, ◌∙◌, ap, arith}
+use Prim.Native.Nat.{◌^◌, min}
 use Rattle.std.specs.Int.{bit_at}
 use Rattle.std.proofs.lemmas.Bool.{cases_eq}
 use Rattle.std.proofs.lemmas.Bool.Decides.{nat_tests}
-use Rattle.std.proofs.lemmas.Nat.Bits.{bit_at_and, bit_at_or, bit_at_not, bit_at-lt, bit_at_above, bit_at_set_same, bit_at_set_other, bit_at_clear_same, bit_at_clear_other}
+use Rattle.std.proofs.lemmas.Nat.Bits.{bit_at_and, bit_at_or, bit_at_not, bit_at-lt, bit_at_above, bit_at_set_same, bit_at_set_other, bit_at_clear_same, bit_at_clear_other, bit_at_ones, bit_at_ones_above}
 use Rattle.std.proofs.lemmas.Nat.{and_le_l, pow-add}
 use Rattle.std.proofs.Math.Nat.{div-div-eq-div-mul}
 
@@ -67,3 +67,21 @@ shifted j word k =
 
 pub upper_bit : (word k : ℕ) → is_set (word / 4294967296) k ≡ is_set word (k + 32)
 upper_bit word k = ap (λ (b : ℕ). nat_eq b 1) (shifted 32 word k)
+
+-- a mask of the lower half keeps the bits below 32
+low_bit : (word k b : ℕ) → k < 32 → b ≡ 1 → bit_at (bit_and word 4294967295) k ≡ min (bit_at word k) b
+    → is_set (bit_and word 4294967295) k ≡ (nat_lt k 32 && is_set word k)
+low_bit word k b low one both = grind (arith, nat_tests, bit_at-lt word k)
+
+high_bit : (word k b : ℕ) → 32 ≤ k → b ≡ 0 → bit_at (bit_and word 4294967295) k ≡ min (bit_at word k) b
+    → is_set (bit_and word 4294967295) k ≡ (nat_lt k 32 && is_set word k)
+high_bit word k b high none both = grind (arith, nat_tests)
+
+pub lower_bit : (word k : ℕ) → is_set (bit_and word 4294967295) k ≡ (nat_lt k 32 && is_set word k)
+lower_bit word k = elim (below_or_not k 32) [
+  | inl low ↦ low_bit word k (bit_at 4294967295 k) low (bit_at_ones 32 k low) (bit_at_and word 4294967295 k)
+  | inr high ↦ high_bit word k (bit_at 4294967295 k) high (bit_at_ones_above 32 k high) (bit_at_and word 4294967295 k)
+]
+  where
+    below_or_not : (a b : ℕ) → (a < b) ⊎ (b ≤ a)
+    below_or_not a b = search arith

@@ -1,5 +1,5 @@
 //! Sets of numbers below 64, in one word.
-ghost use Rattle.std.specs.Prelude.{◌≡◌, ℕ, ◌+◌, ◌<◌, ◌||◌, ◌&&◌, not, nat_eq, if◌then◌else◌, IfSome, IfNone, IsTrue, true, false};
+ghost use Rattle.std.specs.Prelude.{◌≡◌, ℕ, ◌+◌, ◌<◌, ◌||◌, ◌&&◌, not, nat_eq, nat_lt, if◌then◌else◌, IfSome, IfNone, IsTrue, true, false};
 ghost use Rattle.aps_levels.specs.Bits.{has, IsLeast};
 
 /// A set of numbers below 64.
@@ -106,6 +106,16 @@ impl Bits64 {
     {
         Bits64 {
             word: self.word >> 32,
+        }
+    }
+
+    /// The numbers below 32.
+    #[inline(always)]
+    pub fn lower_half(self) -> Bits64
+        ensures { (k : ℕ) → has result k ≡ (nat_lt k 32 && has self k) }
+    {
+        Bits64 {
+            word: self.word & 0xffff_ffff,
         }
     }
 

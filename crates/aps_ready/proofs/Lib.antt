@@ -8,6 +8,10 @@ pub mod GateLaws
 pub mod Content
 pub mod Tops
 pub mod Ahead
+pub mod Fewer
+pub mod Earliest
+pub mod Fractions
+pub mod Leading
 pub mod Among
 pub mod Winner
 pub mod WinLaws

@@ -265,12 +265,12 @@ not_past parts gates e f p are below past minus =
 
 -- ---- the groups that somebody is of, in their brackets or aside
 
-pub groups_occupied : (row : List Entrant) (aside : Entrant) (brackets : List (List Entrant)) (tops : List ℕ) (some : Bits64)
-    → IsDrawnBut row aside brackets → IsQueued row → AreTopped brackets tops
-    → ((g : ℕ) → g < 64 → has some g ≡ (nat_eq g aside.group || nat_lt (level_of tops g) 256)) → AreOccupied row some
-groups_occupied row aside brackets tops some but queued topped is = record { who = who; all = all }
+pub groups_occupied : (row : List Entrant) (aside : Entrant) (brackets : List (List Entrant)) (firsts : List Entrant) (some : Bits64)
+    → IsDrawnBut row aside brackets → IsQueued row → AreTopped brackets firsts
+    → ((g : ℕ) → g < 64 → has some g ≡ (nat_eq g aside.group || nat_lt (level_of firsts g) 256)) → AreOccupied row some
+groups_occupied row aside brackets firsts some but queued topped is = record { who = who; all = all }
   where
-    kept : IsKept (rest_of row aside) brackets tops
+    kept : IsKept (rest_of row aside) brackets firsts
     kept = record { drawn = but.rest; queued = queued_rest row aside but.own queued; topped = topped }
 
     same_group : (g : ℕ) → nat_eq g aside.group ≡ true → aside.group ≡ g
@@ -280,7 +280,7 @@ groups_occupied row aside brackets tops some but queued topped is = record { who
     low l h = grind (arith, nat_tests)
 
     who : (g : ℕ) → g < 64 → has some g ≡ true → IsOf row g
-    who g below h = elim (one_of (nat_eq g aside.group) (nat_lt (level_of tops g) 256) (sym (is g below) ∙ h)) [
+    who g below h = elim (one_of (nat_eq g aside.group) (nat_lt (level_of firsts g) 256) (sym (is g below) ∙ h)) [
       | inl own ↦
           let group : aside.group ≡ g = same_group g own in
           let inside : aside.group < 64 = omega (arith, group, below) in
@@ -290,7 +290,7 @@ groups_occupied row aside brackets tops some but queued topped is = record { who
             group = ap (λ (e : Entrant). e.group) (but.own inside) ∙ group;
           }
       | inr top ↦
-          let found = occupant (rest_of row aside) brackets tops g kept below (low (level_of tops g) top) in
+          let found = occupant (rest_of row aside) brackets firsts g kept below (low (level_of firsts g) top) in
           let inside : (entrant_at (rest_of row aside) found.place).group < 64 = omega (arith, found.group, below) in
           record {
             place = found.place;
@@ -312,14 +312,14 @@ groups_occupied row aside brackets tops some but queued topped is = record { who
     all : (x : ℕ) → x < length row → (entrant_at row x).group < 64 → has some (entrant_at row x).group ≡ true
     all x within below = is (entrant_at row x).group below ∙ (elim (aside_or_rest row aside x but.own) [
       | inl own ↦
-          left (nat_eq (entrant_at row x).group aside.group) (nat_lt (level_of tops (entrant_at row x).group) 256)
+          left (nat_eq (entrant_at row x).group aside.group) (nat_lt (level_of firsts (entrant_at row x).group) 256)
           (equal (entrant_at row x).group aside.group (ap (λ (e : Entrant). e.group) own.1))
       | inr rest ↦
           let e = entrant_at (rest_of row aside) x in
           let inside : x < length (rest_of row aside) = omega (arith, within, rest_length row aside) in
           let there : e.group < 64 = subst (λ (f : Entrant). f.group < 64) rest below in
-          let level : level_of tops e.group < 256 =
-          omega (arith, level_at_most (rest_of row aside) brackets tops x kept inside there, kept.queued.levels x inside there) in
-          right (nat_eq (entrant_at row x).group aside.group) (nat_lt (level_of tops (entrant_at row x).group) 256)
-          (ap (λ (f : Entrant). nat_lt (level_of tops f.group) 256) rest ∙ less (level_of tops e.group) 256 level)
+          let level : level_of firsts e.group < 256 =
+          omega (arith, level_at_most (rest_of row aside) brackets firsts x kept inside there, kept.queued.levels x inside there) in
+          right (nat_eq (entrant_at row x).group aside.group) (nat_lt (level_of firsts (entrant_at row x).group) 256)
+          (ap (λ (f : Entrant). nat_lt (level_of firsts f.group) 256) rest ∙ less (level_of firsts e.group) 256 level)
     ])

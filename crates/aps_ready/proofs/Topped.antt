@@ -4,35 +4,27 @@ use Rattle.std.proofs.lemmas.List.{get_or-replicate, length-replicate}
 use Rattle.std.proofs.lemmas.List.Elements.{All-replicate}
 use Rattle.aps_ready.specs.declared.entrant.Entrant.{Entrant}
 use Rattle.aps_ready.specs.Ready.{bracket_at}
-use Rattle.aps_ready.specs.Index.{level_of}
-use Rattle.aps_ready.specs.Topped.{HasTop, AreTopped}
-use Rattle.aps_ready.specs.Entrant.{IsFirst, goes_before, vacant}
+use Rattle.aps_ready.specs.Topped.{AreTopped}
+use Rattle.aps_ready.specs.Entrant.{IsFirst, entrant_at, goes_before, vacant}
 
-pub top_of : (bracket : List Entrant) (first : Entrant) → IsFirst bracket first → HasTop bracket first.level
-top_of bracket first is = record { first = first; is = is; same = refl }
-
-pub topped_set : (brackets : List (List Entrant)) (tops : List ℕ) (k : ℕ) (bracket : List Entrant) (level : ℕ) → AreTopped brackets tops → length brackets ≡ 64 → k < 64
-    → HasTop bracket level → AreTopped (set brackets k bracket) (set tops k level)
-topped_set brackets tops k bracket level topped count below top = record {
-  groups = length-set tops k level ∙ topped.groups;
+pub topped_set : (brackets : List (List Entrant)) (firsts : List Entrant) (k : ℕ) (bracket : List Entrant) (first : Entrant) → AreTopped brackets firsts
+    → length brackets ≡ 64 → k < 64 → IsFirst bracket first → AreTopped (set brackets k bracket) (set firsts k first)
+topped_set brackets firsts k bracket first topped count below is_first = record {
+  groups = length-set firsts k first ∙ topped.groups;
   each = λ g g_below. elim (cases_eq g k) [
     | inl same ↦
         let here : bracket_at (set brackets k bracket) k ≡ bracket = get_or-set_same brackets k bracket [] (omega (arith, count, below)) in
-        let level_here : level_of (set tops k level) k ≡ level = get_or-set_same tops k level 256 (omega (arith, topped.groups, below)) in
-        subst (λ (j : ℕ). HasTop (bracket_at (set brackets k bracket) j) (level_of (set tops k level) j)) (sym same) (rw (here, level_here) top)
-    | inr ne ↦ rw (get_or-set_other brackets k g bracket [] ne, get_or-set_other tops k g level 256 ne) (topped.each g g_below)
+        let first_here : entrant_at (set firsts k first) k ≡ first = get_or-set_same firsts k first vacant (omega (arith, topped.groups, below)) in
+        subst (λ (j : ℕ). IsFirst (bracket_at (set brackets k bracket) j) (entrant_at (set firsts k first) j)) (sym same) (rw (here, first_here) is_first)
+    | inr ne ↦ rw (get_or-set_other brackets k g bracket [] ne, get_or-set_other firsts k g first vacant ne) (topped.each g g_below)
   ];
 }
 
-pub topped_replicate : (n : ℕ) → AreTopped (replicate 64 (replicate n vacant)) (replicate 64 256)
+pub topped_replicate : (n : ℕ) → AreTopped (replicate 64 (replicate n vacant)) (replicate 64 vacant)
 topped_replicate n = record {
-  groups = length-replicate {A = ℕ} 64 256;
-  each = λ g below. rw (get_or-replicate 64 g (replicate n vacant) [] below, get_or-replicate {A = ℕ} 64 g 256 256 below) (record {
-    first = vacant;
-    is = record {
-      one = (0, omega arith, refl);
-      others = All-replicate (λ (e : Entrant). goes_before e vacant ≡ false) n vacant refl;
-    };
-    same = refl;
+  groups = length-replicate {A = Entrant} 64 vacant;
+  each = λ g below. rw (get_or-replicate 64 g (replicate n vacant) [] below, get_or-replicate {A = Entrant} 64 g vacant vacant below) (record {
+    one = (0, omega arith, refl);
+    others = All-replicate (λ (e : Entrant). goes_before e vacant ≡ false) n vacant refl;
   });
 }

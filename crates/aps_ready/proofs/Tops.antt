@@ -1,12 +1,12 @@
-use Rattle.std.proofs.Common.{◌≡◌, ◌⊎◌, inl, inr, ℕ, zero, suc, ◌<◌, ◌≤◌, Bool, true, false, cond, nat_eq, List, [], ◌∷◌, length, map, get_or, refl, sym, ◌∙◌, ap, subst, arith}
+use Rattle.std.proofs.Common.{◌≡◌, ◌⊎◌, inl, inr, ℕ, zero, suc, ◌<◌, ◌≤◌, Bool, true, false, cond, nat_eq, List, ◌∷◌, length, map, get_or, refl, sym, ◌∙◌, ap, subst, arith}
 use Rattle.std.specs.List.{Contains}
 use Rattle.std.proofs.lemmas.Bool.Decides.{nat_tests}
-use Rattle.std.proofs.lemmas.List.{length-map, get_or-map, get_or_read}
+use Rattle.std.proofs.lemmas.List.{length-map, get_or-map}
 use Rattle.aps_ready.specs.declared.entrant.Entrant.{Entrant}
 use Rattle.aps_ready.specs.Entrant.{entrant_at, vacant, goes_before, IsFirst}
 use Rattle.aps_ready.specs.Index.{level_of}
-use Rattle.aps_ready.specs.Ready.{entrant_in, bracket_at, AreDrawn, IsQueued}
-use Rattle.aps_ready.specs.Topped.{HasTop, AreTopped}
+use Rattle.aps_ready.specs.Ready.{entrant_in, AreDrawn, IsQueued}
+use Rattle.aps_ready.specs.Topped.{AreTopped}
 use Rattle.aps_ready.specs.Best.{Sits}
 
 -- ---- the first of a group
@@ -78,12 +78,6 @@ top_is row n top below queued first = by_kind (who row n top first.one)
           absurd (before_vacant (entrant_at row x) top (queued.levels x within (omega (arith, same, below))) none (before x within same));
     }
 
-pub top_by : (row : List Entrant) (brackets : List (List Entrant)) (bracket : List Entrant) (g : ℕ) (first : Entrant)
-    → AreDrawn row brackets → IsQueued row → g < 64 → bracket ≡ get_or brackets g bracket → IsFirst bracket first → IsTop row g first
-top_by row brackets bracket g first drawn queued below read is_first =
-    let is : bracket ≡ map (entrant_in g) row = get_or_read brackets g bracket (omega (arith, drawn.each, below)) read [] ∙ drawn.drawn g below in
-    top_is row g first below queued (subst (λ (b : List Entrant). IsFirst b first) is is_first)
-
 -- the level of somebody who sits there
 pub sits_level : (row : List Entrant) (e : Entrant) → IsQueued row → e.group < 64 → Sits row e → e.level ≤ 255
 sits_level row e queued g sits =
@@ -93,27 +87,26 @@ sits_level row e queued g sits =
 -- ---- the levels of the groups
 
 -- what is kept of the row
-pub record IsKept (row : List Entrant) (brackets : List (List Entrant)) (tops : List ℕ) : Type 0 where
+pub record IsKept (row : List Entrant) (brackets : List (List Entrant)) (firsts : List Entrant) : Type 0 where
   pub drawn : AreDrawn row brackets
   pub queued : IsQueued row
-  pub topped : AreTopped brackets tops
+  pub topped : AreTopped brackets firsts
 
-top_of : (row : List Entrant) (brackets : List (List Entrant)) (tops : List ℕ) (g : ℕ) → IsKept row brackets tops → (below : g < 64)
-    → (has : HasTop (bracket_at brackets g) (level_of tops g)) → IsTop row g has.first
-top_of row brackets tops g kept below has =
-    top_is row g has.first below kept.queued (subst (λ (b : List Entrant). IsFirst b has.first) (kept.drawn.drawn g below) has.is)
+pub top_of : (row : List Entrant) (brackets : List (List Entrant)) (firsts : List Entrant) (g : ℕ) → IsKept row brackets firsts → g < 64
+    → IsTop row g (entrant_at firsts g)
+top_of row brackets firsts g kept below =
+    top_is row g (entrant_at firsts g) below kept.queued
+    (subst (λ (b : List Entrant). IsFirst b (entrant_at firsts g)) (kept.drawn.drawn g below) (kept.topped.each g below))
 
 not_before : (first e : Entrant) → goes_before e first ≡ false → first.level ≤ e.level
 not_before first e h = grind (arith, nat_tests)
 
 -- nobody has a lower level than its group
-pub level_at_most : (row : List Entrant) (brackets : List (List Entrant)) (tops : List ℕ) (x : ℕ) → IsKept row brackets tops
-    → x < length row → (entrant_at row x).group < 64 → level_of tops (entrant_at row x).group ≤ (entrant_at row x).level
-level_at_most row brackets tops x kept within below =
+pub level_at_most : (row : List Entrant) (brackets : List (List Entrant)) (firsts : List Entrant) (x : ℕ) → IsKept row brackets firsts
+    → x < length row → (entrant_at row x).group < 64 → level_of firsts (entrant_at row x).group ≤ (entrant_at row x).level
+level_at_most row brackets firsts x kept within below =
     let g = (entrant_at row x).group in
-    let has = kept.topped.each g below in
-    let first = (top_of row brackets tops g kept below has).first x within refl in
-    subst (λ (l : ℕ). l ≤ (entrant_at row x).level) has.same (not_before has.first (entrant_at row x) first.1)
+    not_before (entrant_at firsts g) (entrant_at row x) ((top_of row brackets firsts g kept below).first x within refl).1
 
 -- somebody of the group has its level
 pub record Occupant (row : List Entrant) (g at_level : ℕ) : Type 0 where
@@ -122,19 +115,19 @@ pub record Occupant (row : List Entrant) (g at_level : ℕ) : Type 0 where
   pub group : (entrant_at row place).group ≡ g
   pub level : (entrant_at row place).level ≡ at_level
 
-pub occupant : (row : List Entrant) (brackets : List (List Entrant)) (tops : List ℕ) (g : ℕ) → IsKept row brackets tops
-    → g < 64 → level_of tops g < 256 → Occupant row g (level_of tops g)
-occupant row brackets tops g kept below some =
-    by_kind (who row g has.first (subst (λ (b : List Entrant). Contains (vacant ∷ b) has.first) (kept.drawn.drawn g below) has.is.one))
+pub occupant : (row : List Entrant) (brackets : List (List Entrant)) (firsts : List Entrant) (g : ℕ) → IsKept row brackets firsts
+    → g < 64 → level_of firsts g < 256 → Occupant row g (level_of firsts g)
+occupant row brackets firsts g kept below some =
+    by_kind (who row g first (subst (λ (b : List Entrant). Contains (vacant ∷ b) first) (kept.drawn.drawn g below) (kept.topped.each g below).one))
   where
-    has : HasTop (bracket_at brackets g) (level_of tops g)
-    has = kept.topped.each g below
+    first : Entrant
+    first = entrant_at firsts g
 
-    by_kind : Own row g has.first ⊎ (has.first ≡ vacant) → Occupant row g (level_of tops g)
+    by_kind : Own row g first ⊎ (first ≡ vacant) → Occupant row g (level_of firsts g)
     by_kind (inl own) = record {
       place = own.place;
       within = own.within;
       group = own.group;
-      level = ap (λ (e : Entrant). e.level) own.is ∙ has.same;
+      level = ap (λ (e : Entrant). e.level) own.is;
     }
-    by_kind (inr none) = absurd (omega (arith, some, has.same, ap (λ (e : Entrant). e.level) none))
+    by_kind (inr none) = absurd (omega (arith, some, ap (λ (e : Entrant). e.level) none))

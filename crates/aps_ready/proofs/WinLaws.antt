@@ -16,6 +16,7 @@ use Rattle.aps_ready.specs.Gates.{open_first, AreGates}
 use Rattle.aps_ready.specs.Best.{Sits}
 use Rattle.aps_ready.specs.Choice.{is_ahead_by_level}
 use Rattle.aps_ready.specs.Aside.{rest_of, IsDrawnBut}
+use Rattle.aps_ready.specs.Topped.{AreTopped}
 use Rattle.aps_ready.specs.Winner.{is_above, is_candidate_at, wins, IsContestant, IsWinner}
 use Rattle.aps_ready.proofs.Ahead.{class_at, above_class, above_first_by_level, above_one_way, above_chain}
 use Rattle.aps_ready.proofs.Aside.{aside_or_rest, rest_length, rest_none, rest_there, rest_some, within_row}
@@ -212,11 +213,13 @@ none_above free parts one best contest best_first closed = by_test (is_candidate
         ap (λ (t : Bool). not t || is_above free parts one best) (seen best.group contest.there)
         ∙ above_class free parts one best (other_class parts one h (closed (open_group parts one h))) (open_stands parts best contest.there best_first).class
 
-pub near_first : (parts : List PartFacts) (row : List Entrant) (aside : Entrant) (brackets seen : List (List Entrant)) (best : Entrant)
-    → IsDrawnBut row aside brackets → IsQueued row → seen ≡ brackets
-    → ((row : List Entrant) → AreDrawn row seen → IsQueued row → open_first parts best.group ≡ true) → open_first parts best.group ≡ true
-near_first parts row aside brackets seen best but queued same is_first =
-    is_first (rest_of row aside) (subst (AreDrawn (rest_of row aside)) (sym same) but.rest) (queued_rest row aside but.own queued)
+pub near_first : (parts : List PartFacts) (row : List Entrant) (aside : Entrant) (brackets : List (List Entrant)) (firsts : List Entrant)
+    (best : Entrant) → IsDrawnBut row aside brackets → IsQueued row → AreTopped brackets firsts
+    → ((row : List Entrant) (brackets : List (List Entrant)) → AreDrawn row brackets → IsQueued row → AreTopped brackets firsts
+    → open_first parts best.group ≡ true)
+    → open_first parts best.group ≡ true
+near_first parts row aside brackets firsts best but queued topped is_first =
+    is_first (rest_of row aside) brackets but.rest (queued_rest row aside but.own queued) topped
 
 -- ---- by what a look at the brackets found
 
@@ -228,16 +231,18 @@ pub record IsLook (free : Free) (parts : List PartFacts) (row : List Entrant) (a
   pub view : map seat_of row ≡ seats
   pub rest : IsWinner free parts (rest_of row aside) best
 
-pub looked : (free : Free) (parts : List PartFacts) (row : List Entrant) (aside : Entrant) (brackets seen : List (List Entrant)) (best : Entrant)
-    (seats : List (Option Contender)) → IsDrawnBut row aside brackets → IsQueued row → map seat_of row ≡ seats → seen ≡ brackets
-    → ((row : List Entrant) → AreDrawn row seen → IsQueued row → IsWinner free parts row best)
+pub looked : (free : Free) (parts : List PartFacts) (row : List Entrant) (aside : Entrant) (brackets : List (List Entrant)) (firsts : List Entrant)
+    (best : Entrant) (seats : List (Option Contender)) → IsDrawnBut row aside brackets → IsQueued row → map seat_of row ≡ seats
+    → AreTopped brackets firsts
+    → ((row : List Entrant) (brackets : List (List Entrant)) → AreDrawn row brackets → IsQueued row → AreTopped brackets firsts
+    → IsWinner free parts row best)
     → IsLook free parts row aside best seats
-looked free parts row aside brackets seen best seats but queued view same is_winner = record {
+looked free parts row aside brackets firsts best seats but queued view topped is_winner = record {
   own = but.own;
   few = omega (arith, but.rest.few, rest_length row aside);
   queued = queued;
   view = view;
-  rest = is_winner (rest_of row aside) (subst (AreDrawn (rest_of row aside)) (sym same) but.rest) (queued_rest row aside but.own queued);
+  rest = is_winner (rest_of row aside) brackets but.rest (queued_rest row aside but.own queued) topped;
 }
 
 pub found_contests : (free : Free) (parts : List PartFacts) (row : List Entrant) (aside best : Entrant) (seats : List (Option Contender))

@@ -1,7 +1,7 @@
 use Rattle.std.specs.Prelude.{◌≡◌, ℕ, ◌<◌, ◌≤◌, Bool, true, false, ◌&&◌, ◌||◌, not, List, length}
 use Rattle.aps_model.specs.declared.merit.PartFacts.{PartFacts}
 use Rattle.aps_ready.specs.declared.entrant.Entrant.{Entrant}
-use Rattle.aps_ready.specs.declared.look.Wanted.{Wanted}
+use Rattle.aps_ready.specs.declared.leaders.Wanted.{Wanted}
 use Rattle.aps_levels.specs.Bits.{has}
 use Rattle.aps_ready.specs.Entrant.{entrant_at}
 use Rattle.aps_ready.specs.Gates.{open_first}

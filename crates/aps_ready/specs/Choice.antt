@@ -1,4 +1,4 @@
-use Rattle.std.specs.Prelude.{◌%◌, Bool, true, false, ◌&&◌, nat_eq, nat_lt, if◌then◌else◌, List}
+use Rattle.std.specs.Prelude.{◌%◌, Bool, true, false, nat_eq, nat_lt, if◌then◌else◌, List}
 use Rattle.aps_model.specs.declared.merit.PartFacts.{PartFacts}
 use Rattle.aps_model.specs.Merit.{smaller}
 use Rattle.aps_model.specs.Budget.{part_at}
@@ -24,8 +24,3 @@ is_ahead parts a b = ahead_by (part_at parts (a.group % 32)) (part_at parts (b.g
 -- the order of candidates of one class, where the level comes first
 abbrev pub is_ahead_by_level : List PartFacts → Entrant → Entrant → Bool
 is_ahead_by_level parts a b = if nat_eq a.level b.level then is_ahead parts a b else nat_lt a.level b.level
-
--- the best so far, or the first of one more partition, if somebody is there and ahead of it
-abbrev pub ahead_of : List PartFacts → Entrant → Entrant → Entrant
-ahead_of parts best top =
-    if nat_lt best.group 64 then (if nat_lt top.group 64 && is_ahead parts top best then top else best) else top

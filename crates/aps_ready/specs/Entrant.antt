@@ -18,10 +18,6 @@ entrant_of x facts stamp = record { level = 255 - facts.priority; group = group_
 abbrev pub goes_before : Entrant → Entrant → Bool
 goes_before a b = nat_lt a.level b.level || (nat_eq a.level b.level && nat_lt a.stamp b.stamp)
 
--- the one that goes before the other, and the first where neither does
-abbrev pub earlier : Entrant → Entrant → Entrant
-earlier a b = if goes_before b a then b else a
-
 abbrev pub entrant_at : List Entrant → ℕ → Entrant
 entrant_at row i = slice_index_or row i vacant
 

@@ -8,5 +8,6 @@ pub mod Topped
 pub mod Choice
 pub mod Likely
 pub mod Best
+pub mod Leaders
 pub mod Winner
 pub mod Aside

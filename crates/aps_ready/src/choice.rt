@@ -1,7 +1,7 @@
 //! Which of two candidates of one class is chosen.
-ghost use Rattle.std.specs.Prelude.{◌≡◌, ◌<◌, ◌%◌, false, All};
+ghost use Rattle.std.specs.Prelude.{◌≡◌, ◌%◌, All};
 ghost use Rattle.aps_model.specs.Budget.{part_at};
-ghost use Rattle.aps_ready.specs.Choice.{has_used_less, is_ahead, ahead_of};
+ghost use Rattle.aps_ready.specs.Choice.{has_used_less, is_ahead};
 ghost use Rattle.aps_ready.specs.Small.{IsSmall};
 
 use crate::entrant::{Entrant, goes_before};
@@ -46,21 +46,4 @@ pub fn is_ahead(parts: &[PartFacts], a: &Entrant, b: &Entrant) -> bool
     let p = (a.group % 32) as usize;
     let q = (b.group % 32) as usize;
     has_used_less(parts, p, q) || (!has_used_less(parts, q, p) && goes_before(a, b))
-}
-
-/// The best so far, who is somebody, or the first of partition `p`, if somebody is there and ahead of it. The best's
-/// partition has not used less than this one.
-#[inline(always)]
-pub fn ahead_of(parts: &[PartFacts], p: usize, best: Entrant, top: Entrant) -> Entrant
-    requires small { All IsSmall parts.now }
-    requires there { best.group < 64 }
-    requires not_less { has_used_less (part_at parts.now (best.group % 32)) (part_at parts.now p) ≡ false }
-    ensures { (top.group < 64 → top.group % 32 ≡ p) → result ≡ ahead_of parts.now best top }
-{
-    let q = (best.group % 32) as usize;
-    if top.group < 64 && (has_used_less(parts, p, q) || goes_before(&top, &best)) {
-        top
-    } else {
-        best
-    }
 }

@@ -1,7 +1,7 @@
 //! Who takes part in a bracket, and which of two goes first.
 ghost use Rattle.std.specs.Prelude.{◌≡◌, ◌<◌, ◌≤◌};
 ghost use Rattle.aps_model.specs.declared.state.Facts.{Facts};
-ghost use Rattle.aps_ready.specs.Entrant.{earlier, goes_before, vacant, entrant_of};
+ghost use Rattle.aps_ready.specs.Entrant.{goes_before, vacant, entrant_of};
 ghost use Rattle.aps_ready.specs.Ready.{seat_of};
 
 use aps_model::{Contender, Facts, PartitionId, ThreadId};
@@ -80,12 +80,4 @@ pub fn goes_before(a: &Entrant, b: &Entrant) -> bool
     ensures { result ≡ goes_before a.now b.now }
 {
     a.level < b.level || (a.level == b.level && a.stamp < b.stamp)
-}
-
-/// The one that goes before the other; the first where neither does.
-#[inline(always)]
-pub fn earlier(a: Entrant, b: Entrant) -> Entrant
-    ensures { result ≡ earlier a b }
-{
-    if goes_before(&b, &a) { b } else { a }
 }

@@ -1,19 +1,22 @@
-//! Groups by the level of their first.
-ghost use Rattle.std.specs.Prelude.{◌≡◌, ℕ, ◌<◌, ◌&&◌, ◌||◌, not, length, replicate, slice_set, nat_eq, nat_lt, IfOk, IfSome, IfNone, true};
+//! The first of each group, and the groups by the level of their first.
+ghost use Rattle.std.specs.Prelude.{◌≡◌, ℕ, ◌<◌, ◌&&◌, ◌||◌, not, length, replicate, slice_set, nat_eq, nat_lt, IfOk, IfSome, IfNone, true, false};
 ghost use Rattle.aps_levels.specs.Bits.{has};
 ghost use Rattle.aps_levels.specs.Levels.{has_level};
+ghost use Rattle.aps_ready.specs.Entrant.{entrant_at, vacant};
 ghost use Rattle.aps_ready.specs.Index.{level_of, bits_at, AreLeast, AreEmpty};
+ghost use Rattle.aps_ready.specs.Leaders.{IsEarliest};
 
+use crate::entrant::{Entrant, vacant};
 use aps_levels::{Bits64, Levels};
 use aps_model::NoMemory;
 use std::alloc::Global;
 use std::marker::Model;
 
-/// For each of 64 groups the level of its first (256 where the group is empty), and for each level the groups whose
-/// first has it. Contracts see the levels of the groups.
+/// For each of 64 groups its first (nobody where the group is empty), and for each level the groups whose first has it.
+/// Contracts see the firsts of the groups.
 #[derive(Drop)]
 pub struct Index {
-    tops: Vec<u16>,
+    firsts: Vec<Entrant>,
     at_level: Vec<Bits64>,
     /// the levels at which groups may stand
     levels: Levels,
@@ -22,51 +25,53 @@ pub struct Index {
 }
 
 impl Model for Index {
-    ghost use Rattle.std.specs.Prelude.{ℕ, List};
+    ghost use Rattle.std.specs.Prelude.{List};
     ghost use Rattle.aps_ready.specs.Index.{IsIndex};
+    ghost use Rattle.aps_ready.specs.declared.entrant.Entrant.{Entrant};
 
-    ghost Value = { List ℕ };
+    ghost Value = { List Entrant };
 
-    ghost view = { λ i. i.tops.items };
+    ghost view = { λ i. i.firsts.items };
 
-    ghost invariant = { λ i. IsIndex i.tops.items i.at_level.items i.levels i.occupied };
+    ghost invariant = { λ i. IsIndex i.firsts.items i.at_level.items i.levels i.occupied };
 }
 
 impl Index {
     /// All groups are empty.
     pub fn new(alloc: Global) -> Result<Index, NoMemory>
-        ensures { IfOk result (λ index. index ≡ replicate 64 256) }
+        ensures { IfOk result (λ index. index ≡ replicate 64 vacant) }
     {
-        let mut tops = Vec::with_capacity(alloc, 64)?;
-        'tops: for _ in 0..64usize {
-            tops.push(256u16)?;
+        let mut firsts = Vec::with_capacity(alloc, 64)?;
+        'firsts: for _ in 0..64usize {
+            firsts.push(vacant())?;
         }
         let mut at_level = Vec::with_capacity(alloc, 256)?;
         'levels: for _ in 0..256usize {
             at_level.push(Bits64::none())?;
         }
         Ok(Index {
-            tops,
+            firsts,
             at_level,
             levels: Levels::none(),
             occupied: Bits64::none(),
         })
     }
 
-    /// Sets the level of a group.
+    /// Sets the first of a group.
     #[inline(always)]
-    pub fn set(&mut self, group: usize, level: u16)
+    pub fn set(&mut self, group: usize, first: Entrant)
         requires { group < 64 }
-        ensures { self.new ≡ slice_set self.old group level }
+        ensures { self.new ≡ slice_set self.old group first }
     {
-        let before = self.tops[group];
+        let before = self.firsts[group].level;
+        let level = first.level;
+        self.firsts[group] = first;
         if before == level {
             return;
         }
         let left = leave(&mut self.at_level, self.levels, group, before as usize);
         self.levels = enter(&mut self.at_level, left, group, level as usize);
         self.occupied = self.occupied.put(group, level < 256);
-        self.tops[group] = level;
     }
 
     /// The groups that aren't empty.
@@ -99,6 +104,29 @@ impl Index {
             }
         }
         None
+    }
+
+    /// The first with the smallest stamp, of those of the groups of a set; nobody where the set is empty.
+    #[inline(always)]
+    pub fn earliest(&self, set: Bits64) -> Entrant
+        ensures some { (g : ℕ) → g < 64 → has set g ≡ true → IsEarliest self.now (has set) result }
+        ensures none { ((g : ℕ) → has set g ≡ false) → result ≡ vacant }
+    {
+        let Some(start) = set.least() else {
+            return vacant();
+        };
+        let mut best = start;
+        let mut stamp = self.firsts[start].stamp;
+        let mut left = set.without(start);
+        'groups: while let Some(group) = left.least() {
+            let other = self.firsts[group].stamp;
+            if other < stamp {
+                best = group;
+                stamp = other;
+            }
+            left = left.without(group);
+        }
+        self.firsts[best]
     }
 }
 

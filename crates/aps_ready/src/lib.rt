@@ -8,6 +8,7 @@ mod contest;
 mod entrant;
 mod gates;
 mod index;
+mod leaders;
 mod look;
 mod ready;
 mod seat;

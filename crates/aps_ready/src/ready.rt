@@ -42,7 +42,7 @@ pub struct Ready {
     /// nobody, or who was put in last
     aside: Entrant,
     brackets: Vec<Bracket>,
-    /// the level of the first of each bracket
+    /// the first of each bracket, and the groups by its level
     index: Index,
 }
 
@@ -253,7 +253,7 @@ impl Ready {
         ensures inside { result.group < 64 → result.thread < length self.now }
         ensures present { result.group < 64 → slice_index_or self.now result.thread None ≢ None }
     {
-        let found = look(&self.brackets, &self.index, gates, parts, free);
+        let found = look(&self.index, gates, parts, free);
         if wins(gates, parts, free, &self.aside, &found) {
             self.aside
         } else {
@@ -269,7 +269,7 @@ impl Ready {
         ensures inside { result.group < 64 → result.thread < length self.now }
         ensures present { result.group < 64 → slice_index_or self.now result.thread None ≢ None }
     {
-        let found = near(&self.brackets, &self.index, parts);
+        let found = near(&self.index, parts);
         if found.group >= 64 {
             return found;
         }

@@ -46,7 +46,7 @@ pub fn leave(brackets: &mut Vec<Bracket>, index: &mut Index, aside: &mut Entrant
     }
 }
 
-/// Somebody comes to its place in the bracket of this group, and the group to the level of its first.
+/// Somebody comes to its place in the bracket of this group, and the index is told who is its first.
 #[inline(always)]
 fn come(brackets: &mut Vec<Bracket>, index: &mut Index, group: usize, one: Entrant)
     requires count { length brackets.old.items ≡ 64 }
@@ -59,10 +59,10 @@ fn come(brackets: &mut Vec<Bracket>, index: &mut Index, group: usize, one: Entra
     ensures topped { AreTopped brackets.new.items index.new }
 {
     brackets[group].fill(one);
-    index.set(group, brackets[group].first().level);
+    index.set(group, brackets[group].first());
 }
 
-/// Whoever is at a place in the bracket of this group goes, and the group to the level of its first.
+/// Whoever is at a place in the bracket of this group goes, and the index is told who is its first.
 #[inline(always)]
 fn go(brackets: &mut Vec<Bracket>, index: &mut Index, group: usize, x: usize)
     requires count { length brackets.old.items ≡ 64 }
@@ -73,5 +73,5 @@ fn go(brackets: &mut Vec<Bracket>, index: &mut Index, group: usize, x: usize)
     ensures topped { AreTopped brackets.new.items index.new }
 {
     brackets[group].clear(x);
-    index.set(group, brackets[group].first().level);
+    index.set(group, brackets[group].first());
 }

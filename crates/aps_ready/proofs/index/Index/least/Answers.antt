@@ -2,13 +2,14 @@ use Rattle.std.proofs.Common.{rules, get_or, ◌≡◌, ℕ, ◌<◌, ◌≤◌,
 use Rattle.std.proofs.lemmas.List.{get_or_read}
 use Rattle.aps_levels.specs.declared.bits.Bits64.{Bits64}
 use Rattle.aps_levels.specs.Bits.{has}
+use Rattle.aps_ready.specs.declared.entrant.Entrant.{Entrant}
 use Rattle.aps_ready.specs.Index.{bits_at, no_bits, level_of, AreLeast}
 use Rattle.aps_ready.proofs.IndexLaws.{all_done, more_done, are_least, none_below}
 use Rattle.aps_ready.proofs.index.Index.least.Goals as goal
 
 pub loop-from-preserved-in-None : goal.loop-from-preserved-in-None
 loop-from-preserved-in-None c =
-    all_done c.self.inside.tops.items c.self.inside.at_level.items c.self.inside.levels c.loop-from.left c.self.inside.occupied c.args.set c.loop-from.from
+    all_done c.self.inside.firsts.items c.self.inside.at_level.items c.self.inside.levels c.loop-from.left c.self.inside.occupied c.args.set c.loop-from.from
     c.self.invariant c.loop-from.invariant c.in-None.ensures.none
 
 -- what both sets have, by the clauses of the calls
@@ -21,8 +22,8 @@ pub returns-then-not-is_empty-clause-some : goal.returns-then-not-is_empty-claus
 returns-then-not-is_empty-clause-some c =
     let some = c.if-not-is_empty.ensures.some (search rules) in
     let level = c.in-Some.ensures.some in
-    subst (λ (tops : List ℕ). AreLeast tops (has c.args.set) (has c.meet-found.result)) c.self.view_is
-    (are_least c.self.inside.tops.items c.self.inside.at_level.items c.self.inside.levels c.loop-from.left c.self.inside.occupied c.args.set c.meet-found.result c.loop-from.from c.in-Some.level some.0
+    subst (λ (firsts : List Entrant). AreLeast firsts (has c.args.set) (has c.meet-found.result)) c.self.view_is
+    (are_least c.self.inside.firsts.items c.self.inside.at_level.items c.self.inside.levels c.loop-from.left c.self.inside.occupied c.args.set c.meet-found.result c.loop-from.from c.in-Some.level some.0
     c.self.invariant c.loop-from.invariant level.below level.earlier
     (met c.self.inside.at_level.items c.index.result.now c.meet-found.result c.args.set c.in-Some.level c.self.invariant.each level.below c.index.ensures c.meet-found.ensures)
     some.1 some.2)
@@ -31,12 +32,12 @@ pub loop-from-preserved : goal.loop-from-preserved
 loop-from-preserved c =
     let level = c.in-Some.ensures.some in
     let meets = met c.self.inside.at_level.items c.index.result.now c.meet-found.result c.args.set c.in-Some.level c.self.invariant.each level.below c.index.ensures c.meet-found.ensures in
-    more_done c.self.inside.tops.items c.self.inside.at_level.items c.self.inside.levels c.loop-from.left c.without-left.result c.self.inside.occupied c.args.set c.loop-from.from c.in-Some.level
+    more_done c.self.inside.firsts.items c.self.inside.at_level.items c.self.inside.levels c.loop-from.left c.without-left.result c.self.inside.occupied c.args.set c.loop-from.from c.in-Some.level
     c.self.invariant c.loop-from.invariant level.below level.here level.earlier
     (λ g. sym (meets g) ∙ c.if-not-is_empty.ensures.empty (search rules) g)
     c.without-left.ensures
 
 pub returns-clause-none : goal.returns-clause-none
 returns-clause-none c =
-    subst (λ (tops : List ℕ). (g : ℕ) → g < 64 → has c.args.set g ≡ true → 256 ≤ level_of tops g) c.self.view_is
-    (none_below c.self.inside.tops.items c.self.inside.at_level.items c.self.inside.levels c.loop-from.left c.self.inside.occupied c.args.set c.loop-from.from c.self.invariant c.loop-from.invariant c.loop-from-test.false)
+    subst (λ (firsts : List Entrant). (g : ℕ) → g < 64 → has c.args.set g ≡ true → 256 ≤ level_of firsts g) c.self.view_is
+    (none_below c.self.inside.firsts.items c.self.inside.at_level.items c.self.inside.levels c.loop-from.left c.self.inside.occupied c.args.set c.loop-from.from c.self.invariant c.loop-from.invariant c.loop-from-test.false)

@@ -1,10 +1,11 @@
 use Rattle.std.proofs.Common.{◌≡◌, ℕ, length, replicate, false}
 use Rattle.aps_levels.specs.Bits.{has}
+use Rattle.aps_ready.specs.Entrant.{vacant}
 use Rattle.aps_ready.specs.Index.{bits_at}
 use Rattle.aps_ready.proofs.index.Index.new.Given as goal
 
-abbrev pub invariant-tops : goal.invariant-tops
-invariant-tops l = l.tops.items ≡ replicate l.counter 256
+abbrev pub invariant-firsts : goal.invariant-firsts
+invariant-firsts l = l.firsts.items ≡ replicate l.counter vacant
 
 abbrev pub invariant-levels : goal.invariant-levels
 invariant-levels l = record {

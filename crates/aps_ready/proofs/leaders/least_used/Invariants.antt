@@ -1,0 +1,17 @@
+use Rattle.std.proofs.Common.{◌≡◌, ℕ, ◌<◌, true}
+use Rattle.aps_levels.specs.Bits.{has}
+use Rattle.aps_ready.specs.Best.{is_wanted}
+use Rattle.aps_ready.specs.Leaders.{AreLeaders}
+use Rattle.aps_ready.proofs.Fewer.{size}
+use Rattle.aps_ready.proofs.Leading.{seen_of}
+use Rattle.aps_ready.proofs.leaders.least_used.Given as goal
+
+-- the leaders of the groups whose partitions are no longer left
+abbrev pub invariant-partitions : goal.invariant-partitions
+invariant-partitions l = record {
+  below : (p : ℕ) → has l.left p ≡ true → p < 32;
+  are : AreLeaders l.parts (seen_of (is_wanted l.parts l.fn.wanted) (has l.left)) l.leaders;
+}
+
+abbrev pub decreases-partitions : goal.decreases-partitions
+decreases-partitions l = size (has l.left) 64
