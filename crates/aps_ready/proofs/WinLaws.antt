@@ -1,6 +1,6 @@
 use Rattle.std.proofs.Common.{◌≡◌, ◌≢◌, ◌⊎◌, inl, inr, ℕ, ◌%◌, ◌<◌, ◌≤◌, Bool, true, false, cond, ◌&&◌, ◌||◌, not, nat_lt, List, length, map, get_or, set, Option, Some, None, refl, sym, ◌∙◌, ap, subst, arith}
 use Rattle.std.proofs.lemmas.Bool.Decides.{nat_tests}
-use Rattle.std.proofs.lemmas.List.{length-map, map-set}
+use Rattle.std.proofs.lemmas.List.{length-map}
 use Rattle.aps_model.specs.declared.shape.Free.{Free}
 use Rattle.aps_model.specs.declared.merit.PartFacts.{PartFacts}
 use Rattle.aps_model.specs.declared.merit.Contender.{Contender}
@@ -255,15 +255,6 @@ pub found_few : (free : Free) (parts : List PartFacts) (row : List Entrant) (asi
 found_few free parts row aside best seats look g =
     thread_small (rest_of row aside) best (omega (arith, look.few, rest_length row aside)) (queued_rest row aside look.own look.queued) (look.rest.sits g) g
 
--- the one who stands aside is out: who was found is the greatest of those left
-pub left_is : (free : Free) (parts : List PartFacts) (row : List Entrant) (aside best : Entrant) (seats : List (Option Contender))
-    → IsLook free parts row aside best seats → aside.group < 64 → seat_of best ≡ greatest free parts (members (set seats aside.thread None))
-left_is free parts row aside best seats look g =
-    winner_is free parts (rest_of row aside) best (queued_rest row aside look.own look.queued) look.rest
-    ∙ ap (λ (l : List (Option Contender)). greatest free parts (members l))
-    (ap (map seat_of) (rest_some row aside g) ∙ map-set seat_of row aside.thread vacant
-    ∙ ap (λ (l : List (Option Contender)). set l aside.thread None) look.view)
-
 -- ---- who is the greatest of all, and where
 
 pub record IsGreatestOf (free : Free) (parts : List PartFacts) (seats : List (Option Contender)) (e : Entrant) : Type 0 where
@@ -291,7 +282,3 @@ pub found_greatest : (free : Free) (parts : List PartFacts) (row : List Entrant)
     → IsLook free parts row aside best seats → wins free parts aside best ≡ false → IsGreatestOf free parts seats best
 found_greatest free parts row aside best seats look lost =
     greatest_by free parts row best seats look.few look.queued look.view (rest_wins free parts row aside best look.own look.rest lost)
-
-pub winner_there : (free : Free) (parts : List PartFacts) (aside best : Entrant) → wins free parts aside best ≡ true → aside.group < 64
-winner_there free parts aside best won =
-    open_group parts aside (both (is_candidate_at parts aside) (not (nat_lt best.group 64) || is_above free parts aside best) won).0
