@@ -60,6 +60,20 @@ impl Bits64 {
         }
     }
 
+    /// The set without its least number.
+    #[inline(always)]
+    pub fn without_least(self) -> Bits64
+        ensures { (i : ℕ) → IsLeast 64 (has self) i → (k : ℕ) → has result k ≡ (not (nat_eq k i) && has self k) }
+    {
+        if self.word == 0 {
+            self
+        } else {
+            Bits64 {
+                word: self.word & (self.word - 1),
+            }
+        }
+    }
+
     /// The set with this number where `is_in` says so, and else without it.
     #[inline(always)]
     pub fn put(self, i: usize, is_in: bool) -> Bits64

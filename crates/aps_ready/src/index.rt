@@ -117,14 +117,14 @@ impl Index {
         };
         let mut best = start;
         let mut stamp = self.firsts[start].stamp;
-        let mut left = set.without(start);
+        let mut left = set.without_least();
         'groups: while let Some(group) = left.least() {
             let other = self.firsts[group].stamp;
             if other < stamp {
                 best = group;
                 stamp = other;
             }
-            left = left.without(group);
+            left = left.without_least();
         }
         self.firsts[best]
     }

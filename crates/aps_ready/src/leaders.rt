@@ -38,7 +38,7 @@ pub fn least_used(parts: &[PartFacts], wanted: Wanted) -> Leaders
     let mut left = partitions_of(wanted.groups);
     'partitions: while let Some(p) = left.least() {
         leaders = with_partition(leaders, parts, wanted, p);
-        left = left.without(p);
+        left = left.without_least();
     }
     leaders
 }

@@ -28,18 +28,18 @@ partitions-preserved c =
     let parts = c.args.parts.now in
     let wanted = is_wanted parts c.args.wanted in
     let left = has c.partitions.left in
-    let after = has c.without-left.result in
+    let after = has c.without_least-left.result in
     let p = c.in-Some.p in
     record {
-      below = λ k h. c.partitions.invariant.below k (was_in left after p k c.without-left.ensures h);
+      below = λ k h. c.partitions.invariant.below k (was_in left after p k (c.without_least-left.ensures p c.in-Some.ensures.some) h);
       are = leaders_same parts (λ (g : ℕ). seen_of wanted left g || (wanted g && nat_eq (g % 32) p)) (seen_of wanted after) c.with_partition-leaders.result
-          (λ g _. one_more wanted left after p c.without-left.ensures g)
+          (λ g _. one_more wanted left after p (c.without_least-left.ensures p c.in-Some.ensures.some) g)
           (c.with_partition-leaders.ensures (seen_of wanted left) c.partitions.invariant.are);
     }
 
 pub partitions-smaller : goal.partitions-smaller
 partitions-smaller c =
-    fewer (has c.partitions.left) (has c.without-left.result) c.in-Some.p 64 c.without-left.ensures c.in-Some.ensures.some.here c.in-Some.ensures.some.below
+    fewer (has c.partitions.left) (has c.without_least-left.result) c.in-Some.p 64 (c.without_least-left.ensures c.in-Some.p c.in-Some.ensures.some) c.in-Some.ensures.some.here c.in-Some.ensures.some.below
 
 pub returns : goal.returns
 returns c =

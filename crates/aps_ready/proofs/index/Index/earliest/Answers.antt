@@ -5,14 +5,24 @@ use Rattle.aps_ready.specs.declared.entrant.Entrant.{Entrant}
 use Rattle.aps_ready.specs.Entrant.{vacant}
 use Rattle.aps_ready.specs.Leaders.{IsEarliest}
 use Rattle.aps_ready.proofs.Fewer.{fewer}
-use Rattle.aps_ready.proofs.Earliest.{best_of_more, all_seen}
+use Rattle.aps_ready.proofs.Earliest.{best_of_one, best_of_more, all_seen}
 use Rattle.aps_ready.proofs.index.Index.earliest.Goals.{then-other-stamp, else-other-stamp}
 use Rattle.aps_ready.proofs.index.Index.earliest.Goals as goal
+
+pub groups-init : goal.groups-init
+groups-init c =
+    let firsts = c.self.inside.firsts.items in
+    let start = c.in-Some.start in
+    let least = c.in-Some.ensures.some in
+    let inside : start < length firsts = omega (arith, c.self.invariant.groups, least.below) in
+    best_of_one firsts (has c.args.set) (has c.without_least-left.result) start c.index.result.now.stamp least.below least.here
+    (ap (λ (e : Entrant). e.stamp) (get_or_read firsts start c.index.result.now inside c.index.ensures vacant))
+    (c.without_least-left.ensures start least)
 
 pub groups-smaller : goal.groups-smaller
 groups-smaller c =
     let least = c.in-Some-least.ensures.some in
-    fewer (has c.groups.left) (has c.without-left-in-Some-least.result) c.in-Some-least.group 64 c.without-left-in-Some-least.ensures least.here least.below
+    fewer (has c.groups.left) (has c.without_least-left-in-Some-least.result) c.in-Some-least.group 64 (c.without_least-left-in-Some-least.ensures c.in-Some-least.group least) least.here least.below
 
 pub groups-preserved : goal.groups-preserved
 groups-preserved c =
@@ -21,10 +31,10 @@ groups-preserved c =
     let least = c.in-Some-least.ensures.some in
     let first = c.index-in-Some-least.result.now in
     let inside : group < length firsts = omega (arith, c.self.invariant.groups, least.below) in
-    best_of_more firsts (has c.args.set) (has c.groups.left) (has c.without-left-in-Some-least.result) c.groups.best c.groups.stamp group first.stamp
+    best_of_more firsts (has c.args.set) (has c.groups.left) (has c.without_least-left-in-Some-least.result) c.groups.best c.groups.stamp group first.stamp
     c.if-other-stamp.best c.if-other-stamp.stamp c.groups.invariant least.below least.here
     (ap (λ (e : Entrant). e.stamp) (get_or_read firsts group first inside c.index-in-Some-least.ensures vacant))
-    c.without-left-in-Some-least.ensures
+    (c.without_least-left-in-Some-least.ensures group least)
     (elim c.if-other-stamp.branch [
       | then-other-stamp w ↦ inl (w.if-other-stamp.true, w.best-is, w.stamp-is)
       | else-other-stamp w ↦ inr (w.if-other-stamp.false, w.best-is, w.stamp-is)
