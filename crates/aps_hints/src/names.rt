@@ -10,7 +10,7 @@ use toml::{Table, Value};
 const MOST_NAMES: usize = 8;
 
 /// What a name may be the name of.
-#[derive(Clone, Copy, Debug, PartialEq, Eq)]
+#[derive(Clone, Copy)]
 pub enum Named {
     /// `System`, and the first so many of the partitions in the list.
     Partitions { first: usize },

@@ -12,7 +12,7 @@ use aps_scenario::{Kind, PathText, ScenarioRefusal, demands_of, scenario_of};
 use std::alloc::{AllocError, Global};
 
 /// What is wrong with a text, and where.
-#[derive(Clone, Copy, Debug, PartialEq, Eq)]
+#[derive(Clone, Copy)]
 pub struct Finding {
     pub kind: Kind,
     pub path: PathText,

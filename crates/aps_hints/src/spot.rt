@@ -11,7 +11,7 @@ pub enum Document {
 }
 
 /// A kind of table.
-#[derive(Clone, Copy, Debug, PartialEq, Eq)]
+#[derive(Clone, Copy)]
 pub enum Owner {
     Top,
     Partition,

@@ -1,6 +1,10 @@
 //! One run of live steps, for one thread.
-ghost use Rattle.std.specs.Prelude.{◌≡◌, ◌<◌, ◌≤◌, [], length, replicate, IfOk};
+ghost use Rattle.std.specs.Prelude.{◌≡◌, ◌<◌, ◌≤◌, [], length, replicate, vec_capacity, IfOk, OnOk};
+ghost use Rattle.aps_model.specs.Valid.{IsScenario};
+ghost use Rattle.aps_window.specs.StandsFor.{StandsFor};
+ghost use Rattle.aps_window.specs.Window.{opened};
 ghost use Rattle.aps_live.specs.LiveHistory.{NamesThread, entries_of, events_of, latest};
+ghost use Rattle.aps_live.specs.LiveState.{live_opening};
 ghost use Rattle.aps_live.specs.LiveRun.{IsLiveRun, IsLiveTurn, IsOwn, IsTaken, after_live_turn, with_step};
 
 use crate::append::{push_entry, push_event};
@@ -15,7 +19,6 @@ use std::alloc::Global;
 use std::marker::Model;
 
 /// A run under way. Contracts see its setup, which is the scenario and the limit, and its steps so far.
-#[derive(Drop)]
 pub struct LiveCore {
     scenario: Scenario,
     limit: u32,
@@ -26,6 +29,23 @@ pub struct LiveCore {
     parts: Vec<PartFacts>,
     entries: Vec<Entry>,
     events: Vec<LiveEvent>,
+}
+
+// Written out, so that it is proved here alone: a derived drop is proved again in each crate that lets a value go.
+impl Drop for LiveCore {
+    fn drop(self) {
+        let Self {
+            scenario: _,
+            limit: _,
+            machine: _,
+            window: _,
+            ends: _,
+            latest: _,
+            parts: _,
+            entries: _,
+            events: _,
+        } = self;
+    }
 }
 
 impl Model for LiveCore {
@@ -48,12 +68,9 @@ impl LiveCore {
         requires few { limit ≤ 4000000 }
         ensures { IfOk result (λ core. core ≡ record { setup = record { scenario = scenario; limit = limit }; steps = [] }) }
     {
-        let machine = LiveMachine::start(alloc, &scenario)?;
-        let window = Window::new(alloc, scenario.shape().window)?;
-        let ends = start_ends(alloc, scenario.shape().cpus)?;
-        let parts = start_parts(alloc, scenario.partitions().len())?;
-        let entries = Vec::with_capacity(alloc, limit as usize)?;
-        let events = Vec::with_capacity(alloc, limit as usize)?;
+        let (machine, window) = start_state(alloc, &scenario)?;
+        let (ends, parts) = start_rows(alloc, &scenario)?;
+        let (entries, events) = start_lists(alloc, limit)?;
         Ok(LiveCore {
             scenario,
             limit,
@@ -151,6 +168,38 @@ impl LiveCore {
         push_event(&mut self.events, event);
         taken
     }
+}
+
+/// The threads and processors at the start, and a window in which nothing is billed.
+fn start_state(alloc: Global, scenario: &Scenario) -> Result<(LiveMachine, Window), NoMemory>
+    ensures machine { IfOk result (λ r. r.0 ≡ live_opening scenario.now) }
+    ensures window { IfOk result (λ r. r.1 ≡ opened scenario.now.shape.window) }
+    ensures stands { IfOk result (λ r. StandsFor r.1 []) }
+    ensures valid { OnOk result (IsScenario scenario.now) }
+{
+    let machine = LiveMachine::start(alloc, scenario)?;
+    let window = Window::new(alloc, scenario.shape().window)?;
+    Ok((machine, window))
+}
+
+/// Each processor at 0, and room for how each partition stands at a pick.
+fn start_rows(alloc: Global, scenario: &Scenario) -> Result<(Vec<Nanos>, Vec<PartFacts>), NoMemory>
+    ensures ends { IfOk result (λ r. r.0.items ≡ replicate scenario.now.shape.cpus 0) }
+    ensures parts { IfOk result (λ r. length r.1.items ≡ length scenario.now.partitions) }
+{
+    let ends = start_ends(alloc, scenario.shape().cpus)?;
+    let parts = start_parts(alloc, scenario.partitions().len())?;
+    Ok((ends, parts))
+}
+
+/// Room for so many entries and events.
+fn start_lists(alloc: Global, limit: u32) -> Result<(Vec<Entry>, Vec<LiveEvent>), NoMemory>
+    ensures entries { IfOk result (λ r. (r.0.items ≡ []) × (limit ≤ vec_capacity r.0)) }
+    ensures events { IfOk result (λ r. (r.1.items ≡ []) × (limit ≤ vec_capacity r.1)) }
+{
+    let entries = Vec::with_capacity(alloc, limit as usize)?;
+    let events = Vec::with_capacity(alloc, limit as usize)?;
+    Ok((entries, events))
 }
 
 /// Each processor at 0.

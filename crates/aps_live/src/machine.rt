@@ -23,12 +23,23 @@ use std::marker::Model;
 
 /// The threads, the next stamp, and who runs on each processor. Contracts see it as the live state of the definitions, and
 /// each method is the part of the definitions' step that its clause names.
-#[derive(Drop)]
 pub struct LiveMachine {
     threads: Vec<LiveThread>,
     stamps: u64,
     cpus: Vec<Option<Pick>>,
     ready: Ready,
+}
+
+// Written out, so that it is proved here alone: a derived drop is proved again in each crate that lets a value go.
+impl Drop for LiveMachine {
+    fn drop(self) {
+        let Self {
+            threads: _,
+            stamps: _,
+            cpus: _,
+            ready: _,
+        } = self;
+    }
 }
 
 impl Model for LiveMachine {

@@ -2,7 +2,7 @@
 use aps_model::{Contender, CpuId};
 
 /// What a thread does.
-#[derive(Clone, Copy, Debug, PartialEq, Eq)]
+#[derive(Clone, Copy)]
 pub enum Doing {
     Waiting,
     Ready,
@@ -10,7 +10,7 @@ pub enum Doing {
 }
 
 /// A thread: its number, its own values and its stamp, by which it is compared where it is ready; and what it does.
-#[derive(Clone, Copy, Debug, PartialEq, Eq)]
+#[derive(Clone, Copy)]
 pub struct LiveThread {
     pub contender: Contender,
     pub doing: Doing,

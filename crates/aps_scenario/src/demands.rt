@@ -2,14 +2,14 @@
 ghost use Rattle.std.specs.Prelude.{◌≡◌, ◌≤◌, [], length};
 ghost use Rattle.toml.specs.View.{view, table_view, array_view};
 ghost use Rattle.aps_model.specs.declared.demand.Demand.{Demand};
+ghost use Rattle.aps_scenario.specs.Document.{or_told};
 ghost use Rattle.aps_scenario.specs.Refusal.{Gives, Tells};
 ghost use Rattle.aps_scenario.specs.Demands as spec;
 
 use crate::key::Key;
 use crate::kind::Kind;
 use crate::partitions::system_name;
-use crate::path::PathText;
-use crate::refusal::{Failure, Finding, Place, ScenarioRefusal};
+use crate::refusal::{Failure, Finding, Place, ScenarioRefusal, no_document};
 use crate::row::{integer_at, name_at, only, refuse_if, table_of, tables_at};
 use crate::sizes::{cpus_at, parts_of, tick_at, version_at, window_at};
 use aps_model::{Bankruptcy, Demand, Free, Name, Shape};
@@ -85,19 +85,19 @@ pub fn demands_of(alloc: Global, bytes: &[u8]) -> Result<Demands, ScenarioRefusa
     ensures { Tells result (spec.reads_demands bytes.now) }
 {
     match toml::table_from_slice(alloc, bytes) {
-        Ok(table) => match demands_at(alloc, &table) {
-            Ok(demands) => Ok(demands),
-            Err(Failure::NoMemory) => Err(ScenarioRefusal::NoMemory),
-            Err(Failure::Found(finding)) => Err(ScenarioRefusal::Refused {
-                kind: finding.kind,
-                path: PathText::of_part(finding.part),
-            }),
-        },
-        Err(error) if error.is_memory() => Err(ScenarioRefusal::NoMemory),
-        Err(_) => Err(ScenarioRefusal::Refused {
-            kind: Kind::NotToml,
-            path: PathText::whole(),
-        }),
+        Ok(table) => demands_in(alloc, &table),
+        Err(error) => Err(no_document(&error)),
+    }
+}
+
+/// The demands that a document's top table states, or why it states none, as it is told.
+fn demands_in(alloc: Global, table: &Table) -> Result<Demands, ScenarioRefusal>
+    ensures { Tells result (or_told (spec.demands_at (table_view table.now))) }
+{
+    match demands_at(alloc, table) {
+        Ok(demands) => Ok(demands),
+        Err(Failure::NoMemory) => Err(ScenarioRefusal::NoMemory),
+        Err(Failure::Found(finding)) => Err(finding.told()),
     }
 }
 

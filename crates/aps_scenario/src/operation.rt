@@ -7,7 +7,7 @@ use crate::channels::is_among;
 use aps_model::{ChannelId, Name, Op};
 
 /// Why a text is no operation.
-#[derive(Clone, Copy, Debug, PartialEq, Eq)]
+#[derive(Clone, Copy)]
 pub enum OperationFault {
     /// It names what isn't known.
     Unknown,

@@ -164,7 +164,7 @@ impl PathText {
 const MOST_KEY_BYTES: usize = 32;
 
 /// A key that the format doesn't have, as it is told: itself where it can be printed, else `?`.
-#[derive(Clone, Copy, Debug, PartialEq, Eq)]
+#[derive(Clone, Copy)]
 pub struct KeyText {
     bytes: [u8; MOST_KEY_BYTES],
     len: u8,

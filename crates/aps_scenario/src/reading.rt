@@ -1,6 +1,7 @@
 //! The scenario that a text is.
 ghost use Rattle.std.specs.Prelude.{◌≡◌};
 ghost use Rattle.toml.specs.View.{table_view};
+ghost use Rattle.aps_scenario.specs.Document.{or_told};
 ghost use Rattle.aps_scenario.specs.Refusal.{Gives, Tells};
 ghost use Rattle.aps_scenario.specs.Reading as spec;
 
@@ -8,10 +9,8 @@ use crate::channels::channels_at;
 use crate::commands::commands_at;
 use crate::joinable::joinable_at;
 use crate::key::Key;
-use crate::kind::Kind;
 use crate::partitions::partitions_at;
-use crate::path::PathText;
-use crate::refusal::{Failure, Place, ScenarioRefusal};
+use crate::refusal::{Failure, Place, ScenarioRefusal, no_document};
 use crate::row::only;
 use crate::sizes::shape_at;
 use crate::threads::threads_at;
@@ -58,18 +57,18 @@ pub fn scenario_of(alloc: Global, bytes: &[u8]) -> Result<Scenario, ScenarioRefu
     ensures { Tells result (spec.reads bytes.now) }
 {
     match toml::table_from_slice(alloc, bytes) {
-        Ok(table) => match scenario_at(alloc, &table) {
-            Ok(scenario) => Ok(scenario),
-            Err(Failure::NoMemory) => Err(ScenarioRefusal::NoMemory),
-            Err(Failure::Found(finding)) => Err(ScenarioRefusal::Refused {
-                kind: finding.kind,
-                path: PathText::of_part(finding.part),
-            }),
-        },
-        Err(error) if error.is_memory() => Err(ScenarioRefusal::NoMemory),
-        Err(_) => Err(ScenarioRefusal::Refused {
-            kind: Kind::NotToml,
-            path: PathText::whole(),
-        }),
+        Ok(table) => scenario_in(alloc, &table),
+        Err(error) => Err(no_document(&error)),
+    }
+}
+
+/// The scenario that a document's top table is, or why it is none, as it is told.
+fn scenario_in(alloc: Global, table: &Table) -> Result<Scenario, ScenarioRefusal>
+    ensures { Tells result (or_told (spec.scenario_at (table_view table.now))) }
+{
+    match scenario_at(alloc, table) {
+        Ok(scenario) => Ok(scenario),
+        Err(Failure::NoMemory) => Err(ScenarioRefusal::NoMemory),
+        Err(Failure::Found(finding)) => Err(finding.told()),
     }
 }

@@ -1,12 +1,17 @@
 //! Why a text gives no scenario, and where.
-ghost use Rattle.std.specs.Prelude.{◌≡◌};
+ghost use Rattle.std.specs.Prelude.{◌≡◌, ◌⊎◌};
+ghost use Rattle.toml.specs.Errors.{IsMemory};
+ghost use Rattle.aps_scenario.specs.declared.kind.Kind.TheVariants.{NotToml};
 ghost use Rattle.aps_scenario.specs.declared.refusal.Failure.TheVariants as failure;
+ghost use Rattle.aps_scenario.specs.declared.refusal.ScenarioRefusal.TheVariants as refusal;
+ghost use Rattle.aps_scenario.specs.Path.{path_text, whole_text};
 
 use crate::key::Key;
 use crate::kind::Kind;
 use crate::path::{KeyText, PathText};
 use std::alloc::{AllocError, AllocFailed};
 use thiserror::Error;
+use toml::de;
 
 /// Why a text gives no scenario.
 #[derive(Clone, Copy, Debug, PartialEq, Eq, Error)]
@@ -21,7 +26,7 @@ pub enum ScenarioRefusal {
 }
 
 /// A table: the top one, or an element of an array by its index.
-#[derive(Clone, Copy, Debug, PartialEq, Eq)]
+#[derive(Clone, Copy, PartialEq, Eq)]
 pub enum Place {
     Top,
     Partition(u16),
@@ -32,7 +37,7 @@ pub enum Place {
 }
 
 /// The part of a text that is refused.
-#[derive(Clone, Copy, Debug, PartialEq, Eq)]
+#[derive(Clone, Copy)]
 pub enum Part {
     /// A whole table.
     Table(Place),
@@ -45,14 +50,40 @@ pub enum Part {
 }
 
 /// The first part of a text that breaks a rule of the format, and how.
-#[derive(Clone, Copy, Debug, PartialEq, Eq)]
+#[derive(Clone, Copy)]
 pub struct Finding {
     pub kind: Kind,
     pub part: Part,
 }
 
+impl Finding {
+    /// The finding as it is told.
+    pub fn told(self) -> ScenarioRefusal
+        ensures { result ≡ refusal.Refused self.kind (path_text self.part) }
+    {
+        ScenarioRefusal::Refused {
+            kind: self.kind,
+            path: PathText::of_part(self.part),
+        }
+    }
+}
+
+/// What is told of bytes that were read as no document.
+pub fn no_document(error: &de::Error) -> ScenarioRefusal
+    ensures { (result ≡ refusal.NoMemory) ⊎ ((¬ IsMemory error.now) × (result ≡ refusal.Refused NotToml whole_text)) }
+{
+    if error.is_memory() {
+        ScenarioRefusal::NoMemory
+    } else {
+        ScenarioRefusal::Refused {
+            kind: Kind::NotToml,
+            path: PathText::whole(),
+        }
+    }
+}
+
 /// Why reading stops.
-#[derive(Clone, Copy, Debug, PartialEq, Eq)]
+#[derive(Clone, Copy)]
 pub enum Failure {
     Found(Finding),
     NoMemory,

@@ -18,7 +18,7 @@ use aps_model::{Bankruptcy, Free, Policy};
 use toml::{Table, Value};
 
 /// What a command is, by its `do`.
-#[derive(Clone, Copy, Debug, PartialEq, Eq)]
+#[derive(Clone, Copy)]
 pub enum CommandKind {
     Create,
     Modify,

@@ -1,6 +1,6 @@
 -- The line that separates a scenario from its journal, where both stand in one text.
 use lib.Chars.{codes}
-use Rattle.std.specs.Prelude.{ℕ, ◌+◌, ◌-◌, ◌==◌, Bool, ◌&&◌, ◌||◌, List, drop, length, slice_index, nat_eq, Option}
+use Rattle.std.specs.Prelude.{ℕ, ◌+◌, ◌-◌, Bool, ◌&&◌, ◌||◌, List, drop, length, slice_index, nat_eq, Option}
 use Rattle.std.specs.List.{find, range_with_len, starts_with}
 use Rattle.std.specs.Option.{option_map}
 use Rattle.aps_text.specs.declared.separator.JournalAt.{JournalAt}

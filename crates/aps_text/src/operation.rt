@@ -1,7 +1,8 @@
 //! What an operation did. Its words are read byte by byte, and part where they differ.
 ghost use Rattle.std.specs.Prelude.{◌≡◌};
-ghost use Rattle.aps_text.specs.Reader.{Gives};
-ghost use Rattle.aps_text.specs.Operation.{critical_at, join_at, send_at, receive_at, repeat_at, run_at, done_at};
+ghost use Rattle.aps_model.specs.declared.entry.Done.TheVariants.{ReceiveGot};
+ghost use Rattle.aps_text.specs.Reader.{Gives, whole_word};
+ghost use Rattle.aps_text.specs.Operation.{named_at, critical_at, join_at, send_at, holding_at, receive_at, repeat_at, run_at, later_at, done_at};
 
 use crate::fields::{Reading, thread, word};
 use aps_model::{Done, ThreadId};
@@ -11,16 +12,32 @@ pub fn done(bytes: &[u8]) -> Reading<Done>
     ensures { Gives (λ x. (x.0, x.1.now)) result (done_at bytes.now) }
 {
     match bytes {
-        [b'-', rest @ ..] => Ok((Done::Nothing, word(rest, b" ")?)),
+        [b'-', rest @ ..] => constant(rest, b" ", Done::Nothing),
         [b'c', rest @ ..] => critical(rest),
-        [b'e', rest @ ..] => Ok((Done::Exit, word(rest, b"xit ")?)),
+        [b'e', rest @ ..] => constant(rest, b"xit ", Done::Exit),
         [b'j', rest @ ..] => join(rest),
-        [b'p', rest @ ..] => Ok((Done::Priority, word(rest, b"riority ")?)),
+        _ => later(bytes),
+    }
+}
+
+// One of those whose words begin with a byte from `p` on.
+fn later(bytes: &[u8]) -> Reading<Done>
+    ensures { Gives (λ x. (x.0, x.1.now)) result (later_at bytes.now) }
+{
+    match bytes {
+        [b'p', rest @ ..] => constant(rest, b"riority ", Done::Priority),
         [b'r', rest @ ..] => run(rest),
         [b's', rest @ ..] => send(rest),
-        [b'y', rest @ ..] => Ok((Done::Yield, word(rest, b"ield ")?)),
+        [b'y', rest @ ..] => constant(rest, b"ield ", Done::Yield),
         _ => Err(bytes),
     }
+}
+
+// This, where the bytes go on with the rest of its word.
+fn constant<'a>(bytes: &'a [u8], rest_of_word: &[u8], done: Done) -> Reading<'a, Done>
+    ensures { Gives (λ x. (x.0, x.1.now)) result (whole_word rest_of_word.now done bytes.now) }
+{
+    Ok((done, word(bytes, rest_of_word)?))
 }
 
 // Behind `c`.
@@ -29,9 +46,9 @@ fn critical(bytes: &[u8]) -> Reading<Done>
 {
     let rest = word(bytes, b"ritical:o")?;
     if let [b'n', rest @ ..] = rest {
-        return Ok((Done::CriticalOn, word(rest, b" ")?));
+        return constant(rest, b" ", Done::CriticalOn);
     }
-    Ok((Done::CriticalOff, word(rest, b"ff ")?))
+    constant(rest, b"ff ", Done::CriticalOff)
 }
 
 // Behind `j`.
@@ -40,9 +57,9 @@ fn join(bytes: &[u8]) -> Reading<Done>
 {
     let rest = word(bytes, b"oin")?;
     if let [b':', rest @ ..] = rest {
-        return Ok((Done::JoinNone, word(rest, b"none ")?));
+        return constant(rest, b"none ", Done::JoinNone);
     }
-    Ok((Done::Join, word(rest, b" ")?))
+    constant(rest, b" ", Done::Join)
 }
 
 // Behind `s`.
@@ -51,7 +68,7 @@ fn send(bytes: &[u8]) -> Reading<Done>
 {
     let rest = word(bytes, b"end:")?;
     if let [b'b', rest @ ..] = rest {
-        return Ok((Done::SendBlocked, word(rest, b"locked ")?));
+        return constant(rest, b"locked ", Done::SendBlocked);
     }
     let (server, rest) = thread(rest)?;
     Ok((Done::SendTo(ThreadId::at(server as usize)), rest))
@@ -62,7 +79,7 @@ fn run(bytes: &[u8]) -> Reading<Done>
     ensures { Gives (λ x. (x.0, x.1.now)) result (run_at bytes.now) }
 {
     if let [b'u', rest @ ..] = bytes {
-        return Ok((Done::Run, word(rest, b"n ")?));
+        return constant(rest, b"n ", Done::Run);
     }
     let rest = word(bytes, b"e")?;
     if let [b'c', rest @ ..] = rest {
@@ -77,16 +94,26 @@ fn receive(bytes: &[u8]) -> Reading<Done>
 {
     let rest = word(bytes, b"eive:")?;
     match rest {
-        [b'b', rest @ ..] => Ok((Done::ReceiveBlocked, word(rest, b"locked ")?)),
-        [b'h', rest @ ..] => {
-            let (client, rest) = thread(word(rest, b"olding:")?)?;
-            Ok((Done::ReceiveHolding(ThreadId::at(client as usize)), rest))
-        }
-        _ => {
-            let (client, rest) = thread(rest)?;
-            Ok((Done::ReceiveGot(ThreadId::at(client as usize)), rest))
-        }
+        [b'b', rest @ ..] => constant(rest, b"locked ", Done::ReceiveBlocked),
+        [b'h', rest @ ..] => holding(rest),
+        _ => got(rest),
     }
+}
+
+// Behind `receive:h`.
+fn holding(bytes: &[u8]) -> Reading<Done>
+    ensures { Gives (λ x. (x.0, x.1.now)) result (holding_at bytes.now) }
+{
+    let (client, rest) = thread(word(bytes, b"olding:")?)?;
+    Ok((Done::ReceiveHolding(ThreadId::at(client as usize)), rest))
+}
+
+// Behind `receive:`, where a thread's number follows.
+fn got(bytes: &[u8]) -> Reading<Done>
+    ensures { Gives (λ x. (x.0, x.1.now)) result (named_at ReceiveGot bytes.now) }
+{
+    let (client, rest) = thread(bytes)?;
+    Ok((Done::ReceiveGot(ThreadId::at(client as usize)), rest))
 }
 
 // Behind `rep`: `reply` or `repeat`.
@@ -94,11 +121,11 @@ fn repeat(bytes: &[u8]) -> Reading<Done>
     ensures { Gives (λ x. (x.0, x.1.now)) result (repeat_at bytes.now) }
 {
     let [b'l', rest @ ..] = bytes else {
-        return Ok((Done::Repeat, word(bytes, b"eat ")?));
+        return constant(bytes, b"eat ", Done::Repeat);
     };
     let rest = word(rest, b"y:")?;
     if let [b'n', rest @ ..] = rest {
-        return Ok((Done::ReplyNoClient, word(rest, b"one ")?));
+        return constant(rest, b"one ", Done::ReplyNoClient);
     }
     let (client, rest) = thread(rest)?;
     Ok((Done::ReplyFreed(ThreadId::at(client as usize)), rest))

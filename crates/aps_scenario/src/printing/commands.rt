@@ -1,6 +1,7 @@
 //! The timed commands as an array of tables.
 ghost use Rattle.std.specs.Prelude.{◌≡◌, ◌<◌, ◌≤◌, ℕ, [], length, IfOk, OnOk, All, IfSome};
-ghost use Rattle.toml.specs.Data.{Data, string, boolean};
+ghost use Rattle.toml.specs.Data as values;
+ghost use Rattle.toml.specs.Data.{Data, string, boolean, no_members};
 ghost use Rattle.toml.specs.View.{view, table_view};
 ghost use Rattle.aps_model.specs.declared.command.Call.TheVariants as call;
 ghost use Rattle.aps_model.specs.declared.shape.Free.{Free as FreeType};
@@ -203,14 +204,28 @@ fn put_call(
     }
 }
 
+/// Puts the keys of a command into an empty table.
+fn put_command(
+    alloc: Global,
+    table: &mut Table,
+    threads: &[ThreadRow],
+    row: &CommandRow,
+) -> Result<(), NoMemory>
+    requires row { (parts : ℕ) × (ticks : ℕ) × IsCommand parts ticks (length threads.now) row.now }
+    requires empty { table_view table.old ≡ no_members }
+    ensures { OnOk result (values.table (table_view table.new) ≡ command_table threads.now row.now) }
+{
+    put_number(alloc, table, Key::Tick, u64::from(row.tick))?;
+    put_text(alloc, table, Key::Do, call_word(&row.call))?;
+    put_call(alloc, table, threads, &row.call)
+}
+
 fn command_value(alloc: Global, threads: &[ThreadRow], row: &CommandRow) -> Result<Value, NoMemory>
     requires { (parts : ℕ) × (ticks : ℕ) × IsCommand parts ticks (length threads.now) row.now }
     ensures { IfOk result (λ value. view value ≡ command_table threads.now row.now) }
 {
     let mut table = Table::new(alloc);
-    put_number(alloc, &mut table, Key::Tick, u64::from(row.tick))?;
-    put_text(alloc, &mut table, Key::Do, call_word(&row.call))?;
-    put_call(alloc, &mut table, threads, &row.call)?;
+    put_command(alloc, &mut table, threads, row)?;
     Ok(Value::Table(table))
 }
 

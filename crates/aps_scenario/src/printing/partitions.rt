@@ -1,6 +1,8 @@
 //! The partitions as an array of tables.
-ghost use Rattle.std.specs.Prelude.{◌≡◌, ◌<◌, ◌≤◌, length, IfOk, All};
-ghost use Rattle.toml.specs.View.{view};
+ghost use Rattle.std.specs.Prelude.{◌≡◌, ◌<◌, ◌≤◌, length, IfOk, OnOk, All};
+ghost use Rattle.toml.specs.Data as values;
+ghost use Rattle.toml.specs.Data.{no_members};
+ghost use Rattle.toml.specs.View.{view, table_view};
 ghost use Rattle.aps_model.specs.declared.partition.PartitionRow.{PartitionRow as Row};
 ghost use Rattle.aps_scenario.specs.PrintedTree as tree;
 ghost use Rattle.aps_scenario.specs.PrintedPartitions.{partition_table, partition_array};
@@ -31,6 +33,26 @@ fn listed_rows(alloc: Global, scenario: &Scenario) -> Result<Vec<PartitionRow>, 
     Ok(listed)
 }
 
+/// Puts the keys of a partition into an empty table.
+fn put_partition(
+    alloc: Global,
+    table: &mut Table,
+    rows: &[PartitionRow],
+    row: &PartitionRow,
+) -> Result<(), NoMemory>
+    requires parent { row.now.parent < length rows.now }
+    requires critical { row.now.critical ≤ 64000000000 }
+    requires empty { table_view table.old ≡ no_members }
+    ensures { OnOk result (values.table (table_view table.new) ≡ partition_table rows.now row.now) }
+{
+    let parent = text_of(&rows[row.parent.index()].name);
+    put_text(alloc, table, Key::Name, text_of(&row.name))?;
+    put_text(alloc, table, Key::Parent, parent)?;
+    put_number(alloc, table, Key::Budget, u64::from(row.budget))?;
+    put_number(alloc, table, Key::Critical, row.critical)?;
+    put_number(alloc, table, Key::Max, u64::from(row.max))
+}
+
 fn partition_value(
     alloc: Global,
     rows: &[PartitionRow],
@@ -41,12 +63,7 @@ fn partition_value(
     ensures { IfOk result (λ value. view value ≡ partition_table rows.now row.now) }
 {
     let mut table = Table::new(alloc);
-    let parent = text_of(&rows[row.parent.index()].name);
-    put_text(alloc, &mut table, Key::Name, text_of(&row.name))?;
-    put_text(alloc, &mut table, Key::Parent, parent)?;
-    put_number(alloc, &mut table, Key::Budget, u64::from(row.budget))?;
-    put_number(alloc, &mut table, Key::Critical, row.critical)?;
-    put_number(alloc, &mut table, Key::Max, u64::from(row.max))?;
+    put_partition(alloc, &mut table, rows, row)?;
     Ok(Value::Table(table))
 }
 

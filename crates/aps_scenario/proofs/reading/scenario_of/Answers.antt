@@ -1,17 +1,14 @@
-use Rattle.std.proofs.Common.{ap}
-use Rattle.aps_scenario.specs.Document.{or_told}
+use Rattle.std.proofs.Common.{inl, inr}
 use Rattle.aps_scenario.specs.Reading.{scenario_at}
-use Rattle.aps_scenario.proofs.Documents.{reads-document, reads-no_document, not_so}
+use Rattle.aps_scenario.proofs.Documents.{reads-document, reads-no_document}
 use Rattle.aps_scenario.proofs.reading.scenario_of.Goals as goal
 
-pub returns-in-Ok-scenario_at : goal.returns-in-Ok-scenario_at
-returns-in-Ok-scenario_at c = rw (reads-document scenario_at c.args.bytes.now _ c.in-Ok.ensures.ok.0 c.in-Ok.ensures.ok.1) (ap or_told c.in-Ok-scenario_at.ensures)
-
 pub returns-in-Ok : goal.returns-in-Ok
-returns-in-Ok c =
-    rw (reads-document scenario_at c.args.bytes.now _ c.in-Ok.ensures.ok.0 c.in-Ok.ensures.ok.1, c.of_part.ensures)
-    (ap or_told (rw c.in-Err-Found.field-0-is at c.in-Err-Found.ensures))
+returns-in-Ok c = rw (reads-document scenario_at c.args.bytes.now _ c.in-Ok.ensures.ok.0 c.in-Ok.ensures.ok.1) c.scenario_in.ensures
 
-pub returns : goal.returns
-returns c =
-    rw c.whole.ensures (reads-no_document scenario_at c.args.bytes.now (c.in-Err.ensures.refused (not_so c.is_memory.result _ c.is_memory.ensures c.if-is_memory.false)))
+pub returns-in-Err : goal.returns-in-Err
+returns-in-Err c =
+    elim c.no_document.ensures [
+      | inl memory ↦ rw memory tt
+      | inr other ↦ rw other.1 (reads-no_document scenario_at c.args.bytes.now (c.in-Err.ensures.refused other.0))
+    ]
