@@ -6,9 +6,6 @@ use std::sync::atomic::Ordering::SeqCst;
 use std::sync::atomic::{AtomicBool, AtomicU64};
 use std::thread;
 
-#[cfg(test)]
-mod tests;
-
 /// After so many looks in vain a hold of a new gate gives up.
 const MOST_LOOKS: u32 = 50_000_000;
 
@@ -34,7 +31,7 @@ impl MeetGate {
     }
 
     /// The same, where a hold gives up after so many looks in vain.
-    fn with_looks(most_looks: u32) -> MeetGate {
+    pub fn with_looks(most_looks: u32) -> MeetGate {
         MeetGate {
             entries_of_0: AtomicU64::new(0),
             entries_of_1: AtomicU64::new(0),
@@ -70,13 +67,15 @@ impl MeetGate {
         }
     }
 
-    fn enter_0(&self) {
+    /// Processor 0 enters.
+    pub fn enter_0(&self) {
         if self.entries_of_0.fetch_add(1, SeqCst) == 0 {
             self.hold(&self.entries_of_1, 2, &self.passed_0);
         }
     }
 
-    fn enter_1(&self, seen: u64) {
+    /// Processor 1 enters, whose seat has seen so many entries.
+    pub fn enter_1(&self, seen: u64) {
         match self.entries_of_1.fetch_add(1, SeqCst) {
             0 => self.seen_at_first.store(seen, SeqCst),
             1 => {

@@ -1,2 +1,0 @@
-pub mod LoneSystem
-pub mod TwoEqual

@@ -4,7 +4,6 @@ ghost use Rattle.std.specs.Prelude.{◌≤◌};
 use crate::tests::two_processors::opened;
 use aps_core::Turn;
 use aps_model::{CpuId, Done, Entry, Order, ThreadId};
-use std::test::Fail;
 
 /// The first entry of a processor, which picks the thread.
 fn first_entry(cpu: CpuId, picked: usize) -> Entry
@@ -25,9 +24,9 @@ fn first_entry(cpu: CpuId, picked: usize) -> Entry
 }
 
 #[test]
-fn two_seats_take_turns_and_meet(rt: HostRuntime) -> Result<(), Fail> {
+fn two_seats_take_turns_and_meet(rt: HostRuntime) {
     let (zero, one) = (CpuId::at(0), CpuId::at(1));
-    let (dispatch, mut x) = opened(rt.alloc(), Order::Free)?;
+    let (dispatch, mut x) = opened(&rt, rt.alloc(), Order::Free);
     assert_eq!(rt; x.last().index(), 1);
     let mut y = dispatch.split(&mut x, one);
     let turns = [
@@ -53,5 +52,4 @@ fn two_seats_take_turns_and_meet(rt: HostRuntime) -> Result<(), Fail> {
     let core = dispatch.close(x);
     let entries = [first_entry(one, 0), first_entry(zero, 1)];
     assert!(rt; core.history().entries() == entries.as_slice());
-    Ok(())
 }

@@ -1,13 +1,12 @@
-ghost use Rattle.std.specs.Prelude.{IfOk};
 ghost use Rattle.aps_cpu.specs.Row.{IsReady};
 ghost use Rattle.aps_lock.specs.Seats.{HasAllCpus};
 
 use aps_core::Core;
 use aps_lock::{CpuSeat, Dispatch};
 use aps_model::Order;
-use aps_scenario::{ScenarioRefusal, scenario_of};
-use std::alloc::{AllocError, Global};
-use std::test::Fail;
+use aps_scenario::scenario_of;
+use std::alloc::Global;
+use std::process::Abort;
 
 const TWO_PROCESSORS: &str = r#"version = 1
 cpus = 2
@@ -22,18 +21,25 @@ thread = [
 ]
 "#;
 
-/// The run of two processors at its start, with room for 1,000 entries.
-fn booted(alloc: Global, order: Order) -> Result<Core, Fail> {
-    let scenario = scenario_of(alloc, TWO_PROCESSORS.as_bytes())?;
-    Ok(Core::boot(alloc, scenario, order, 1000)?)
+/// The run of a scenario at its start, with room for 1,000 entries.
+fn booted(rt: &impl Abort, alloc: Global, text: &str, order: Order) -> Core {
+    let scenario = scenario_of(alloc, text.as_bytes()).expect(rt, "a scenario");
+    Core::boot(alloc, scenario, order, 1000).expect(rt, "memory")
 }
 
-/// Its dispatcher, and the seat of both processors.
-pub fn opened(alloc: Global, order: Order) -> Result<(Dispatch, CpuSeat), Fail>
-    ensures { IfOk result (λ r. IsReady r.0 r.1 × HasAllCpus r.1) }
+/// The dispatcher of a run, and the seat of all its processors.
+fn dispatched(rt: &impl Abort, alloc: Global, core: Core) -> (Dispatch, CpuSeat)
+    ensures { IsReady result.0 result.1 × HasAllCpus result.1 }
 {
-    match Dispatch::open(alloc, booted(alloc, order)?) {
-        Ok(opened) => Ok(opened),
-        Err(_) => Err(AllocError)?,
+    match Dispatch::open(alloc, core) {
+        Ok(opened) => opened,
+        Err(_) => panic!(rt; "memory"),
     }
+}
+
+/// The dispatcher of the run of two processors at its start, and the seat of both processors.
+pub fn opened(rt: &impl Abort, alloc: Global, order: Order) -> (Dispatch, CpuSeat)
+    ensures { IsReady result.0 result.1 × HasAllCpus result.1 }
+{
+    dispatched(rt, alloc, booted(rt, alloc, TWO_PROCESSORS, order))
 }

@@ -1,45 +1,37 @@
 //! Audits of small histories, with amounts that were worked out by hand.
-ghost use Rattle.std.specs.Prelude.{◌≡◌, ◌+◌, ◌*◌, ◌<◌, ◌≤◌, [], length, IfOk};
+ghost use Rattle.std.specs.Prelude.{◌≡◌, ◌+◌, ◌*◌, ◌<◌, ◌≤◌, [], length};
 
+use crate::tests::read_scenario;
 use aps_bound::audit;
 use aps_model::{
-    Audit, Bankruptcy, Change, ChangeKind, CpuId, Done, Entry, Free, History, Name, Nanos,
-    NoMemory, PartitionId, PartitionRow, Scenario, Shape, Worst,
+    Audit, Change, ChangeKind, CpuId, Done, Entry, History, Name, Nanos, PartitionId, PartitionRow,
+    Worst,
 };
 use std::alloc::Global;
-use std::test::Fail;
+use std::process::Abort;
 
 const TICK: Nanos = 100_000;
 
-/// A history of one processor, with a tick of 100,000 ns, a window of 8 ticks, and all parts in `System`.
-fn begun(alloc: Global) -> Result<History, NoMemory>
-    ensures entries { IfOk result (λ h. h.entries ≡ []) }
-    ensures changes { IfOk result (λ h. h.changes ≡ []) }
-    ensures rows { IfOk result (λ h. length h.rows ≡ 1) }
-    ensures room { IfOk result (λ h. h.room.entries ≡ 32) }
-    ensures more_room { IfOk result (λ h. h.room.changes ≡ 8) }
+/// One processor, with a tick of 100,000 ns, a window of 8 ticks, and all parts in `System`.
+const SYSTEM_ALONE: &str = r#"version = 1
+cpus = 1
+tick = 100000
+window = 8
+ticks = 100
+"#;
+
+/// Its history at the start.
+fn begun(rt: &impl Abort, alloc: Global) -> History
+    ensures entries { result.entries ≡ [] }
+    ensures changes { result.changes ≡ [] }
+    ensures rows { length result.rows ≡ 1 }
+    ensures room { result.room.entries ≡ 32 }
+    ensures more_room { result.room.changes ≡ 8 }
 {
-    let shape = Shape {
-        parts: 100,
-        cpus: 1,
-        tick: 100_000,
-        window: 8,
-        ticks: 100,
-        call_ns: 1000,
-        free: Free::Priority,
-        limit: false,
-        bankruptcy: Bankruptcy::Basic,
-    };
-    let name = Name::new(b"System").unwrap();
-    let system = row(name, 100, 0);
-    let scenario = Scenario::new(
-        shape,
-        vec![in alloc; system]?,
-        Vec::new(alloc),
-        Vec::new(alloc),
-        Vec::new(alloc),
-    );
-    History::begin(alloc, scenario, 32, 8, 8)
+    let scenario = read_scenario(rt, alloc, SYSTEM_ALONE);
+    let history = History::begin(alloc, scenario, 32, 8, 8).expect(rt, "memory");
+    assert_eq!(rt; history.rows().len(), 1);
+    history
 }
 
 fn row(name: Name, budget: u16, critical: Nanos) -> PartitionRow
@@ -131,8 +123,8 @@ fn worst(amount: Nanos, partition: usize, window: u32) -> Option<Worst>
 }
 
 #[test]
-fn nothing_is_loaded_at_the_start(rt: HostRuntime) -> Result<(), Fail> {
-    let history = begun(rt.alloc())?;
+fn nothing_is_loaded_at_the_start(rt: HostRuntime) {
+    let history = begun(&rt, rt.alloc());
     let nothing = Audit {
         loaded_from: 0,
         worst_over: None,
@@ -140,12 +132,11 @@ fn nothing_is_loaded_at_the_start(rt: HostRuntime) -> Result<(), Fail> {
         critical_worst: None,
     };
     assert_eq!(rt; audit(&history), nothing);
-    Ok(())
 }
 
 #[test]
-fn an_entry_counts_in_each_tick_that_it_crosses(rt: HostRuntime) -> Result<(), Fail> {
-    let mut history = begun(rt.alloc())?;
+fn an_entry_counts_in_each_tick_that_it_crosses(rt: HostRuntime) {
+    let mut history = begun(&rt, rt.alloc());
     let system = Name::new(b"System").unwrap();
     history.set_row(PartitionId::at(0), row(system, 0, 0));
     history.add_entry(entry(0, 0, 0, false));
@@ -157,12 +148,11 @@ fn an_entry_counts_in_each_tick_that_it_crosses(rt: HostRuntime) -> Result<(), F
         critical_worst: worst(0, 0, 0),
     };
     assert_eq!(rt; audit(&history), all_used);
-    Ok(())
 }
 
 #[test]
-fn usage_is_measured_by_the_last_rows(rt: HostRuntime) -> Result<(), Fail> {
-    let mut history = begun(rt.alloc())?;
+fn usage_is_measured_by_the_last_rows(rt: HostRuntime) {
+    let mut history = begun(&rt, rt.alloc());
     share(&mut history);
     history.add_entry(entry(0, 300_000, 1, true));
     history.add_entry(entry(300_000, 900_000, 0, false));
@@ -173,12 +163,11 @@ fn usage_is_measured_by_the_last_rows(rt: HostRuntime) -> Result<(), Fail> {
         critical_worst: worst(200_000, 1, 0),
     };
     assert_eq!(rt; audit(&history), shared);
-    Ok(())
 }
 
 #[test]
-fn windows_are_loaded_after_starved_picks_and_changes(rt: HostRuntime) -> Result<(), Fail> {
-    let mut history = begun(rt.alloc())?;
+fn windows_are_loaded_after_starved_picks_and_changes(rt: HostRuntime) {
+    let mut history = begun(&rt, rt.alloc());
     share(&mut history);
     let mut starved = entry(0, 1_000_000, 1, true);
     starved.starved = Some(PartitionId::at(1));
@@ -202,12 +191,11 @@ fn windows_are_loaded_after_starved_picks_and_changes(rt: HostRuntime) -> Result
         critical_worst: None,
     };
     assert_eq!(rt; audit(&history), after_the_change);
-    Ok(())
 }
 
 #[test]
-fn each_tick_enters_once_and_leaves_once(rt: HostRuntime) -> Result<(), Fail> {
-    let mut history = begun(rt.alloc())?;
+fn each_tick_enters_once_and_leaves_once(rt: HostRuntime) {
+    let mut history = begun(&rt, rt.alloc());
     share(&mut history);
     take_two_processors(&mut history);
     add_tick(&mut history, 0, 0, false);
@@ -231,12 +219,11 @@ fn each_tick_enters_once_and_leaves_once(rt: HostRuntime) -> Result<(), Fail> {
         critical_worst: worst(2 * TICK - 100_000, 1, 1),
     };
     assert_eq!(rt; audit(&history), slid);
-    Ok(())
 }
 
 #[test]
-fn entries_count_in_their_ticks_in_whatever_order_they_stand(rt: HostRuntime) -> Result<(), Fail> {
-    let mut history = begun(rt.alloc())?;
+fn entries_count_in_their_ticks_in_whatever_order_they_stand(rt: HostRuntime) {
+    let mut history = begun(&rt, rt.alloc());
     share(&mut history);
     history.add_entry(whole_tick(1, 0, false));
     history.add_entry(whole_tick(2, 0, false));
@@ -256,5 +243,4 @@ fn entries_count_in_their_ticks_in_whatever_order_they_stand(rt: HostRuntime) ->
         critical_worst: worst(0, 0, 0),
     };
     assert_eq!(rt; audit(&history), recounted);
-    Ok(())
 }

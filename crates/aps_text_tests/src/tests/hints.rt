@@ -1,9 +1,8 @@
 //! What is told of refused texts and words: one worked line for each kind of refusal.
 use aps_hints::{Document, Line, Usage, scenario_hint, usage_meant, words_hint};
-use aps_model::NoMemory;
 use aps_scenario::{Kind, PathText, ScenarioRefusal, demands_of, scenario_of};
-use std::alloc::{AllocError, Global};
-use std::test::Fail;
+use std::alloc::Global;
+use std::process::Abort;
 
 const HEAD: &str = "version = 1\ncpus = 1\nticks = 20\nchannel = [{name = \"c\"}]\n\
     partition = [{name = \"A\", budget = 60}]\n";
@@ -81,47 +80,58 @@ const HINTS: [(&str, &str); 17] = [
 ];
 
 /// The kind and the path of a refusal.
-fn refusal(refused: ScenarioRefusal) -> Result<(Kind, PathText), NoMemory> {
+fn refusal(rt: &impl Abort, refused: ScenarioRefusal) -> (Kind, PathText) {
     match refused {
-        ScenarioRefusal::Refused { kind, path } => Ok((kind, path)),
-        ScenarioRefusal::NoMemory => Err(AllocError),
+        ScenarioRefusal::Refused { kind, path } => (kind, path),
+        ScenarioRefusal::NoMemory => panic!(rt; "out of memory"),
     }
 }
 
-/// What is told of a text that is no scenario; nothing of one that is.
-fn told(alloc: Global, text: &[u8]) -> Result<Option<Line>, NoMemory> {
-    let Err(refused) = scenario_of(alloc, text) else {
-        return Ok(None);
-    };
-    let (kind, path) = refusal(refused)?;
-    Ok(Some(scenario_hint(alloc, text, Document::Scenario, kind, &path)?))
+/// What is told of a text that is no scenario.
+fn told(rt: &impl Abort, alloc: Global, text: &[u8]) -> Line {
+    let refused = scenario_of(alloc, text).expect_err(rt, "a scenario");
+    let (kind, path) = refusal(rt, refused);
+    scenario_hint(alloc, text, Document::Scenario, kind, &path).expect(rt, "memory")
 }
 
-fn told_behind_head(alloc: Global, end: &str) -> Result<Option<Line>, NoMemory> {
-    let mut text = String::from_str(alloc, HEAD)?;
-    text.push_str(end)?;
-    told(alloc, text.as_bytes())
+/// This is told of a text.
+fn check(rt: &impl Abort, alloc: Global, text: &[u8], hint: &str) {
+    let line = told(rt, alloc, text);
+    assert_eq!(rt; line.as_bytes(), hint.as_bytes());
+}
+
+/// The text that these texts are, one after the other.
+fn joined(rt: &impl Abort, alloc: Global, texts: &[&str]) -> Vec<u8> {
+    let mut text = Vec::new(alloc);
+    for part in texts {
+        text.extend_from_slice(part.as_bytes()).expect(rt, "memory");
+    }
+    text
+}
+
+/// This is told of the text that these texts are, one after the other.
+fn check_joined(rt: &impl Abort, alloc: Global, texts: &[&str], hint: &str) {
+    let text = joined(rt, alloc, texts);
+    check(rt, alloc, &text, hint);
 }
 
 #[test]
-fn a_refused_scenario_is_told(rt: HostRuntime) -> Result<(), Fail> {
+fn a_refused_scenario_is_told(rt: HostRuntime) {
     for (end, hint) in HINTS {
-        let line = told_behind_head(rt.alloc(), end)?.ok_or("no refusal")?;
-        assert_eq!(rt; std::str::from_utf8(line.as_bytes())?, hint);
+        check_joined(&rt, rt.alloc(), &[HEAD, end], hint);
     }
-    Ok(())
 }
 
 #[test]
-fn the_place_where_a_text_stops_being_toml_is_told(rt: HostRuntime) -> Result<(), Fail> {
-    let line = told_behind_head(rt.alloc(), "window = [")?.ok_or("no refusal")?;
+fn the_place_where_a_text_stops_being_toml_is_told(rt: HostRuntime) {
+    let text = joined(&rt, rt.alloc(), &[HEAD, "window = ["]);
+    let line = told(&rt, rt.alloc(), &text);
     let place = b"-: this is no TOML document; it stops being one at line 6, column 11: ";
     assert!(rt; line.as_bytes().starts_with(place.as_slice()));
-    Ok(())
 }
 
 #[test]
-fn partitions_are_told(rt: HostRuntime) -> Result<(), Fail> {
+fn partitions_are_told(rt: HostRuntime) {
     let head = "version = 1\ncpus = 1\nticks = 20\npartition = [{name = \"A\", budget = 60}, ";
     let hints = [
         (
@@ -138,60 +148,57 @@ fn partitions_are_told(rt: HostRuntime) -> Result<(), Fail> {
         ),
     ];
     for (end, hint) in hints {
-        let mut text = String::from_str(rt.alloc(), head)?;
-        text.push_str(end)?;
-        let line = told(rt.alloc(), text.as_bytes())?.ok_or("no refusal")?;
-        assert_eq!(rt; std::str::from_utf8(line.as_bytes())?, hint);
+        check_joined(&rt, rt.alloc(), &[head, end], hint);
     }
-    Ok(())
 }
 
 #[test]
-fn bytes_that_are_no_text_are_told(rt: HostRuntime) -> Result<(), Fail> {
-    let line = told(rt.alloc(), b"version = 1\n# \xff\n")?.ok_or("no refusal")?;
+fn bytes_that_are_no_text_are_told(rt: HostRuntime) {
     let hint = "-: this is no TOML document; it stops being one at line 2, column 3: no UTF-8";
-    assert_eq!(rt; std::str::from_utf8(line.as_bytes())?, hint);
-    Ok(())
+    check(&rt, rt.alloc(), b"version = 1\n# \xff\n", hint);
+}
+
+/// So many letters between two texts.
+fn between(rt: &impl Abort, alloc: Global, before: &str, count: usize, after: &str) -> Vec<u8> {
+    let mut text = before.as_bytes().to_vec(alloc).expect(rt, "memory");
+    for _ in 0..count {
+        text.push(b'x').expect(rt, "memory");
+    }
+    text.extend_from_slice(after.as_bytes())
+        .expect(rt, "memory");
+    text
 }
 
 #[test]
-fn a_long_value_is_cut(rt: HostRuntime) -> Result<(), Fail> {
-    let mut text = String::from_str(rt.alloc(), "version = 1\ncpus = \"")?;
-    for _ in 0..2000 {
-        text.push_str("x")?;
-    }
-    text.push_str("\"\n")?;
-    let line = told(rt.alloc(), text.as_bytes())?.ok_or("no refusal")?;
-    let mut hint = String::from_str(rt.alloc(), "cpus: \"")?;
-    for _ in 0..80 {
-        hint.push_str("x")?;
-    }
-    hint.push_str("..\" is of another kind; wanted is a number from 1 to 16")?;
-    assert_eq!(rt; line.as_bytes(), hint.as_bytes());
-    Ok(())
+fn a_long_value_is_cut(rt: HostRuntime) {
+    let text = between(&rt, rt.alloc(), "version = 1\ncpus = \"", 2000, "\"\n");
+    let line = told(&rt, rt.alloc(), &text);
+    let end = "..\" is of another kind; wanted is a number from 1 to 16";
+    let hint = between(&rt, rt.alloc(), "cpus: \"", 80, end);
+    assert_eq!(rt; line.as_bytes(), hint.as_slice());
 }
 
 #[test]
-fn refused_demands_are_told(rt: HostRuntime) -> Result<(), Fail> {
+fn refused_demands_are_told(rt: HostRuntime) {
     let text = b"version = 1\ncpus = 1\nticks = 20\n";
-    let Err(refused) = demands_of(rt.alloc(), text) else {
-        return Err(Fail::from("no refusal"));
-    };
-    let (kind, path) = refusal(refused)?;
-    let line = scenario_hint(rt.alloc(), text, Document::Demands, kind, &path)?;
-    let hint =
-        "ticks: this key doesn't belong here; the keys are version, cpus, tick, window and demand";
-    assert_eq!(rt; std::str::from_utf8(line.as_bytes())?, hint);
-    Ok(())
+    let refused = demands_of(rt.alloc(), text).expect_err(&rt, "demands");
+    let (kind, path) = refusal(&rt, refused);
+    let hint = scenario_hint(rt.alloc(), text, Document::Demands, kind, &path);
+    let line = hint.expect(&rt, "memory");
+    assert_eq!(rt;
+        line.as_bytes(),
+        b"ticks: this key doesn't belong here; the keys are version, cpus, tick, window and demand".as_slice()
+    );
 }
 
 #[test]
-fn the_usage_of_the_command_is_told(rt: HostRuntime) -> Result<(), Fail> {
+fn the_usage_of_the_command_is_told(rt: HostRuntime) {
     let mut words = Vec::new(rt.alloc());
     assert_eq!(rt; usage_meant(&words), Usage::All);
-    words.push(String::from_str(rt.alloc(), "admit")?)?;
-    words.push(String::from_str(rt.alloc(), "--limit")?)?;
+    for word in ["admit", "--limit"] {
+        let word = String::from_str(rt.alloc(), word).expect(&rt, "memory");
+        words.push(word).expect(&rt, "memory");
+    }
     assert_eq!(rt; usage_meant(&words), Usage::Admit);
     assert_eq!(rt; words_hint(&words), "usage: apsim admit < DEMANDS.toml\n");
-    Ok(())
 }

@@ -1,18 +1,27 @@
 //! The reports of small histories, whole.
-ghost use Rattle.std.specs.Prelude.{◌≡◌, ◌≤◌, [], ◌∷◌, codes, length, IfOk, IfSome, false};
-ghost use Rattle.aps_model.specs.declared.program.Op.TheVariants.{Forever};
-ghost use Rattle.aps_model.specs.declared.scenario.Policy.TheVariants.{Fifo};
+ghost use Rattle.std.specs.Prelude.{◌≡◌, ◌≤◌, [], length, IfSome};
 
+use crate::tests::read_scenario;
 use aps_io::MemSink;
 use aps_model::{
     Answer, Audit, Bankruptcy, ChannelId, CpuId, CtlRefusal, Done, End, Entry, Facts, Free,
-    History, Name, Nanos, NoMemory, Op, PartitionId, PartitionRow, Policy, Program, Reply,
-    Scenario, Shape, State, ThreadId, ThreadRow, Worst,
+    History, Name, Nanos, PartitionId, PartitionRow, Reply, Shape, State, ThreadId, Worst,
 };
 use aps_report::{JournalFault, journal, summary, usage, windows};
 use std::alloc::Global;
 use std::process::Abort;
-use std::test::Fail;
+
+/// `System` and `A` with half of the time each, and a thread in each that runs forever.
+const TWO_EQUAL: &str = r#"version = 1
+cpus = 1
+window = 10
+ticks = 20
+partition = [{name = "A", budget = 50}]
+thread = [
+  {name = "s", program = ["run forever"]},
+  {name = "a", partition = "A", program = ["run forever"]},
+]
+"#;
 
 const SHAPE: Shape = Shape {
     parts: 100,
@@ -33,59 +42,15 @@ const NO_AUDIT: Audit = Audit {
     critical_worst: None,
 };
 
-fn row(name: Name) -> PartitionRow
-    ensures { result ≡ record { name = name; parent = 0; budget = 50; critical = 0; max = 100 } }
+/// The history of the two equal partitions at its start.
+fn begun(rt: &impl Abort, alloc: Global) -> History
+    ensures entries { result.entries ≡ [] }
+    ensures replies { result.replies ≡ [] }
+    ensures room { result.room.entries ≡ 5000 }
+    ensures more_room { result.room.replies ≡ 32 }
 {
-    PartitionRow {
-        name,
-        parent: PartitionId::at(0),
-        budget: 50,
-        critical: 0,
-        max: 100,
-    }
-}
-
-fn thread(alloc: Global, name: Name, partition: usize) -> Result<ThreadRow, NoMemory>
-    requires { partition ≤ 31 }
-    ensures { IfOk result (λ t. t ≡ record {
-      name = name;
-      partition = partition;
-      priority = 10;
-      policy = Fifo;
-      critical = false;
-      program = Forever ∷ [];
-    }) }
-{
-    let ops = vec![in alloc; Op::Forever]?;
-    Ok(ThreadRow {
-        name,
-        partition: PartitionId::at(partition),
-        priority: 10,
-        policy: Policy::Fifo,
-        critical: false,
-        program: Program::new(ops),
-    })
-}
-
-/// `System` and `A` with half of the time each, and a thread in each that runs forever.
-fn begun(alloc: Global) -> Result<History, NoMemory>
-    ensures entries { IfOk result (λ h. h.entries ≡ []) }
-    ensures replies { IfOk result (λ h. h.replies ≡ []) }
-    ensures room { IfOk result (λ h. h.room.entries ≡ 5000) }
-    ensures more_room { IfOk result (λ h. h.room.replies ≡ 32) }
-{
-    let system = row(Name::new(b"System").unwrap());
-    let a = row(Name::new(b"A").unwrap());
-    let first = thread(alloc, Name::new(b"s").unwrap(), 0)?;
-    let second = thread(alloc, Name::new(b"a").unwrap(), 1)?;
-    let scenario = Scenario::new(
-        SHAPE,
-        vec![in alloc; system, a]?,
-        Vec::new(alloc),
-        vec![in alloc; first, second]?,
-        Vec::new(alloc),
-    );
-    History::begin(alloc, scenario, 5000, 32, 0)
+    let scenario = read_scenario(rt, alloc, TWO_EQUAL);
+    History::begin(alloc, scenario, 5000, 32, 0).expect(rt, "memory")
 }
 
 /// An entry of processor 0 without a critical, a starved or a flagged one.
@@ -111,11 +76,8 @@ fn entry(from: Nanos, to: Nanos, ran: Option<usize>, done: Done, picked: Option<
 }
 
 /// The two threads take turns, a tick each, from `s` on.
-fn two_equal(alloc: Global) -> Result<History, NoMemory>
-    ensures room { IfOk result (λ h. h.room.replies ≡ 32) }
-    ensures replies { IfOk result (λ h. h.replies ≡ []) }
-{
-    let mut history = begun(alloc)?;
+fn two_equal(rt: &impl Abort, alloc: Global) -> History {
+    let mut history = begun(rt, alloc);
     history.add_entry(entry(0, 0, None, Done::Nothing, Some(0)));
     for k in 0..19 {
         let from = k as u64 * 1_000_000;
@@ -125,29 +87,27 @@ fn two_equal(alloc: Global) -> Result<History, NoMemory>
     }
     history.add_entry(entry(19_000_000, 20_000_000, Some(1), Done::Nothing, None));
     history.set_end(End::Horizon);
-    Ok(history)
+    history
 }
 
 #[test]
-fn the_usage_of_two_equal_partitions(rt: HostRuntime) -> Result<(), Fail> {
-    let history = two_equal(rt.alloc())?;
-    let text = usage(rt.alloc(), &history)?;
+fn the_usage_of_two_equal_partitions(rt: HostRuntime) {
+    let history = two_equal(&rt, rt.alloc());
+    let text = usage(rt.alloc(), &history).expect(&rt, "memory");
     assert_eq!(rt;
         text.as_str(),
         "aps summary 1\nend horizon\nshape cpus 1 tick 1000000 window 10 ticks 20\nentries 21\npartition 0 System budget 50 billed 10000000 critical 0\npartition 1 A budget 50 billed 10000000 critical 0\nidle 0\nthread 0 s ran 10000000\nthread 1 a ran 10000000\n"
     );
-    Ok(())
 }
 
 #[test]
-fn the_windows_of_two_equal_partitions(rt: HostRuntime) -> Result<(), Fail> {
-    let history = two_equal(rt.alloc())?;
-    let text = windows(rt.alloc(), &history)?;
+fn the_windows_of_two_equal_partitions(rt: HostRuntime) {
+    let history = two_equal(&rt, rt.alloc());
+    let text = windows(rt.alloc(), &history).expect(&rt, "memory");
     assert_eq!(rt;
         text.as_str(),
         "aps windows 1\nend horizon\nwindow 0 5000000 5000000\nwindow 10 5000000 5000000\n"
     );
-    Ok(())
 }
 
 fn worst(amount: Nanos, partition: usize, window: u32) -> Option<Worst>
@@ -161,8 +121,8 @@ fn worst(amount: Nanos, partition: usize, window: u32) -> Option<Worst>
 }
 
 #[test]
-fn the_summary_has_the_audit_after_the_usage(rt: HostRuntime) -> Result<(), Fail> {
-    let mut history = begun(rt.alloc())?;
+fn the_summary_has_the_audit_after_the_usage(rt: HostRuntime) {
+    let mut history = begun(&rt, rt.alloc());
     history.set_end(End::Reboot(PartitionId::at(1)));
     let audit = Audit {
         loaded_from: 3,
@@ -170,40 +130,37 @@ fn the_summary_has_the_audit_after_the_usage(rt: HostRuntime) -> Result<(), Fail
         worst_short: worst(200_000, 1, 10),
         critical_worst: None,
     };
-    let text = summary(rt.alloc(), &history, &audit)?;
+    let text = summary(rt.alloc(), &history, &audit).expect(&rt, "memory");
     assert_eq!(rt;
         text.as_str(),
         "aps summary 1\nend reboot 1\nshape cpus 1 tick 1000000 window 10 ticks 20\nentries 0\npartition 0 System budget 50 billed 0 critical 0\npartition 1 A budget 50 billed 0 critical 0\nidle 0\nthread 0 s ran 0\nthread 1 a ran 0\nloaded 3\nover 300000 partition 0 window 0\nshort 200000 partition 1 window 10\novercritical none\n"
     );
-    Ok(())
 }
 
 /// The line of the reply to command 7 that gives this answer ends the summary.
-fn check(rt: &impl Abort, alloc: Global, answer: Answer, line: &str) -> Result<(), NoMemory> {
-    let mut history = begun(alloc)?;
+fn check(rt: &impl Abort, alloc: Global, answer: Answer, line: &str) {
+    let mut history = begun(rt, alloc);
     history.add_reply(Reply { command: 7, answer });
-    let text = summary(alloc, &history, &NO_AUDIT)?;
+    let text = summary(alloc, &history, &NO_AUDIT).expect(rt, "memory");
     assert!(rt; text.as_str().ends_with(line), "{line}");
-    Ok(())
 }
 
 #[test]
-fn the_answers_to_changes(rt: HostRuntime) -> Result<(), Fail> {
+fn the_answers_to_changes(rt: HostRuntime) {
     let alloc = rt.alloc();
     let created = Answer::Created(PartitionId::at(2));
-    check(&rt, alloc, created, "\nreply 7 created 2\n")?;
-    check(&rt, alloc, Answer::Modified, "\nreply 7 modified\n")?;
-    check(&rt, alloc, Answer::Set, "\nreply 7 set\n")?;
-    check(&rt, alloc, Answer::Marked, "\nreply 7 marked\n")?;
-    check(&rt, alloc, Answer::Cleared, "\nreply 7 cleared\n")?;
-    Ok(())
+    check(&rt, alloc, created, "\nreply 7 created 2\n");
+    check(&rt, alloc, Answer::Modified, "\nreply 7 modified\n");
+    check(&rt, alloc, Answer::Set, "\nreply 7 set\n");
+    check(&rt, alloc, Answer::Marked, "\nreply 7 marked\n");
+    check(&rt, alloc, Answer::Cleared, "\nreply 7 cleared\n");
 }
 
 #[test]
-fn the_answers_to_questions(rt: HostRuntime) -> Result<(), Fail> {
+fn the_answers_to_questions(rt: HostRuntime) {
     let alloc = rt.alloc();
     let found = Answer::Found(PartitionId::at(3));
-    check(&rt, alloc, found, "\nreply 7 found 3\n")?;
+    check(&rt, alloc, found, "\nreply 7 found 3\n");
     let row = PartitionRow {
         name: Name::new(b"B").unwrap(),
         parent: PartitionId::at(2),
@@ -222,7 +179,7 @@ fn the_answers_to_questions(rt: HostRuntime) -> Result<(), Fail> {
         alloc,
         partition,
         "\nreply 7 partition 1 parent 2 budget 25 critical 7 max 90 used 1000000 critical_used 2000\n",
-    )?;
+    );
     let statistics = Answer::Statistics {
         id: PartitionId::at(1),
         used: 6,
@@ -233,19 +190,18 @@ fn the_answers_to_questions(rt: HostRuntime) -> Result<(), Fail> {
         alloc,
         statistics,
         "\nreply 7 statistics 1 used 6 critical_used 5\n",
-    )?;
-    Ok(())
+    );
 }
 
 #[test]
-fn the_answers_to_questions_of_parameters(rt: HostRuntime) -> Result<(), Fail> {
+fn the_answers_to_questions_of_parameters(rt: HostRuntime) {
     let alloc = rt.alloc();
     check(
         &rt,
         alloc,
         Answer::Parameters(SHAPE),
         "\nreply 7 parameters window 10 tick 1000000 free priority limit no bankruptcy basic\n",
-    )?;
+    );
     let other = Shape {
         free: Free::Ratio,
         limit: true,
@@ -257,7 +213,7 @@ fn the_answers_to_questions_of_parameters(rt: HostRuntime) -> Result<(), Fail> {
         alloc,
         Answer::Parameters(other),
         "\nreply 7 parameters window 10 tick 1000000 free ratio limit yes bankruptcy cancel\n",
-    )?;
+    );
     let last = Shape {
         bankruptcy: Bankruptcy::Reboot,
         ..SHAPE
@@ -267,8 +223,7 @@ fn the_answers_to_questions_of_parameters(rt: HostRuntime) -> Result<(), Fail> {
         alloc,
         Answer::Parameters(last),
         "\nreply 7 parameters window 10 tick 1000000 free priority limit no bankruptcy reboot\n",
-    )?;
-    Ok(())
+    );
 }
 
 /// A thread of partition 1 that inherits from partition 2.
@@ -292,7 +247,7 @@ fn inheriting(state: State, critical: bool) -> Answer {
 }
 
 #[test]
-fn the_answers_to_questions_of_a_thread(rt: HostRuntime) -> Result<(), Fail> {
+fn the_answers_to_questions_of_a_thread(rt: HostRuntime) {
     let alloc = rt.alloc();
     let ready = inheriting(State::Ready, true);
     check(
@@ -300,53 +255,51 @@ fn the_answers_to_questions_of_a_thread(rt: HostRuntime) -> Result<(), Fail> {
         alloc,
         ready,
         "\nreply 7 thread 4 own 1 partition 2 priority 20 critical yes state ready\n",
-    )?;
+    );
     let gone = inheriting(State::Gone, false);
     check(
         &rt,
         alloc,
         gone,
         "\nreply 7 thread 4 own 1 partition 2 priority 20 critical no state gone\n",
-    )?;
+    );
     let running = inheriting(State::Running(CpuId::at(0)), false);
-    check(&rt, alloc, running, " critical no state running\n")?;
+    check(&rt, alloc, running, " critical no state running\n");
     let sleeping = inheriting(State::Sleeping(9), false);
-    check(&rt, alloc, sleeping, " critical no state sleeping\n")?;
+    check(&rt, alloc, sleeping, " critical no state sleeping\n");
     let sending = inheriting(State::Sending(ChannelId::at(5)), false);
-    check(&rt, alloc, sending, " critical no state sending\n")?;
+    check(&rt, alloc, sending, " critical no state sending\n");
     let receiving = inheriting(State::Receiving(ChannelId::at(5)), false);
-    check(&rt, alloc, receiving, " critical no state receiving\n")?;
+    check(&rt, alloc, receiving, " critical no state receiving\n");
     let replying = inheriting(State::Replying(ThreadId::at(6)), false);
-    check(&rt, alloc, replying, " critical no state replying\n")?;
-    Ok(())
+    check(&rt, alloc, replying, " critical no state replying\n");
 }
 
 #[test]
-fn the_refusals_of_commands(rt: HostRuntime) -> Result<(), Fail> {
+fn the_refusals_of_commands(rt: HostRuntime) {
     let alloc = rt.alloc();
     let none = Answer::Refused(CtlRefusal::NoPartition);
-    check(&rt, alloc, none, "\nreply 7 no-partition\n")?;
+    check(&rt, alloc, none, "\nreply 7 no-partition\n");
     let taken = Answer::Refused(CtlRefusal::NameTaken);
-    check(&rt, alloc, taken, "\nreply 7 name-taken\n")?;
+    check(&rt, alloc, taken, "\nreply 7 name-taken\n");
     let many = Answer::Refused(CtlRefusal::TooMany);
-    check(&rt, alloc, many, "\nreply 7 too-many\n")?;
+    check(&rt, alloc, many, "\nreply 7 too-many\n");
     let root = Answer::Refused(CtlRefusal::NoParent);
-    check(&rt, alloc, root, "\nreply 7 no-parent\n")?;
+    check(&rt, alloc, root, "\nreply 7 no-parent\n");
     let over = Answer::Refused(CtlRefusal::OverBudget { have: 25 });
-    check(&rt, alloc, over, "\nreply 7 over-budget 25\n")?;
+    check(&rt, alloc, over, "\nreply 7 over-budget 25\n");
     let low = Answer::Refused(CtlRefusal::BadMax {
         partition: PartitionId::at(1),
         least: 40,
     });
-    check(&rt, alloc, low, "\nreply 7 bad-max 1 40\n")?;
+    check(&rt, alloc, low, "\nreply 7 bad-max 1 40\n");
     let gone = Answer::Refused(CtlRefusal::Gone);
-    check(&rt, alloc, gone, "\nreply 7 gone\n")?;
-    Ok(())
+    check(&rt, alloc, gone, "\nreply 7 gone\n");
 }
 
 /// A thread of `A` that sleeps after each 400,000 ns, beside one of `System`.
-fn sleeping_worker(alloc: Global) -> Result<History, NoMemory> {
-    let mut history = begun(alloc)?;
+fn sleeping_worker(rt: &impl Abort, alloc: Global) -> History {
+    let mut history = begun(rt, alloc);
     history.add_entry(entry(0, 0, None, Done::Nothing, Some(1)));
     let first = entry(0, 400_000, Some(1), Done::Run, Some(0));
     history.add_entry(starved(first));
@@ -358,7 +311,7 @@ fn sleeping_worker(alloc: Global) -> Result<History, NoMemory> {
     history.add_entry(starved(alone));
     history.add_entry(entry(2_000_000, 3_000_000, Some(0), Done::Nothing, None));
     history.set_end(End::Horizon);
-    Ok(history)
+    history
 }
 
 /// The same entry, with `A` starved.
@@ -372,50 +325,52 @@ fn starved(e: Entry) -> Entry
     }
 }
 
-#[test]
-fn the_journal_of_a_sleeping_worker(rt: HostRuntime) -> Result<(), Fail> {
-    let alloc = rt.alloc();
-    let history = sleeping_worker(alloc)?;
+/// What is written of the journal of a history, where no write fails.
+fn journal_of(rt: &impl Abort, alloc: Global, history: &History) -> MemSink {
     let mut sink = MemSink::new(Vec::new(alloc), Vec::new(alloc));
-    assert_eq!(rt; journal(alloc, &history, &mut sink), Ok(()));
+    assert_eq!(rt; journal(alloc, history, &mut sink), Ok(()));
+    sink
+}
+
+/// What is written of it up to the write of this number, which fails, as is told.
+fn failed_journal(rt: &impl Abort, alloc: Global, history: &History, failing: u32) -> MemSink {
+    let fails = vec![in alloc; failing].expect(rt, "memory");
+    let mut sink = MemSink::new(Vec::new(alloc), fails);
+    let fault = Err(JournalFault::WriteFault);
+    assert_eq!(rt; journal(alloc, history, &mut sink), fault);
+    sink
+}
+
+#[test]
+fn the_journal_of_a_sleeping_worker(rt: HostRuntime) {
+    let history = sleeping_worker(&rt, rt.alloc());
+    let whole = journal_of(&rt, rt.alloc(), &history);
     assert_eq!(rt;
-        sink.written(),
+        whole.written(),
         b"0 0 0 - - - - 1 - -\n0 0 400000 1 1 - run 0 1 -\n0 400000 1000000 0 0 - - 1 - -\n0 1000000 1001000 1 1 - repeat 1 - -\n0 1001000 1401000 1 1 - run 0 1 -\n0 1401000 2000000 0 0 - - 0 1 -\n0 2000000 3000000 0 0 - - - - -\n".as_slice()
     );
-    let mut failing = MemSink::new(Vec::new(alloc), vec![in alloc; 0]?);
-    assert_eq!(rt;
-        journal(alloc, &history, &mut failing),
-        Err(JournalFault::WriteFault)
-    );
-    assert_eq!(rt; failing.written().len(), 0);
-    Ok(())
+    let failed = failed_journal(&rt, rt.alloc(), &history, 0);
+    assert_eq!(rt; failed.written().len(), 0);
 }
 
 /// So many entries of no time.
-fn idle(alloc: Global, count: usize) -> Result<History, NoMemory>
+fn idle(rt: &impl Abort, alloc: Global, count: usize) -> History
     requires { count ≤ 5000 }
 {
-    let mut history = begun(alloc)?;
+    let mut history = begun(rt, alloc);
     for _k in 0..count {
         history.add_entry(entry(0, 0, None, Done::Nothing, None));
     }
-    Ok(history)
+    history
 }
 
 #[test]
-fn a_long_journal_fails_in_mid_stream(rt: HostRuntime) -> Result<(), Fail> {
-    let alloc = rt.alloc();
+fn a_long_journal_fails_in_mid_stream(rt: HostRuntime) {
     let line = b"0 0 0 - - - - - - -\n";
-    let history = idle(alloc, 4000)?;
-    let mut sink = MemSink::new(Vec::new(alloc), Vec::new(alloc));
-    assert_eq!(rt; journal(alloc, &history, &mut sink), Ok(()));
-    assert_eq!(rt; sink.written().len(), 4000 * line.len());
-    let mut failing = MemSink::new(Vec::new(alloc), vec![in alloc; 1]?);
-    assert_eq!(rt;
-        journal(alloc, &history, &mut failing),
-        Err(JournalFault::WriteFault)
-    );
-    assert!(rt; failing.written().len() > 0);
-    assert!(rt; sink.written().starts_with(failing.written()));
-    Ok(())
+    let history = idle(&rt, rt.alloc(), 4000);
+    let whole = journal_of(&rt, rt.alloc(), &history);
+    assert_eq!(rt; whole.written().len(), 4000 * line.len());
+    let failed = failed_journal(&rt, rt.alloc(), &history, 1);
+    assert!(rt; failed.written().len() > 0);
+    assert!(rt; whole.written().starts_with(failed.written()));
 }

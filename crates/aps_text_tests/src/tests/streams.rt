@@ -5,27 +5,40 @@ use aps_io::{
     CalmSink, CalmSource, MemSink, MemSource, ReadAnswer, ReadRefusal, Sink, Source, StdSink,
     StdSource, WriteAnswer, WriteRefusal, read_all, write_all,
 };
+use std::alloc::Global;
 use std::io::{self, ErrorKind, Read};
-use std::test::Fail;
+use std::process::Abort;
 
-#[test]
-fn a_source_is_read_to_its_end(rt: HostRuntime) -> Result<(), Fail> {
-    let alloc = rt.alloc();
-    let mut fits = CalmSource::new(b"version = 1".to_vec(alloc)?);
-    let all = read_all(alloc, &mut fits, 11)?;
-    assert_eq!(rt; all.as_slice(), b"version = 1".as_slice());
-    let mut long = CalmSource::new(b"version = 1".to_vec(alloc)?);
-    assert_eq!(rt;
-        read_all(alloc, &mut long, 10).err(),
-        Some(ReadRefusal::TooLong)
-    );
-    Ok(())
+/// A copy of these bytes.
+fn copy(rt: &impl Abort, alloc: Global, bytes: &[u8]) -> Vec<u8> {
+    bytes.to_vec(alloc).expect(rt, "memory")
+}
+
+/// A source of `version = 1` whose second read fails.
+fn failing_source(rt: &impl Abort, alloc: Global) -> MemSource {
+    let fails = vec![in alloc; 1].expect(rt, "memory");
+    MemSource::new(copy(rt, alloc, b"version = 1"), fails)
 }
 
 #[test]
-fn a_read_fails_in_mid_stream(rt: HostRuntime) -> Result<(), Fail> {
-    let alloc = rt.alloc();
-    let mut source = MemSource::new(b"version = 1".to_vec(alloc)?, vec![in alloc; 1]?);
+fn a_source_is_read_to_its_end(rt: HostRuntime) {
+    let mut fits = CalmSource::new(copy(&rt, rt.alloc(), b"version = 1"));
+    let all = read_all(rt.alloc(), &mut fits, 11).expect(&rt, "all");
+    assert_eq!(rt; all.as_slice(), b"version = 1".as_slice());
+}
+
+#[test]
+fn a_source_that_is_too_long_is_refused(rt: HostRuntime) {
+    let mut long = CalmSource::new(copy(&rt, rt.alloc(), b"version = 1"));
+    assert_eq!(rt;
+        read_all(rt.alloc(), &mut long, 10).err(),
+        Some(ReadRefusal::TooLong)
+    );
+}
+
+#[test]
+fn a_read_fails_in_mid_stream(rt: HostRuntime) {
+    let mut source = failing_source(&rt, rt.alloc());
     let mut into = [0u8; 7];
     assert_eq!(rt; source.read(&mut into), ReadAnswer::Got(7));
     assert_eq!(rt; &into, b"version");
@@ -33,26 +46,32 @@ fn a_read_fails_in_mid_stream(rt: HostRuntime) -> Result<(), Fail> {
     assert_eq!(rt; source.read(&mut into), ReadAnswer::Got(4));
     assert_eq!(rt; &into, b" = 1ion");
     assert_eq!(rt; source.read(&mut into), ReadAnswer::End);
-    let mut again = MemSource::new(b"version = 1".to_vec(alloc)?, vec![in alloc; 1]?);
-    assert_eq!(rt;
-        read_all(alloc, &mut again, 100).err(),
-        Some(ReadRefusal::ReadFault)
-    );
-    Ok(())
 }
 
 #[test]
-fn a_write_fails_between_two_texts(rt: HostRuntime) -> Result<(), Fail> {
-    let alloc = rt.alloc();
-    let mut sink = MemSink::new(b"> ".to_vec(alloc)?, vec![in alloc; 1]?);
+fn a_failing_read_is_told(rt: HostRuntime) {
+    let mut source = failing_source(&rt, rt.alloc());
+    assert_eq!(rt;
+        read_all(rt.alloc(), &mut source, 100).err(),
+        Some(ReadRefusal::ReadFault)
+    );
+}
+
+#[test]
+fn a_write_fails_between_two_texts(rt: HostRuntime) {
+    let fails = vec![in rt.alloc(); 1].expect(&rt, "memory");
+    let mut sink = MemSink::new(copy(&rt, rt.alloc(), b"> "), fails);
     assert_eq!(rt; write_all(&mut sink, b"one"), Ok(()));
     assert_eq!(rt; write_all(&mut sink, b"two"), Err(WriteRefusal::WriteFault));
     assert_eq!(rt; write_all(&mut sink, b"three"), Ok(()));
     assert_eq!(rt; sink.written(), b"> onethree".as_slice());
-    let mut calm = CalmSink::new(Vec::new(alloc));
+}
+
+#[test]
+fn a_calm_sink_takes_all(rt: HostRuntime) {
+    let mut calm = CalmSink::new(Vec::new(rt.alloc()));
     assert_eq!(rt; write_all(&mut calm, b"text"), Ok(()));
     assert_eq!(rt; calm.written(), b"text".as_slice());
-    Ok(())
 }
 
 /// A source that gives one byte a call and never ends.
@@ -76,15 +95,13 @@ impl Source for Drip {
 }
 
 #[test]
-fn a_source_without_an_end_is_stopped(rt: HostRuntime) -> Result<(), Fail> {
-    let alloc = rt.alloc();
+fn a_source_without_an_end_is_stopped(rt: HostRuntime) {
     let mut source = Drip { calls: 0 };
     assert_eq!(rt;
-        read_all(alloc, &mut source, 1000).err(),
+        read_all(rt.alloc(), &mut source, 1000).err(),
         Some(ReadRefusal::TooLong)
     );
     assert_eq!(rt; source.calls, 1001);
-    Ok(())
 }
 
 /// A reader whose second read is an error.
@@ -108,22 +125,25 @@ impl Read for Stumbling {
 }
 
 #[test]
-fn a_reader_fails_in_mid_stream(rt: HostRuntime) -> Result<(), Fail> {
-    let alloc = rt.alloc();
+fn a_reader_fails_in_mid_stream(rt: HostRuntime) {
     let mut source = StdSource::new(Stumbling { reads: 0 });
     assert_eq!(rt;
-        read_all(alloc, &mut source, 100).err(),
+        read_all(rt.alloc(), &mut source, 100).err(),
         Some(ReadRefusal::ReadFault)
     );
-    let rest = read_all(alloc, &mut source, 100)?;
+    let rest = read_all(rt.alloc(), &mut source, 100).expect(&rt, "the rest");
     assert_eq!(rt; rest.as_slice(), b"x".as_slice());
-    let mut empty = StdSource::new(rt.stdin());
-    assert_eq!(rt; read_all(alloc, &mut empty, 100)?.len(), 0);
-    Ok(())
 }
 
 #[test]
-fn a_writer_takes_nothing_in_mid_stream(rt: HostRuntime) -> Result<(), Fail> {
+fn nothing_stands_in_the_standard_input(rt: HostRuntime) {
+    let mut empty = StdSource::new(rt.stdin());
+    let all = read_all(rt.alloc(), &mut empty, 100).expect(&rt, "all");
+    assert_eq!(rt; all.len(), 0);
+}
+
+#[test]
+fn a_writer_takes_nothing_in_mid_stream(rt: HostRuntime) {
     let mut room = *b"......";
     let mut sink = StdSink::new(room.as_mut_slice());
     assert_eq!(rt; write_all(&mut sink, b"text"), Ok(()));
@@ -132,7 +152,10 @@ fn a_writer_takes_nothing_in_mid_stream(rt: HostRuntime) -> Result<(), Fail> {
         Err(WriteRefusal::WriteFault)
     );
     assert_eq!(rt; &room, b"textag");
+}
+
+#[test]
+fn the_standard_output_takes_a_text(rt: HostRuntime) {
     let mut out = StdSink::new(rt.stdout());
     assert_eq!(rt; write_all(&mut out, b"written\n"), Ok(()));
-    Ok(())
 }

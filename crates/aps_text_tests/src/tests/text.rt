@@ -1,7 +1,7 @@
 use aps_model::{Done, Entry, ThreadId};
 use aps_text::{JournalRefusal, journal_at, print_journal, read_journal};
 use std::alloc::Global;
-use std::test::Fail;
+use std::process::Abort;
 
 const SLEEPING_WORKER: &str = "\
 0 0 0 - - - - 1 - -
@@ -52,66 +52,73 @@ fn entries_of(alloc: Global, text: &str) -> Result<Vec<Entry>, JournalRefusal> {
     read_journal(alloc, text.as_bytes())
 }
 
+/// The text is a journal of so many entries, and is what they are printed as.
+fn check_journal(rt: &impl Abort, alloc: Global, text: &str, count: usize) {
+    let entries = entries_of(alloc, text).expect(rt, "a journal");
+    assert_eq!(rt; entries.len(), count);
+    let printed = print_journal(alloc, entries.as_slice()).expect(rt, "memory");
+    assert_eq!(rt; printed.as_str(), text);
+}
+
 #[test]
-fn worked_journals_are_read_and_printed_again(rt: HostRuntime) -> Result<(), Fail> {
+fn worked_journals_are_read_and_printed_again(rt: HostRuntime) {
     for (text, count) in [
         (SLEEPING_WORKER, 7),
         (SHARED_SERVER, 12),
         (REFUSED_RECEIVE, 14),
         ("", 0),
     ] {
-        let entries = entries_of(rt.alloc(), text)?;
-        assert_eq!(rt; entries.len(), count);
-        let printed = print_journal(rt.alloc(), entries.as_slice())?;
-        assert_eq!(rt; printed.as_str(), text);
+        check_journal(&rt, rt.alloc(), text, count);
     }
-    Ok(())
+}
+
+/// The one entry of a journal.
+fn only_entry(rt: &impl Abort, alloc: Global, text: &str) -> Entry {
+    let entries = entries_of(alloc, text).expect(rt, "a journal");
+    assert_eq!(rt; entries.len(), 1);
+    entries[0]
 }
 
 #[test]
-fn fields_are_told_apart(rt: HostRuntime) -> Result<(), Fail> {
+fn fields_are_told_apart(rt: HostRuntime) {
     let line = "15 9999999999999 10000000000000 1023 31 c receive:holding:7 5 3 4\n";
-    let entries = entries_of(rt.alloc(), line)?;
-    assert_eq!(rt; entries.len(), 1);
-    for entry in &entries {
-        assert_eq!(rt; entry.cpu.index(), 15);
-        assert_eq!(rt; entry.from, 9_999_999_999_999);
-        assert_eq!(rt; entry.to, 10_000_000_000_000);
-        assert_eq!(rt; entry.ran.map(|thread| thread.index()), Some(1023));
-        assert_eq!(rt; entry.billed.map(|partition| partition.index()), Some(31));
-        assert!(rt; entry.critical);
-        assert_eq!(rt; entry.done, Done::ReceiveHolding(ThreadId::at(7)));
-        assert_eq!(rt; entry.picked.map(|thread| thread.index()), Some(5));
-        assert_eq!(rt; entry.starved.map(|partition| partition.index()), Some(3));
-        assert_eq!(rt; entry.flagged.map(|cpu| cpu.index()), Some(4));
-    }
-    Ok(())
+    let entry = only_entry(&rt, rt.alloc(), line);
+    assert_eq!(rt; entry.cpu.index(), 15);
+    assert_eq!(rt; entry.from, 9_999_999_999_999);
+    assert_eq!(rt; entry.to, 10_000_000_000_000);
+    assert_eq!(rt; entry.ran.map(|thread| thread.index()), Some(1023));
+    assert_eq!(rt; entry.billed.map(|partition| partition.index()), Some(31));
+    assert!(rt; entry.critical);
+    assert_eq!(rt; entry.done, Done::ReceiveHolding(ThreadId::at(7)));
+    assert_eq!(rt; entry.picked.map(|thread| thread.index()), Some(5));
+    assert_eq!(rt; entry.starved.map(|partition| partition.index()), Some(3));
+    assert_eq!(rt; entry.flagged.map(|cpu| cpu.index()), Some(4));
 }
+
+/// Texts that are no journals, each with the place of what is wrong.
+const BAD_LINES: [(&str, u32, u32); 14] = [
+    ("0 0 x", 1, 5),
+    ("16 0 0 - - - - - - -\n", 1, 2),
+    ("0 00 0 - - - - - - -\n", 1, 4),
+    ("0 0 10000000000001 - - - - - - -\n", 1, 18),
+    ("0 0 0 1024 - - - - - -\n", 1, 10),
+    ("0 0 0 - 32 - - - - -\n", 1, 10),
+    ("0 0 0 - - C - - - -\n", 1, 11),
+    ("0 0 0 - - - receive:holding - - -\n", 1, 28),
+    ("0 0 0 - - - runs - - -\n", 1, 16),
+    ("0 0 0 - - - - - -\n", 1, 18),
+    ("0 0 0 - - - - - - - \n", 1, 20),
+    ("0 0 0 - - - - - - -", 1, 20),
+    ("0 0 0 - - - - - - -\n\n", 2, 1),
+    ("0 0 0 - - - - - - -\n0 0 0 - - - - - - -\n0", 3, 2),
+];
 
 #[test]
 fn bad_lines_have_their_places(rt: HostRuntime) {
-    for (text, line, column) in [
-        ("0 0 x", 1, 5),
-        ("16 0 0 - - - - - - -\n", 1, 2),
-        ("0 00 0 - - - - - - -\n", 1, 4),
-        ("0 0 10000000000001 - - - - - - -\n", 1, 18),
-        ("0 0 0 1024 - - - - - -\n", 1, 10),
-        ("0 0 0 - 32 - - - - -\n", 1, 10),
-        ("0 0 0 - - C - - - -\n", 1, 11),
-        ("0 0 0 - - - receive:holding - - -\n", 1, 28),
-        ("0 0 0 - - - runs - - -\n", 1, 16),
-        ("0 0 0 - - - - - -\n", 1, 18),
-        ("0 0 0 - - - - - - - \n", 1, 20),
-        ("0 0 0 - - - - - - -", 1, 20),
-        ("0 0 0 - - - - - - -\n\n", 2, 1),
-        ("0 0 0 - - - - - - -\n0 0 0 - - - - - - -\n0", 3, 2),
-    ] {
-        match entries_of(rt.alloc(), text) {
-            Err(refusal) => {
-                assert_eq!(rt; refusal, JournalRefusal::BadLine { line, column }, "{text}");
-            }
-            Ok(_) => panic!(rt; "read as a journal: {text}"),
-        }
+    for (text, line, column) in BAD_LINES {
+        let refusal = entries_of(rt.alloc(), text).err();
+        let bad_line = JournalRefusal::BadLine { line, column };
+        assert_eq!(rt; refusal, Some(bad_line), "{text}");
     }
 }
 
