@@ -11,8 +11,8 @@ first_start_folder=$root/.start
 # How many seconds a first build takes on four free cores, by which the rest is guessed.
 declare -A usual_seconds=(
     [aps_model]=125 [aps_io]=30 [aps_laws]=40 [aps_bound_laws]=20 [aps_load_laws]=60 [aps_bound]=45 [aps_merit]=15
-    [aps_levels]=30 [aps_ready]=90 [aps_window]=40 [aps_timer]=40 [aps_tree]=60 [aps_ctl]=60 [aps_core]=300 [aps_lock]=120 [aps_cpu]=115 [aps_words]=130 [aps_scenario]=300 [aps_text]=190
-    [aps_report]=150 [aps_hints]=90 [aps_samples]=200 [aps_latency]=170 [aps_explain]=240 [aps_view_words]=130 [aps_gen]=35 [aps_admit]=40 [aps_check]=60 [aps_steps]=30 [aps_lives]=170 [aps_shares]=130 [aps_bars]=100 [aps_svg]=100 [aps_pictures]=150 [aps_timeline]=150 [aps_traces]=190 [aps_waves]=400 [aps_view]=200 [apsview]=40 [aps_top]=330 [apsim]=60
+    [aps_levels]=30 [aps_ready]=150 [aps_window]=40 [aps_timer]=40 [aps_tree]=60 [aps_ctl]=60 [aps_core]=300 [aps_lock]=140 [aps_cpu]=115 [aps_words]=130 [aps_scenario]=450 [aps_text]=190
+    [aps_report]=150 [aps_hints]=120 [aps_samples]=200 [aps_latency]=170 [aps_explain]=240 [aps_view_words]=130 [aps_gen]=35 [aps_admit]=40 [aps_check]=60 [aps_steps]=30 [aps_lives]=170 [aps_shares]=130 [aps_bars]=100 [aps_svg]=100 [aps_pictures]=150 [aps_timeline]=150 [aps_traces]=190 [aps_waves]=400 [aps_view]=200 [apsview]=40 [aps_top]=330 [apsim]=180
 )
 declare -A crates_below=() chain_seconds=() build_of=() begun_at=()
 
@@ -123,14 +123,20 @@ take_over() {
     rm -rf "$2"
 }
 
-# Whether the start can hardly end sooner than what stands on this crate, of those left, at work, and begun now.
-is_pressing() {
+# The longest chain of those left, at work, and begun now.
+longest_chain() {
     local name longest=0
     for name in "${left[@]}" "${!build_of[@]}" "$beginning"; do
         ((chain_seconds[$name] <= longest)) || longest=${chain_seconds[$name]}
     done
-    ((chain_seconds[$1] * 5 >= longest * 4))
+    echo "$longest"
 }
+
+# Whether the start can hardly end sooner than what stands on this crate.
+is_pressing() { ((chain_seconds[$1] * 5 >= $(longest_chain) * 4)); }
+
+# Whether what stands on this crate would come to press, if its build had to wait long for a processor.
+may_press() { ((chain_seconds[$1] * 3 >= $(longest_chain) * 2)); }
 
 # How many processes the build that begins gets: those that press share the processors, each other has one.
 share_of() {
@@ -147,11 +153,11 @@ share_of() {
     echo "$share"
 }
 
-# Begins the build of a crate in the background, in a process group of its own. One that doesn't press yields to the others.
+# Begins the build of a crate in the background, in a process group of its own. One that can't come to press yields to the others.
 begin_build() {
     local name=$1 log=$first_start_folder/$1.log share yields=0 beginning=$1
     share=$(share_of "$name")
-    is_pressing "$name" || yields=5
+    may_press "$name" || yields=5
     rm -f "$first_start_folder/$name.status"
     set -m
     (
