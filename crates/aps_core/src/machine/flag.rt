@@ -17,6 +17,7 @@ use aps_ready::{Gates, Ready};
 
 impl Machine {
     /// The rank of a processor that keeps this, if it is idle or its thread is below a candidate of this merit.
+    #[inline(always)]
     fn rank_of(&self, parts: &[PartFacts], left: &Merit, running: &Option<Pick>) -> Option<Rank>
         ensures { result ≡ rank_of self.now parts.now left.now running.now }
     {
@@ -37,6 +38,7 @@ impl Machine {
     }
 
     /// The rank of another processor that isn't due yet.
+    #[inline(always)]
     fn looked_at(
         &self,
         entries: &[Entry],
@@ -82,6 +84,7 @@ impl Machine {
     }
 
     /// Whether some other processor that isn't due yet may be flagged for a candidate of this merit.
+    #[inline(always)]
     fn may_flag(
         &self,
         entries: &[Entry],
