@@ -29,7 +29,7 @@ const FEW_TURNS: u32 = 8;
 const SHORT_PAUSE: u64 = 32;
 
 /// The most turns for which nobody looks.
-const LONG_PAUSE: u64 = 4_096;
+const LONG_PAUSE: u64 = 256;
 
 /// What the drivers look at.
 #[derive(Drop)]
