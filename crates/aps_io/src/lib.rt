@@ -7,6 +7,7 @@ mod scripted;
 mod sink;
 mod source;
 mod standard;
+mod words;
 
 pub use all::{ReadRefusal, WriteRefusal, read_all, write_all};
 pub use calm::{CalmSink, CalmSource};
@@ -14,3 +15,4 @@ pub use scripted::{MemSink, MemSource};
 pub use sink::{Sink, WriteAnswer};
 pub use source::{ReadAnswer, Source};
 pub use standard::{StdSink, StdSource};
+pub use words::words_of;

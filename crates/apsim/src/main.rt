@@ -2,24 +2,12 @@
 #![tactic(auto)]
 
 use aps_cpu::ClockGate;
-use aps_io::{StdSink, StdSource};
+use aps_io::{StdSink, StdSource, words_of};
 use aps_top::hint::{Given, tell_person};
 use aps_top::kept::KeptSource;
 use aps_top::status::Status;
 use aps_top::top::top;
-use std::alloc::AllocError;
-use std::env;
-use std::io::ErrorKind;
 use std::process::ExitCode;
-
-/// The words after the program's name, or none where one of them isn't UTF-8: no command has such a word.
-fn words_of(rt: &HostRuntime) -> Result<Vec<String>, AllocError> {
-    match env::args(rt) {
-        Ok(args) => args.skip(1).collect(rt.alloc()),
-        Err(error) if error.kind() == ErrorKind::OutOfMemory => Err(AllocError),
-        Err(_) => Ok(Vec::new(rt.alloc())),
-    }
-}
 
 fn main(rt: HostRuntime) -> ExitCode {
     let alloc = rt.alloc();

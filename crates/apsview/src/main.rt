@@ -2,12 +2,9 @@
 //! or reads a scenario with a journal and judges that, and writes a report of the history to standard output.
 #![tactic(auto)]
 
-use aps_io::{StdSink, StdSource};
+use aps_io::{StdSink, StdSource, words_of};
 use aps_view::status::Status;
 use aps_view::top::top;
-use std::alloc::AllocError;
-use std::env;
-use std::io::ErrorKind;
 use std::process::ExitCode;
 
 /// A hint for whoever starts the program by hand.
@@ -24,15 +21,6 @@ INPUT is a scenario, or a scenario, the line `--- journal` and a journal of it; 
   vcd [--limit ENTRIES]
   gtkw [--limit ENTRIES]
   trace [--limit ENTRIES]";
-
-/// The words after the program's name, or none where one of them isn't UTF-8: no report has such a word.
-fn words_of(rt: &HostRuntime) -> Result<Vec<String>, AllocError> {
-    match env::args(rt) {
-        Ok(args) => args.skip(1).collect(rt.alloc()),
-        Err(error) if error.kind() == ErrorKind::OutOfMemory => Err(AllocError),
-        Err(_) => Ok(Vec::new(rt.alloc())),
-    }
-}
 
 fn main(rt: HostRuntime) -> ExitCode {
     let alloc = rt.alloc();
