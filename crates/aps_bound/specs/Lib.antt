@@ -1,3 +1,4 @@
+pub mod Allowed
 pub mod Usage
 pub mod Worst
 pub mod Order

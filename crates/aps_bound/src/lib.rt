@@ -3,6 +3,7 @@
 //! starved partition.
 #![tactic(auto)]
 
+mod allowed;
 mod audited;
 mod cursor;
 mod loaded;

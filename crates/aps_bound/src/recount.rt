@@ -1,7 +1,9 @@
 //! The audit by a recount of each window.
 ghost use Rattle.std.specs.Prelude.{◌≡◌, ◌+◌, ◌-◌, ◌*◌, ◌<◌, ◌≤◌};
+ghost use Rattle.aps_bound.specs.Allowed.{AreAllowed};
 ghost use Rattle.aps_bound.specs.Worst.{with_window, with_windows};
 
+use crate::allowed::{Allowed, allowed_of};
 use crate::worst::with_partitions;
 use aps_model::{Audit, History, Usage};
 
@@ -11,20 +13,22 @@ pub fn by_recount(history: &History, audit: &Audit, from: u64, end: u64) -> Audi
     requires { end ≤ 100000001 }
     ensures { result ≡ with_windows history.now audit.now from end }
 {
+    let allowed = allowed_of(history);
     let mut audit = *audit;
     for a in from..end {
-        audit = with_window(history, &audit, a);
+        audit = with_window(history, &allowed, &audit, a);
     }
     audit
 }
 
 /// The audit so far, with the window from tick `a` on.
-fn with_window(history: &History, audit: &Audit, a: u64) -> Audit
-    requires { a ≤ 100000000 }
+fn with_window(history: &History, allowed: &Allowed, audit: &Audit, a: u64) -> Audit
+    requires allowed { AreAllowed history.now allowed.now }
+    requires a { a ≤ 100000000 }
     ensures { result ≡ with_window history.now audit.now a }
 {
     let shape = history.shape();
     let b = a + u64::from(shape.window);
     let usage = Usage::of(history.entries(), shape.tick, a, b);
-    with_partitions(history, &usage, audit, a)
+    with_partitions(history, allowed, &usage, audit, a)
 }

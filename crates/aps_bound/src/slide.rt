@@ -3,6 +3,7 @@ ghost use Rattle.std.specs.Prelude.{◌≡◌, ◌+◌, ◌-◌, ◌*◌, ◌<�
 ghost use Rattle.aps_bound.specs.Order.{IsInOrder};
 ghost use Rattle.aps_bound.specs.Worst.{with_windows};
 
+use crate::allowed::allowed_of;
 use crate::window::Window;
 use crate::worst::with_partitions;
 use aps_model::{Audit, History};
@@ -18,9 +19,10 @@ pub fn by_slide(history: &History, audit: &Audit, from: u64, end: u64) -> Audit
     let entries = history.entries();
     let shape = history.shape();
     let mut window = Window::over(entries, shape.tick, from, from + u64::from(shape.window));
+    let allowed = allowed_of(history);
     let mut audit = *audit;
     for a in from..end {
-        audit = with_partitions(history, &window.usage, &audit, a);
+        audit = with_partitions(history, &allowed, &window.usage, &audit, a);
         window.slide(entries, shape.tick);
     }
     audit

@@ -1,35 +1,50 @@
 //! The greatest amounts over windows and partitions.
 ghost use Rattle.std.specs.Prelude.{◌≡◌, ◌+◌, ◌≤◌, ◌<◌, ◌*◌, ◌/◌, length, Some};
-ghost use Rattle.aps_model.specs.Audit.{allowance, worse};
-ghost use Rattle.aps_model.specs.Shape.{IsShape};
+ghost use Rattle.aps_model.specs.Audit.{worse};
 ghost use Rattle.aps_model.specs.Sums.{IsUsage};
+ghost use Rattle.aps_bound.specs.Allowed.{AreAllowed};
 ghost use Rattle.aps_bound.specs.Worst.{with_partition, with_window};
 
-use aps_model::{Audit, History, Nanos, PartitionId, Shape, Usage, Worst};
+use crate::allowed::{Allowed, allowed_at};
+use aps_model::{Audit, History, Nanos, PartitionId, Usage, Worst};
 
 /// The audit so far, with all partitions' usage of the window from tick `a` on.
-pub fn with_partitions(history: &History, usage: &Usage, audit: &Audit, a: u64) -> Audit
+pub fn with_partitions(
+    history: &History,
+    allowed: &Allowed,
+    usage: &Usage,
+    audit: &Audit,
+    a: u64,
+) -> Audit
+    requires allowed { AreAllowed history.now allowed.now }
     requires usage { IsUsage history.now.shape.tick a (a + history.now.shape.window) history.now.entries usage.now }
     requires a { a ≤ 100000000 }
     ensures { result ≡ with_window history.now audit.now a }
 {
     let mut audit = *audit;
     for p in 0..history.rows().len() {
-        audit = with_partition(history, usage, &audit, a, p);
+        audit = with_partition(history, allowed, usage, &audit, a, p);
     }
     audit
 }
 
 /// The audit so far, with one partition's usage of the window from tick `a` on.
-fn with_partition(history: &History, usage: &Usage, audit: &Audit, a: u64, p: usize) -> Audit
+fn with_partition(
+    history: &History,
+    allowed: &Allowed,
+    usage: &Usage,
+    audit: &Audit,
+    a: u64,
+    p: usize,
+) -> Audit
     requires p { p < length history.now.rows }
+    requires allowed { AreAllowed history.now allowed.now }
     requires usage { IsUsage history.now.shape.tick a (a + history.now.shape.window) history.now.entries usage.now }
     requires a { a ≤ 100000000 }
     ensures { result ≡ with_partition history.now audit.now a p }
 {
-    let shape = history.shape();
     let row = &history.rows()[p];
-    let allowed = allowance(shape, row.budget);
+    let allowed = allowed_at(allowed, history, p);
     let spent = usage.used[p];
     let over = spent.saturating_sub(allowed);
     let short = allowed.saturating_sub(spent);
@@ -42,15 +57,6 @@ fn with_partition(history: &History, usage: &Usage, audit: &Audit, a: u64, p: us
         worst_short: worse(&audit.worst_short, short, partition, window),
         critical_worst: worse(&audit.critical_worst, critical, partition, window),
     }
-}
-
-/// The time that a budget allows in a window.
-fn allowance(shape: &Shape, budget: u16) -> Nanos
-    requires shape { IsShape shape.now }
-    requires budget { budget ≤ 1000 }
-    ensures { result ≡ allowance shape.now budget }
-{
-    u64::from(budget) * shape.whole() / u64::from(shape.parts)
 }
 
 /// The worst so far, unless this amount is greater.

@@ -1,5 +1,5 @@
 //! The windows of a history: what each partition used in each.
-ghost use Rattle.std.specs.Prelude.{◌≡◌, ◌≤◌, ◌<◌, ◌+◌, ◌*◌, ◌++◌, ◌∷◌, All, codes, decimal, length, string_bytes, IfOk, OnOk};
+ghost use Rattle.std.specs.Prelude.{◌≡◌, ◌≤◌, ◌<◌, ◌+◌, ◌*◌, ◌/◌, ◌++◌, ◌∷◌, All, codes, decimal, length, string_bytes, IfOk, OnOk};
 ghost use Rattle.std.specs.List.{flat_map, range_with_len};
 ghost use Rattle.aps_model.specs.Shape.{IsShape};
 ghost use Rattle.aps_model.specs.History.{IsEntry};
@@ -9,6 +9,7 @@ ghost use Rattle.aps_report.specs.Windows.{part_in, cell_words, window_with, Hav
 use crate::lines::add_end;
 use crate::zeros::zeros;
 use aps_model::{Entry, History, NoMemory, Shape, finished_ticks, overlap};
+use aps_ticks::tick_of;
 use std::alloc::Global;
 use std::fmt::Write;
 
@@ -117,25 +118,31 @@ fn table_of(
     ensures { IfOk result (λ cells. AreUsed shape.now entries.now windows cells.items) }
 {
     let mut cells = zeros(alloc, windows * PARTITIONS)?;
+    let span = u64::from(shape.window) * shape.tick;
+    let mut at_hand = 0;
     for e in entries {
-        add_entry(&mut cells, shape, windows, e);
+        at_hand = tick_of(span, e.from, at_hand);
+        add_entry(&mut cells, shape, windows, e, span, at_hand);
     }
     Ok(cells)
 }
 
-fn add_entry(cells: &mut [u128], shape: &Shape, windows: usize, e: &Entry)
+/// Adds an entry that begins in this window, where a window has so many ns.
+fn add_entry(cells: &mut [u128], shape: &Shape, windows: usize, e: &Entry, span: u64, first: u64)
     requires shape { IsShape shape.now }
     requires windows { windows ≤ 100000000 }
     requires entry { IsEntry e.now }
+    requires span { span ≡ shape.now.window * shape.now.tick }
+    requires first { first ≡ e.now.from / span }
+    requires near { first * span ≤ 10000000000000 }
     requires places { length cells.old ≡ windows * 32 }
     requires room { HaveCellRoom cells.old }
     ensures { HaveEntry shape.now e.now cells.old cells.new }
 {
     if let Some(p) = e.billed {
-        let span = u64::from(shape.window) * shape.tick;
-        let first = (e.from / span) as usize;
-        let past = windows.min((e.to / span) as usize + 1);
-        add_parts(cells, shape, p.index(), first.min(past), past, e);
+        let past = windows.min(tick_of(span, e.to, first) as usize + 1);
+        let first = (first as usize).min(past);
+        add_parts(cells, shape, p.index(), first, past, e);
     }
 }
 

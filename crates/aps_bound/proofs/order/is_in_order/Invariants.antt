@@ -1,5 +1,9 @@
+use Rattle.std.proofs.Common.{◌*◌, ◌≤◌}
 use Rattle.aps_bound.proofs.Rising.{IsOrderedTo}
 use Rattle.aps_bound.proofs.order.is_in_order.Given as goal
 
 abbrev pub invariant-loop-e : goal.invariant-loop-e
-invariant-loop-e l = IsOrderedTo l.tick l.entries l.e-index l.last
+invariant-loop-e l = record {
+  ordered : IsOrderedTo l.tick l.entries l.e-index l.last;
+  near : l.at_hand * l.tick ≤ 10000000000000;
+}

@@ -1,6 +1,9 @@
-use Rattle.std.proofs.Common.{take}
+use Rattle.std.proofs.Common.{◌*◌, ◌≤◌, take}
 use Rattle.aps_report.specs.Windows.{AreUsed}
 use Rattle.aps_report.proofs.by_window.table_of.Given as goal
 
 abbrev pub invariant-loop-e : goal.invariant-loop-e
-invariant-loop-e l = AreUsed l.shape (take l.e-index l.entries) l.windows l.cells.items
+invariant-loop-e l = record {
+  used : AreUsed l.shape (take l.e-index l.entries) l.windows l.cells.items;
+  near : l.at_hand * l.span ≤ 10000000000000;
+}
