@@ -5,6 +5,7 @@ use Rattle.std.proofs.lemmas.Bool.{cases_eq}
 use Rattle.std.proofs.lemmas.Bool.Decides.{nat_tests}
 use Rattle.std.proofs.lemmas.Nat.Bits.{bit_at_and, bit_at_or, bit_at_not, bit_at-lt, bit_at_above, bit_at_set_same, bit_at_set_other, bit_at_clear_same, bit_at_clear_other, bit_at_ones, bit_at_ones_above, bit_at_lowest, bit_at-suc, bit_at-zero, bit_at_cat_low, bit_at_cat_high, same_from_bits}
 use Rattle.std.proofs.lemmas.Nat.{and_le_l, pow-add, pow_pos}
+use Rattle.std.proofs.Math.Pow.{pow-lt}
 use Rattle.std.proofs.Math.Nat.{div-div-eq-div-mul, add-mul}
 
 below_or_not : (a b : ℕ) → (a < b) ⊎ (b ≤ a)
@@ -82,6 +83,36 @@ lower_bit word k = elim (below_or_not k 32) [
   | inl low ↦ low_bit word k (bit_at 4294967295 k) low (bit_at_ones 32 k low) (bit_at_and word 4294967295 k)
   | inr high ↦ high_bit word k (bit_at 4294967295 k) high (bit_at_ones_above 32 k high) (bit_at_and word 4294967295 k)
 ]
+
+-- a mask of the bits below i keeps these
+within_mask : (word mask i k b : ℕ) → k < i → b ≡ 1 → bit_at (bit_and word mask) k ≡ min (bit_at word k) b
+    → is_set (bit_and word mask) k ≡ (nat_lt k i && is_set word k)
+within_mask word mask i k b low one both = grind (arith, nat_tests, bit_at-lt word k)
+
+past_mask : (word mask i k b : ℕ) → i ≤ k → b ≡ 0 → bit_at (bit_and word mask) k ≡ min (bit_at word k) b
+    → is_set (bit_and word mask) k ≡ (nat_lt k i && is_set word k)
+past_mask word mask i k b high none both = grind (arith, nat_tests)
+
+pub below_bit : (word i k : ℕ) → i < 64 → is_set (bit_and word (1 * 2 ^ i % 18446744073709551616 - 1)) k ≡ (nat_lt k i && is_set word k)
+below_bit word i k within =
+    let small : 2 ^ i < 2 ^ 64 = pow-lt within in
+    let power : 1 * 2 ^ i % 18446744073709551616 ≡ 2 ^ i = omega (arith, small) in
+    ap (λ (n : ℕ). is_set (bit_and word (n - 1)) k) power ∙ (elim (below_or_not k i) [
+      | inl low ↦ within_mask word (2 ^ i - 1) i k (bit_at (2 ^ i - 1) k) low (bit_at_ones i k low) (bit_at_and word (2 ^ i - 1) k)
+      | inr high ↦ past_mask word (2 ^ i - 1) i k (bit_at (2 ^ i - 1) k) high (bit_at_ones_above i k high) (bit_at_and word (2 ^ i - 1) k)
+    ])
+
+pub all_below : (word i k : ℕ) → word < 2 ^ 64 → 64 ≤ i → is_set word k ≡ (nat_lt k i && is_set word k)
+all_below word i k fits past = elim (below_or_not k 64) [
+  | inl low ↦ inside (is_set word k) (omega (arith, low, past))
+  | inr high ↦ none (is_set word k) (ap (λ b. nat_eq b 1) (bit_at_above word 64 k fits high))
+]
+  where
+    inside : (t : Bool) → k < i → t ≡ (nat_lt k i && t)
+    inside t low = grind (arith, nat_tests)
+
+    none : (t : Bool) → t ≡ false → t ≡ (nat_lt k i && t)
+    none t h = grind (arith, nat_tests)
 
 -- ---- a number less 1, and the lowest bit
 

@@ -133,6 +133,20 @@ impl Bits64 {
         }
     }
 
+    /// The numbers below `end`.
+    #[inline(always)]
+    pub fn below(self, end: usize) -> Bits64
+        ensures { (k : ℕ) → has result k ≡ (nat_lt k end && has self k) }
+    {
+        if end < 64 {
+            Bits64 {
+                word: self.word & ((1 << end) - 1),
+            }
+        } else {
+            self
+        }
+    }
+
     /// The least number of the set; none exactly where the set is empty.
     #[inline(always)]
     pub fn least(self) -> Option<usize>

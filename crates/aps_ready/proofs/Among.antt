@@ -7,11 +7,11 @@ use Rattle.aps_ready.specs.declared.entrant.Entrant.{Entrant}
 use Rattle.aps_ready.specs.declared.leaders.Leaders.{Leaders}
 use Rattle.aps_ready.specs.Entrant.{entrant_at, vacant, goes_before}
 use Rattle.aps_ready.specs.Choice.{has_used_less, ahead_by, is_ahead}
-use Rattle.aps_ready.specs.Index.{level_of, AreLeast, AreEmpty}
+use Rattle.aps_ready.specs.Index.{level_of, AreLeast, AreLevel, AreEmpty}
 use Rattle.aps_ready.specs.Best.{Sits, IsBest}
 use Rattle.aps_ready.specs.Leaders.{is_less_than, AreLeaders, IsEarliest}
 use Rattle.aps_ready.proofs.Tops.{IsTop, IsKept, top_of, not_vacant}
-use Rattle.aps_ready.proofs.Fractions.{smaller_chain, smaller_one_way, not_more_than_smaller, has_budget}
+use Rattle.aps_ready.proofs.Fractions.{smaller_chain, smaller_one_way, smaller_not_itself, not_more_than_smaller, has_budget}
 
 below_or_not : (a b : ℕ) → (a < b) ⊎ (b ≤ a)
 below_or_not a b = search arith
@@ -138,6 +138,66 @@ best_of_leaders parts row brackets firsts wanted found leaders best kept are lea
     behind x within here among t h =
         ap (λ (g : ℕ). ahead_by (part_at parts ((entrant_at row x).group % 32)) (part_at parts (g % 32)) (goes_before (entrant_at row x) best)) own_group
         ∙ behind_b x within here among t h
+
+-- ---- groups at one level
+
+pub level_of_least : (firsts : List Entrant) (set found : ℕ → Bool) → AreLeast firsts set found → AreLevel firsts found
+level_of_least firsts set found least = record {
+  level = least.level;
+  below = least.below;
+  same = λ g below h. same_of (level_of firsts g) least.level (both (nat_eq (level_of firsts g) least.level) (set g) (sym (least.these g below) ∙ h)).0;
+}
+
+-- each of them is at the least level
+pub least_at_level : (firsts : List Entrant) (set leading : ℕ → Bool) (group : ℕ) → AreLevel firsts set
+    → ((g : ℕ) → g < 64 → leading g ≡ true → set g ≡ true) → group < 64 → leading group ≡ true → AreLeast firsts leading leading
+least_at_level firsts set leading group at inside below here = record {
+  level = at.level;
+  below = at.below;
+  group = group;
+  inside = below;
+  some = here;
+  these = λ g g_below. own (leading g) (nat_eq (level_of firsts g) at.level)
+      (λ h. equal (level_of firsts g) at.level (at.same g g_below (inside g g_below h)));
+  least = λ g g_below h. omega (arith, at.same g g_below (inside g g_below h));
+}
+  where
+    own : (t s : Bool) → (t ≡ true → s ≡ true) → t ≡ (s && t)
+    own true true h = refl
+    own true false h = sym (h refl)
+    own false true h = refl
+    own false false h = refl
+
+-- ---- one group alone
+
+pub best_of_one : (parts : List PartFacts) (row : List Entrant) (brackets : List (List Entrant)) (firsts : List Entrant) (wanted : ℕ → Bool)
+    (g : ℕ) → IsKept row brackets firsts → g < 64 → level_of firsts g < 256 → wanted g ≡ true
+    → ((k : ℕ) → k < 64 → wanted k ≡ true → k ≡ g) → IsBest parts row wanted (entrant_at firsts g)
+best_of_one parts row brackets firsts wanted g kept below level here one = record {
+  inside = λ there. subst (λ (k : ℕ). wanted k ≡ true) (sym (top.group there)) here;
+  sits = top.sits;
+  nobody = λ _. top_there;
+  others = λ x within x_here among. (top_there, behind x within (one (entrant_at row x).group x_here among));
+}
+  where
+    top : IsTop row g (entrant_at firsts g)
+    top = top_of row brackets firsts g kept below
+
+    top_there : (entrant_at firsts g).group < 64
+    top_there = elim (below_or_not (entrant_at firsts g).group 64) [
+      | inl there ↦ there
+      | inr none ↦ absurd (omega (arith, level, ap (λ (e : Entrant). e.level) (top.none (λ there. omega (arith, there, none)))))
+    ]
+
+    part : PartFacts
+    part = part_at parts (g % 32)
+
+    behind : (x : ℕ) → x < length row → (entrant_at row x).group ≡ g → is_ahead parts (entrant_at row x) (entrant_at firsts g) ≡ false
+    behind x within own =
+        ap (λ (k : ℕ). ahead_by (part_at parts (k % 32)) (part_at parts ((entrant_at firsts g).group % 32)) (goes_before (entrant_at row x) (entrant_at firsts g))) own
+        ∙ ap (λ (k : ℕ). ahead_by part (part_at parts (k % 32)) (goes_before (entrant_at row x) (entrant_at firsts g))) (top.group top_there)
+        ∙ behind_by_rest part part (goes_before (entrant_at row x) (entrant_at firsts g)) (smaller_not_itself part.used part.budget)
+        (top.first x within own).1
 
 -- nobody is best where nobody leads
 pub best_of_nobody : (parts : List PartFacts) (row : List Entrant) (firsts : List Entrant) (wanted : ℕ → Bool) (leaders : Leaders) (best : Entrant)

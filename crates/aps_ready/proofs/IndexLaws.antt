@@ -1,4 +1,4 @@
-use Rattle.std.proofs.Common.{◌≡◌, ◌≢◌, ◌⊎◌, inl, inr, ℕ, ◌+◌, ◌<◌, ◌≤◌, Bool, true, false, cond, not, ◌&&◌, ◌||◌, nat_eq, nat_lt, List, length, set, refl, sym, ◌∙◌, ap, arith, length-set, get_or-set_same, get_or-set_other}
+use Rattle.std.proofs.Common.{◌≡◌, ◌≢◌, ◌⊎◌, inl, inr, ℕ, ◌+◌, ◌<◌, ◌≤◌, Bool, true, false, cond, not, ◌&&◌, ◌||◌, nat_eq, nat_lt, List, length, get_or, set, refl, sym, ◌∙◌, ap, arith, length-set, get_or-set_same, get_or-set_other}
 use Rattle.std.proofs.lemmas.Bool.{cases_eq}
 use Rattle.std.proofs.lemmas.Bool.Decides.{nat_tests}
 use Rattle.aps_levels.specs.declared.bits.Bits64.{Bits64}
@@ -7,7 +7,7 @@ use Rattle.aps_levels.specs.Bits.{has}
 use Rattle.aps_levels.specs.Levels.{has_level}
 use Rattle.aps_ready.specs.declared.entrant.Entrant.{Entrant}
 use Rattle.aps_ready.specs.Entrant.{vacant}
-use Rattle.aps_ready.specs.Index.{level_of, bits_at, no_bits, IsIndex, AreLeast}
+use Rattle.aps_ready.specs.Index.{level_of, bits_at, no_bits, IsIndex, AreLeast, AreStamps}
 
 -- ---- a group gets another level
 
@@ -111,6 +111,23 @@ index_set firsts at_level left entered levels fewer more old_some new_some group
           (index.in_use l g l_below g_below (kept (not (nat_eq l before && nat_eq g group)) (has (bits_at at_level l) g) (sym (leave l g l_below) ∙ still))));
       occupied = occupied_set firsts old_some new_some group first (omega (arith, index.groups, g_small)) index.occupied put;
     }
+
+-- the stamp of the group's first is set with it
+pub stamps_set : (firsts : List Entrant) (stamps : List ℕ) (group : ℕ) (first : Entrant) → AreStamps firsts stamps → group < length firsts
+    → AreStamps (set firsts group first) (set stamps group first.stamp)
+stamps_set firsts stamps group first are inside = record {
+  count = length-set stamps group first.stamp ∙ are.count;
+  same = λ g below. elim (cases_eq g group) [
+    | inl same ↦
+        let here : get_or (set stamps group first.stamp) group 0 ≡ first.stamp = get_or-set_same stamps group first.stamp 0 (omega (arith, are.count, same, below)) in
+        ap (λ (k : ℕ). get_or (set stamps group first.stamp) k 0) same ∙ here
+        ∙ sym (ap (λ (k : ℕ). (get_or (set firsts group first) k vacant).stamp) same
+        ∙ ap (λ (e : Entrant). e.stamp) (get_or-set_same firsts group first vacant inside))
+    | inr ne ↦
+        get_or-set_other stamps group g first.stamp 0 ne ∙ are.same g below
+        ∙ sym (ap (λ (e : Entrant). e.stamp) (get_or-set_other firsts group g first vacant ne))
+  ];
+}
 
 -- a level that is left by its last group is no longer in use
 pub left_in_use : (at_level : List Bits64) (levels fewer : Levels) (rest : Bits64) (level l g : ℕ) → length at_level ≡ 256 → level < 256

@@ -6,8 +6,12 @@ use Rattle.aps_model.specs.Budget.{part_at}
 use Rattle.aps_levels.specs.declared.bits.Bits64.{Bits64}
 use Rattle.aps_levels.specs.Bits.{has}
 use Rattle.aps_ready.specs.declared.leaders.Leaders.{Leaders}
-use Rattle.aps_ready.specs.Leaders.{is_less_than, is_more_than, AreLeaders}
-use Rattle.aps_ready.proofs.Fractions.{smaller_one_way, smaller_not_itself, smaller_than_more}
+use Rattle.aps_ready.specs.declared.leaders.Wanted.{Wanted}
+use Rattle.aps_ready.specs.Best.{is_allowed, is_wanted}
+use Rattle.aps_ready.specs.Gates.{is_open_first}
+use Rattle.aps_ready.specs.Leaders.{is_less_than, is_more_than, may_lead, HasGroup, AreEligible, AreLeading, AreLeaders}
+use Rattle.aps_ready.specs.Small.{IsSmall}
+use Rattle.aps_ready.proofs.Fractions.{smaller_one_way, smaller_not_itself, smaller_than_more, has_budget}
 
 clash : (t : Bool) → t ≡ true → t ≡ false → ⊥
 clash t p q = cc
@@ -16,25 +20,54 @@ either : (a b : Bool) → (a || b) ≡ true → (a ≡ true) ⊎ (b ≡ true)
 either true b h = inl refl
 either false b h = inr h
 
+or_left : (a b : Bool) → a ≡ true → (a || b) ≡ true
+or_left true b h = refl
+or_left false b h = absurd cc
+
+or_right : (a b : Bool) → b ≡ true → (a || b) ≡ true
+or_right true b h = refl
+or_right false b h = h
+
+pair : (a b : Bool) → a ≡ true → b ≡ true → (a && b) ≡ true
+pair a b h k = rw (h, k) refl
+
+first : (a b : Bool) → (a && b) ≡ true → a ≡ true
+first true b h = refl
+first false b h = absurd cc
+
+second : (a b : Bool) → (a && b) ≡ true → b ≡ true
+second true b h = h
+second false b h = absurd cc
+
+pub same_of : (a b : ℕ) → nat_eq a b ≡ true → a ≡ b
+same_of a b h = grind (arith, nat_tests)
+
+equal : (a b : ℕ) → a ≡ b → nat_eq a b ≡ true
+equal a b h = grind (arith, nat_tests)
+
 -- ---- the same groups, told otherwise
 
-pub leaders_same : (parts : List PartFacts) (before after : ℕ → Bool) (leaders : Leaders) → ((g : ℕ) → g < 64 → before g ≡ after g)
-    → AreLeaders parts before leaders → AreLeaders parts after leaders
-leaders_same parts before after leaders same are = record {
-  these = λ g below. are.these g below ∙ ap (λ (t : Bool). t && not (is_less_than parts leaders.used leaders.budget g)) (same g below);
+pub leading_same : (parts : List PartFacts) (wanted : Wanted) (before after : ℕ → Bool) (leaders : Leaders)
+    → ((g : ℕ) → g < 64 → before g ≡ after g) → AreLeading parts wanted before leaders → AreLeading parts wanted after leaders
+leading_same parts wanted before after leaders same are = record {
+  level = are.level;
+  all = λ g below h. are.all g below (same g below ∙ h);
   least = λ g below h. are.least g below (same g below ∙ h);
-  some = are.some;
+  allowed = are.allowed;
+  some = λ have. let s = are.some have in (s.0, s.1, sym (same s.0 s.1) ∙ s.2, s.3);
   one = are.one;
   used = are.used;
   budget = are.budget;
 }
 
 -- nobody leads where nobody was seen
-pub no_leaders : (parts : List PartFacts) (seen : ℕ → Bool) (leaders : Leaders) → ((g : ℕ) → g < 64 → seen g ≡ false)
-    → ((g : ℕ) → has leaders.groups g ≡ false) → leaders.used ≡ 1 → leaders.budget ≡ 0 → AreLeaders parts seen leaders
-no_leaders parts seen leaders unseen none one no_budget = record {
-  these = λ g below. none g ∙ sym (ap (λ (t : Bool). t && not (is_less_than parts leaders.used leaders.budget g)) (unseen g below));
+pub none_leading : (parts : List PartFacts) (wanted : Wanted) (seen : ℕ → Bool) (leaders : Leaders) → ((g : ℕ) → g < 64 → seen g ≡ false)
+    → ((g : ℕ) → has leaders.groups g ≡ false) → leaders.used ≡ 1 → leaders.budget ≡ 0 → AreLeading parts wanted seen leaders
+none_leading parts wanted seen leaders unseen none one no_budget = record {
+  level = λ g _ h. absurd (clash (has leaders.groups g) h (none g));
+  all = λ g below h. absurd (clash (seen g) h (unseen g below));
   least = λ g below h. absurd (clash (seen g) h (unseen g below));
+  allowed = λ g _ h. absurd (clash (has leaders.groups g) h (none g));
   some = λ have. absurd (omega (arith, have, no_budget));
   one = λ _. one;
   used = omega (arith, one);
@@ -43,149 +76,177 @@ no_leaders parts seen leaders unseen none one no_budget = record {
 
 -- ---- the groups of one more partition
 
--- these are of the partition, whose facts are these
-abbrev AreOf : List PartFacts → (ℕ → Bool) → ℕ → Type 0
-AreOf parts more p = (g : ℕ) → g < 64 → more g ≡ true → part_at parts (g % 32) ≡ part_at parts p
+-- those of them that are wanted
+abbrev pub more_of : List PartFacts → Wanted → ℕ → ℕ → Bool
+more_of parts wanted p g = is_wanted parts wanted g && nat_eq (g % 32) p
 
-no_more : (a : Bool) → (a || false) ≡ a
-no_more true = refl
-no_more false = refl
+-- the partition of the group stands so
+part_here : (parts : List PartFacts) (part : PartFacts) (p g : ℕ) → part ≡ part_at parts p → g % 32 ≡ p → part_at parts (g % 32) ≡ part
+part_here parts part p g is own = ap (part_at parts) own ∙ sym is
 
-pub none_more : (parts : List PartFacts) (seen more : ℕ → Bool) (leaders : Leaders) → ((g : ℕ) → g < 64 → more g ≡ false)
-    → AreLeaders parts seen leaders → AreLeaders parts (λ g. seen g || more g) leaders
-none_more parts seen more leaders none are =
-    leaders_same parts seen (λ g. seen g || more g) leaders (λ g below. sym (ap (λ (t : Bool). seen g || t) (none g below) ∙ no_more (seen g))) are
+allowed_here : (parts : List PartFacts) (wanted : Wanted) (part : PartFacts) (p g : ℕ) → part ≡ part_at parts p → g % 32 ≡ p
+    → is_allowed parts wanted g ≡ may_lead wanted part g
+allowed_here parts wanted part p g is own =
+    ap (λ (q : PartFacts). not wanted.first_alone || is_open_first q (nat_lt 31 g)) (part_here parts part p g is own)
+
+own_of : (parts : List PartFacts) (wanted : Wanted) (p g : ℕ) → more_of parts wanted p g ≡ true → g % 32 ≡ p
+own_of parts wanted p g h = same_of (g % 32) p (second (is_wanted parts wanted g) (nat_eq (g % 32) p) h)
+
+-- whichever of them are wanted are eligible
+more_in : (parts : List PartFacts) (wanted : Wanted) (part : PartFacts) (p : ℕ) (these : ℕ → Bool) → part ≡ part_at parts p
+    → AreEligible wanted part p these → (g : ℕ) → g < 64 → more_of parts wanted p g ≡ true → these g ≡ true
+more_in parts wanted part p these is eligible g below h =
+    let own = own_of parts wanted p g h in
+    let want = first (is_wanted parts wanted g) (nat_eq (g % 32) p) h in
+    eligible.all g below (first (has wanted.groups g) (is_allowed parts wanted g) want)
+    (sym (allowed_here parts wanted part p g is own) ∙ second (has wanted.groups g) (is_allowed parts wanted g) want) own
+
+pub none_more : (parts : List PartFacts) (wanted : Wanted) (seen : ℕ → Bool) (leaders : Leaders) (part : PartFacts) (p : ℕ) (these : ℕ → Bool)
+    → part ≡ part_at parts p → AreEligible wanted part p these → ((g : ℕ) → these g ≡ false)
+    → AreLeading parts wanted seen leaders → AreLeading parts wanted (λ g. seen g || more_of parts wanted p g) leaders
+none_more parts wanted seen leaders part p these is eligible none are =
+    leading_same parts wanted seen (λ g. seen g || more_of parts wanted p g) leaders
+    (λ g below. sym (ap (λ (t : Bool). seen g || t) (no_more g below (more_of parts wanted p g) refl) ∙ or_none (seen g))) are
+  where
+    or_none : (a : Bool) → (a || false) ≡ a
+    or_none true = refl
+    or_none false = refl
+
+    no_more : (g : ℕ) → g < 64 → (t : Bool) → more_of parts wanted p g ≡ t → more_of parts wanted p g ≡ false
+    no_more g below true h = absurd (clash (these g) (more_in parts wanted part p these is eligible g below h) (none g))
+    no_more g below false h = h
 
 -- the partition has used less
-pub less_more : (parts : List PartFacts) (seen more : ℕ → Bool) (old new : Leaders) (p k : ℕ) → AreLeaders parts seen old → AreOf parts more p
-    → ((g : ℕ) → g < 64 → has new.groups g ≡ more g) → k < 64 → has new.groups k ≡ true
-    → new.used ≡ (part_at parts p).used → new.budget ≡ (part_at parts p).budget → new.used ≤ 100000000000000 → new.budget ≤ 1000
-    → smaller new.used new.budget old.used old.budget ≡ true → 0 < new.budget
-    → AreLeaders parts (λ g. seen g || more g) new
-less_more parts seen more old new p k are of these k_below k_in used_is budget_is used_small budget_small h have = record {
-  these = λ g below. picked (has new.groups g) (seen g) (more g) (is_less_than parts new.used new.budget g) (these g below) (own_less g below) (seen_less g below);
-  least = λ g below among. elim (either (seen g) (more g) among) [
-    | inl s ↦ smaller_one_way new.used new.budget (part_at parts (g % 32)).used (part_at parts (g % 32)).budget (seen_less g below s)
-    | inr m ↦ own_more g below m
+pub less_more : (parts : List PartFacts) (wanted : Wanted) (seen : ℕ → Bool) (old : Leaders) (part : PartFacts) (p budget k : ℕ) (groups : Bits64)
+    → part ≡ part_at parts p → AreEligible wanted part p (has groups) → AreLeading parts wanted seen old → IsSmall part → budget ≡ part.budget
+    → smaller part.used part.budget old.used old.budget ≡ true → k < 64 → has groups k ≡ true
+    → AreLeading parts wanted (λ g. seen g || more_of parts wanted p g) (record { groups = groups; used = part.used; budget = budget })
+less_more parts wanted seen old part p budget k groups is eligible are small same less k_below k_in = record {
+  level = λ g below h.
+      ap (λ (q : PartFacts). smaller part.used budget q.used q.budget) (part_here parts part p g is (eligible.own g below h)) ∙ self;
+  all = λ g below among not_less. elim (either (seen g) (more_of parts wanted p g) among) [
+    | inl s ↦ absurd (clash (is_less_than parts part.used budget g) (seen_less g below s) not_less)
+    | inr m ↦ more_in parts wanted part p (has groups) is eligible g below m
   ];
-  some = λ _. (k, k_below, k_in);
-  one = λ none. absurd (omega (arith, none, have));
-  used = used_small;
-  budget = budget_small;
+  least = λ g below among. elim (either (seen g) (more_of parts wanted p g) among) [
+    | inl s ↦ smaller_one_way part.used budget (part_at parts (g % 32)).used (part_at parts (g % 32)).budget (seen_less g below s)
+    | inr m ↦
+        ap (λ (q : PartFacts). smaller q.used q.budget part.used budget) (part_here parts part p g is (own_of parts wanted p g m)) ∙ self_too
+  ];
+  allowed = λ g below h. allowed_here parts wanted part p g is (eligible.own g below h) ∙ eligible.may g below h;
+  some = λ _.
+      let s = eligible.some k k_below k_in in
+      let own = eligible.own s.0 s.1 s.3 in
+      let may = allowed_here parts wanted part p s.0 is own ∙ eligible.may s.0 s.1 s.3 in (
+        s.0,
+        s.1,
+        or_right (seen s.0) (more_of parts wanted p s.0)
+            (pair (is_wanted parts wanted s.0) (nat_eq (s.0 % 32) p) (pair (has wanted.groups s.0) (is_allowed parts wanted s.0) s.2 may) (equal (s.0 % 32) p own)),
+        s.3,
+      );
+  one = λ none. absurd (omega (arith, none, same, has_budget part.used part.budget old.used old.budget less));
+  used = small.used;
+  budget = omega (arith, same, small.budget);
 }
   where
-    picked : (t s m x : Bool) → t ≡ m → (m ≡ true → x ≡ false) → (s ≡ true → x ≡ true) → t ≡ ((s || m) && not x)
-    picked t s true true e i j = absurd (clash true refl (i refl))
-    picked t true true false e i j = absurd (clash true refl (sym (j refl)))
-    picked t false true false e i j = e
-    picked t true false true e i j = e
-    picked t true false false e i j = absurd (clash true refl (sym (j refl)))
-    picked t false false x e i j = e
+    self : smaller part.used budget part.used part.budget ≡ false
+    self = ap (λ (b : ℕ). smaller part.used b part.used part.budget) same ∙ smaller_not_itself part.used part.budget
 
-    seen_less : (g : ℕ) → g < 64 → seen g ≡ true → is_less_than parts new.used new.budget g ≡ true
-    seen_less g below s = smaller_than_more new.used new.budget (part_at parts (g % 32)).used (part_at parts (g % 32)).budget old.used old.budget h
-        (are.least g below s)
+    self_too : smaller part.used part.budget part.used budget ≡ false
+    self_too = ap (λ (b : ℕ). smaller part.used part.budget part.used b) same ∙ smaller_not_itself part.used part.budget
 
-    own_is : (g : ℕ) → g < 64 → more g ≡ true
-        → ((part_at parts (g % 32)).used ≡ new.used) × ((part_at parts (g % 32)).budget ≡ new.budget)
-    own_is g below m = (
-      ap (λ (q : PartFacts). q.used) (of g below m) ∙ sym used_is,
-      ap (λ (q : PartFacts). q.budget) (of g below m) ∙ sym budget_is,
-    )
-
-    own_less : (g : ℕ) → g < 64 → more g ≡ true → is_less_than parts new.used new.budget g ≡ false
-    own_less g below m =
-        ap (λ (u : ℕ). smaller new.used new.budget u (part_at parts (g % 32)).budget) (own_is g below m).0
-        ∙ ap (smaller new.used new.budget new.used) (own_is g below m).1 ∙ smaller_not_itself new.used new.budget
-
-    own_more : (g : ℕ) → g < 64 → more g ≡ true → is_more_than parts new.used new.budget g ≡ false
-    own_more g below m =
-        ap (λ (u : ℕ). smaller u (part_at parts (g % 32)).budget new.used new.budget) (own_is g below m).0
-        ∙ ap (λ (b : ℕ). smaller new.used b new.used new.budget) (own_is g below m).1 ∙ smaller_not_itself new.used new.budget
+    seen_less : (g : ℕ) → g < 64 → seen g ≡ true → is_less_than parts part.used budget g ≡ true
+    seen_less g below s =
+        smaller_than_more part.used budget (part_at parts (g % 32)).used (part_at parts (g % 32)).budget old.used old.budget
+        (ap (λ (b : ℕ). smaller part.used b old.used old.budget) same ∙ less) (are.least g below s)
 
 -- it has used no less; whether it has used more says who leads
-not_less_more : (parts : List PartFacts) (seen more : ℕ → Bool) (old : Leaders) (p : ℕ) → AreLeaders parts seen old → AreOf parts more p
-    → smaller (part_at parts p).used (part_at parts p).budget old.used old.budget ≡ false
-    → (g : ℕ) → g < 64 → (seen g || more g) ≡ true → is_more_than parts old.used old.budget g ≡ false
-not_less_more parts seen more old p are of h g below among = elim (either (seen g) (more g) among) [
+not_less_more : (parts : List PartFacts) (wanted : Wanted) (seen : ℕ → Bool) (old : Leaders) (part : PartFacts) (p : ℕ) → part ≡ part_at parts p
+    → AreLeading parts wanted seen old → smaller part.used part.budget old.used old.budget ≡ false
+    → (g : ℕ) → g < 64 → (seen g || more_of parts wanted p g) ≡ true → is_more_than parts old.used old.budget g ≡ false
+not_less_more parts wanted seen old part p is are h g below among = elim (either (seen g) (more_of parts wanted p g) among) [
   | inl s ↦ are.least g below s
-  | inr m ↦ ap (λ (q : PartFacts). smaller q.used q.budget old.used old.budget) (of g below m) ∙ h
+  | inr m ↦ ap (λ (q : PartFacts). smaller q.used q.budget old.used old.budget) (part_here parts part p g is (own_of parts wanted p g m)) ∙ h
 ]
 
 -- it has used the same fraction
-pub equal_more : (parts : List PartFacts) (seen more : ℕ → Bool) (old new : Leaders) (groups : Bits64) (p : ℕ) → AreLeaders parts seen old
-    → AreOf parts more p
-    → ((g : ℕ) → g < 64 → has groups g ≡ more g) → ((g : ℕ) → has new.groups g ≡ (has old.groups g || has groups g))
-    → new.used ≡ old.used → new.budget ≡ old.budget
-    → smaller (part_at parts p).used (part_at parts p).budget old.used old.budget ≡ false
-    → smaller old.used old.budget (part_at parts p).used (part_at parts p).budget ≡ false
-    → AreLeaders parts (λ g. seen g || more g) new
-equal_more parts seen more old new groups p are of these joined used_is budget_is h i = record {
-  these = λ g below.
-      joined g ∙ ap (λ (t : Bool). t || has groups g) (are.these g below) ∙ ap (λ (t : Bool). (seen g && not (is_less_than parts old.used old.budget g)) || t) (these g below)
-      ∙ united (seen g) (more g) (is_less_than parts old.used old.budget g)
-      (λ m. ap (λ (q : PartFacts). smaller old.used old.budget q.used q.budget) (of g below m) ∙ i)
-      ∙ ap (λ (u : ℕ). (seen g || more g) && not (is_less_than parts u old.budget g)) (sym used_is)
-      ∙ ap (λ (b : ℕ). (seen g || more g) && not (is_less_than parts new.used b g)) (sym budget_is);
-  least = λ g below among.
-      ap (λ (u : ℕ). is_more_than parts u new.budget g) used_is ∙ ap (λ (b : ℕ). is_more_than parts old.used b g) budget_is
-      ∙ not_less_more parts seen more old p are of h g below among;
+pub equal_more : (parts : List PartFacts) (wanted : Wanted) (seen : ℕ → Bool) (old : Leaders) (part : PartFacts) (p : ℕ) (groups joined : Bits64)
+    → part ≡ part_at parts p → AreEligible wanted part p (has groups) → AreLeading parts wanted seen old
+    → ((g : ℕ) → has joined g ≡ (has old.groups g || has groups g))
+    → smaller part.used part.budget old.used old.budget ≡ false → smaller old.used old.budget part.used part.budget ≡ false
+    → AreLeading parts wanted (λ g. seen g || more_of parts wanted p g) (record { groups = joined; used = old.used; budget = old.budget })
+equal_more parts wanted seen old part p groups joined is eligible are join h i = record {
+  level = λ g below in_joined. elim (either (has old.groups g) (has groups g) (sym (join g) ∙ in_joined)) [
+    | inl o ↦ are.level g below o
+    | inr n ↦ ap (λ (q : PartFacts). smaller old.used old.budget q.used q.budget) (part_here parts part p g is (eligible.own g below n)) ∙ i
+  ];
+  all = λ g below among not_less. join g ∙ (elim (either (seen g) (more_of parts wanted p g) among) [
+    | inl s ↦ or_left (has old.groups g) (has groups g) (are.all g below s not_less)
+    | inr m ↦ or_right (has old.groups g) (has groups g) (more_in parts wanted part p (has groups) is eligible g below m)
+  ]);
+  least = not_less_more parts wanted seen old part p is are h;
+  allowed = λ g below in_joined. elim (either (has old.groups g) (has groups g) (sym (join g) ∙ in_joined)) [
+    | inl o ↦ are.allowed g below o
+    | inr n ↦ allowed_here parts wanted part p g is (eligible.own g below n) ∙ eligible.may g below n
+  ];
   some = λ have.
-      let one = are.some (omega (arith, have, budget_is)) in
-      (one.0, one.1, joined one.0 ∙ ap (λ (t : Bool). t || has groups one.0) one.2);
-  one = λ none. used_is ∙ are.one (sym budget_is ∙ none);
-  used = omega (arith, used_is, are.used);
-  budget = omega (arith, budget_is, are.budget);
-}
-  where
-    united : (s m x : Bool) → (m ≡ true → x ≡ false) → ((s && not x) || m) ≡ ((s || m) && not x)
-    united s true true j = absurd (clash true refl (j refl))
-    united true true false j = refl
-    united false true false j = refl
-    united true false true j = refl
-    united true false false j = refl
-    united false false x j = refl
-
--- it has used more
-pub more_more : (parts : List PartFacts) (seen more : ℕ → Bool) (old : Leaders) (p : ℕ) → AreLeaders parts seen old → AreOf parts more p
-    → smaller old.used old.budget (part_at parts p).used (part_at parts p).budget ≡ true
-    → AreLeaders parts (λ g. seen g || more g) old
-more_more parts seen more old p are of i = record {
-  these = λ g below. are.these g below ∙ kept (seen g) (more g) (is_less_than parts old.used old.budget g)
-      (λ m. ap (λ (q : PartFacts). smaller old.used old.budget q.used q.budget) (of g below m) ∙ i);
-  least = not_less_more parts seen more old p are of (smaller_one_way old.used old.budget (part_at parts p).used (part_at parts p).budget i);
-  some = are.some;
+      let s = are.some have in
+      (s.0, s.1, or_left (seen s.0) (more_of parts wanted p s.0) s.2, join s.0 ∙ or_left (has old.groups s.0) (has groups s.0) s.3);
   one = are.one;
   used = are.used;
   budget = are.budget;
 }
+
+-- it has used more
+pub more_more : (parts : List PartFacts) (wanted : Wanted) (seen : ℕ → Bool) (old : Leaders) (part : PartFacts) (p : ℕ)
+    → part ≡ part_at parts p → AreLeading parts wanted seen old → smaller old.used old.budget part.used part.budget ≡ true
+    → AreLeading parts wanted (λ g. seen g || more_of parts wanted p g) old
+more_more parts wanted seen old part p is are i = record {
+  level = are.level;
+  all = λ g below among not_less. elim (either (seen g) (more_of parts wanted p g) among) [
+    | inl s ↦ are.all g below s not_less
+    | inr m ↦ absurd (clash (is_less_than parts old.used old.budget g)
+        (ap (λ (q : PartFacts). smaller old.used old.budget q.used q.budget) (part_here parts part p g is (own_of parts wanted p g m)) ∙ i) not_less)
+  ];
+  least = not_less_more parts wanted seen old part p is are (smaller_one_way old.used old.budget part.used part.budget i);
+  allowed = are.allowed;
+  some = λ have. let s = are.some have in (s.0, s.1, or_left (seen s.0) (more_of parts wanted p s.0) s.2, s.3);
+  one = are.one;
+  used = are.used;
+  budget = are.budget;
+}
+
+-- ---- where all were seen, those of them that are wanted lead
+
+pub leaders_of : (parts : List PartFacts) (wanted : Wanted) (leading : Leaders) (groups : Bits64)
+    → AreLeading parts wanted (is_wanted parts wanted) leading → ((g : ℕ) → has groups g ≡ (has leading.groups g && has wanted.groups g))
+    → AreLeaders parts (is_wanted parts wanted) (record { groups = groups; used = leading.used; budget = leading.budget })
+leaders_of parts wanted leading groups are meet = record {
+  these = λ g below. meet g ∙ picked (has leading.groups g) (has wanted.groups g) (is_allowed parts wanted g)
+      (is_less_than parts leading.used leading.budget g) (are.allowed g below) (are.level g below)
+      (λ w a not_less. are.all g below (pair (has wanted.groups g) (is_allowed parts wanted g) w a) not_less);
+  least = are.least;
+  some = λ have.
+      let s = are.some have in
+      (s.0, s.1, meet s.0 ∙ pair (has leading.groups s.0) (has wanted.groups s.0) s.3 (first (has wanted.groups s.0) (is_allowed parts wanted s.0) s.2));
+}
   where
-    kept : (s m x : Bool) → (m ≡ true → x ≡ true) → (s && not x) ≡ ((s || m) && not x)
-    kept true m x j = refl
-    kept false true true j = refl
-    kept false true false j = absurd (clash true refl (sym (j refl)))
-    kept false false x j = refl
+    both_true : (w : Bool) → w ≡ ((w && true) && not false)
+    both_true true = refl
+    both_true false = refl
 
--- ---- the groups of a partition
-
-pub same_of : (a b : ℕ) → nat_eq a b ≡ true → a ≡ b
-same_of a b h = grind (arith, nat_tests)
-
-second : (a b : Bool) → (a && b) ≡ true → b ≡ true
-second true b h = h
-second false b h = absurd cc
-
-pub are_of : (parts : List PartFacts) (wanted : ℕ → Bool) (p g : ℕ) → (wanted g && nat_eq (g % 32) p) ≡ true
-    → part_at parts (g % 32) ≡ part_at parts p
-are_of parts wanted p g h = ap (part_at parts) (same_of (g % 32) p (second (wanted g) (nat_eq (g % 32) p) h))
+    picked : (l w a x : Bool) → (l ≡ true → a ≡ true) → (l ≡ true → x ≡ false) → (w ≡ true → a ≡ true → x ≡ false → l ≡ true)
+        → (l && w) ≡ ((w && a) && not x)
+    picked true w a x may level all =
+        both_true w ∙ sym (ap (λ (t : Bool). (w && t) && not x) (may refl) ∙ ap (λ (t : Bool). (w && true) && not t) (level refl))
+    picked false true true true may level all = refl
+    picked false true true false may level all = absurd (clash false (all refl refl refl) refl)
+    picked false true false x may level all = refl
+    picked false false a x may level all = refl
 
 -- a group is of a partition where it is one of its two
 pub one_of_two : (g p : ℕ) → g < 64 → p < 32 → (nat_eq g (p + 32) || (nat_eq g p || false)) ≡ nat_eq (g % 32) p
 one_of_two g p below p_below = grind (arith, nat_tests)
-
--- the plain threads of a partition stand in the lower half
-pub not_plain : (g p : ℕ) → g < 64 → p < 32 → g % 32 ≡ p → not (nat_eq g p) ≡ nat_lt 31 g
-not_plain g p below p_below of = grind (arith, nat_tests)
 
 -- ---- the groups that were seen
 
@@ -214,21 +275,7 @@ pub all_seen : (w l : Bool) → l ≡ false → (w && not l) ≡ w
 all_seen true l none = ap not none
 all_seen false l none = refl
 
--- ---- the partitions that groups are of
-
-below_or_not : (a b : ℕ) → (a < b) ⊎ (b ≤ a)
-below_or_not a b = search arith
-
-first : (a b : Bool) → (a && b) ≡ true → a ≡ true
-first true b h = refl
-first false b h = absurd cc
-
-pair : (a b : Bool) → a ≡ true → b ≡ true → (a && b) ≡ true
-pair a b h k = rw (h, k) refl
-
-or_right : (a b : Bool) → b ≡ true → (a || b) ≡ true
-or_right true b h = refl
-or_right false b h = h
+-- ---- the partitions that exist
 
 is_less : (a b : ℕ) → nat_lt a b ≡ true → a < b
 is_less a b h = grind (arith, nat_tests)
@@ -236,8 +283,30 @@ is_less a b h = grind (arith, nat_tests)
 less : (a b : ℕ) → a < b → nat_lt a b ≡ true
 less a b h = grind (arith, nat_tests)
 
-pub in_half : (p : ℕ) (a r : Bool) → r ≡ (nat_lt p 32 && a) → r ≡ true → p < 32
-in_half p a r is h = is_less p 32 (first (nat_lt p 32) a (sym is ∙ h))
+pub cut_of : (all left : ℕ → Bool) (end p : ℕ) → ((k : ℕ) → left k ≡ (nat_lt k end && all k)) → left p ≡ true → (p < end) × (all p ≡ true)
+cut_of all left end p is h =
+    let both = sym (is p) ∙ h in
+    (is_less p end (first (nat_lt p end) (all p) both), second (nat_lt p end) (all p) both)
+
+pub kept_in : (all left : ℕ → Bool) (end p : ℕ) → ((k : ℕ) → left k ≡ (nat_lt k end && all k)) → p < end → all p ≡ true
+    → left p ≡ true
+kept_in all left end p is below h = is p ∙ pair (nat_lt p end) (all p) (less p end below) h
+
+-- ---- the partitions that groups are of
+
+below_or_not : (a b : ℕ) → (a < b) ⊎ (b ≤ a)
+below_or_not a b = search arith
+
+pub has_group : (groups upper joined half : ℕ → Bool) → ((k : ℕ) → upper k ≡ groups (k + 32)) → ((k : ℕ) → joined k ≡ (groups k || upper k))
+    → ((k : ℕ) → half k ≡ (nat_lt k 32 && joined k)) → (p : ℕ) → half p ≡ true → HasGroup groups p
+has_group groups upper joined half upper_is joined_is half_is p h =
+    let both = sym (half_is p) ∙ h in
+    let low : p < 32 = is_less p 32 (first (nat_lt p 32) (joined p) both) in
+    elim (either (groups p) (upper p) (sym (joined_is p) ∙ second (nat_lt p 32) (joined p) both)) [
+      | inl here ↦ record { below = low; group = p; inside = omega (arith, low); here = here; own = omega (arith, low) }
+      | inr here ↦
+          record { below = low; group = p + 32; inside = omega (arith, low); here = sym (upper_is p) ∙ here; own = omega (arith, low) }
+    ]
 
 pub folded : (groups upper joined half : ℕ → Bool) → ((k : ℕ) → upper k ≡ groups (k + 32)) → ((k : ℕ) → joined k ≡ (groups k || upper k))
     → ((k : ℕ) → half k ≡ (nat_lt k 32 && joined k)) → (g : ℕ) → g < 64 → groups g ≡ true → half (g % 32) ≡ true
@@ -250,22 +319,3 @@ folded groups upper joined half upper_is joined_is half_is g below h =
           let same : g % 32 + 32 ≡ g = omega (arith, high, below) in
           or_right (groups (g % 32)) (upper (g % 32)) (upper_is (g % 32) ∙ ap groups same ∙ h)
     ]))
-
--- ---- the groups of a partition that are wanted
-
-pub of_class_one : (w e o here : Bool) → (e ≡ true → here ≡ o) → ((w && e) && here) ≡ ((w && (not true || o)) && e)
-of_class_one false e o here h = refl
-of_class_one true true o here h = h refl ∙ sym (all_of o)
-  where
-    all_of : (t : Bool) → (t && true) ≡ t
-    all_of true = refl
-    all_of false = refl
-of_class_one true false true here h = refl
-of_class_one true false false here h = refl
-
-pub of_any_class : (w e o : Bool) → (w && e) ≡ ((w && (not false || o)) && e)
-of_any_class true e o = refl
-of_any_class false e o = refl
-
-pub group_is : (w : Bool) (g p : ℕ) → (w && nat_eq (g % 32) p) ≡ true → g % 32 ≡ p
-group_is w g p h = same_of (g % 32) p (second w (nat_eq (g % 32) p) h)

@@ -12,6 +12,8 @@ pub mod Fewer
 pub mod Earliest
 pub mod Fractions
 pub mod Leading
+pub mod Eligible
+pub mod Known
 pub mod Among
 pub mod Winner
 pub mod WinLaws

@@ -210,6 +210,17 @@ test_by nodes i j d r i_in j_in is =
     is ∙ ap (λ (e : Entrant). goes_before e (get_or nodes j d)) (get_or_default nodes i d vacant i_in)
     ∙ ap (goes_before (entrant_at nodes i)) (get_or_default nodes j d vacant j_in)
 
+-- the same, where one of the two is known
+pub test_known : (nodes : List Entrant) (i j : ℕ) (e d : Entrant) (r : Bool) → e ≡ entrant_at nodes i → j < length nodes
+    → r ≡ goes_before e (get_or nodes j d) → r ≡ goes_before (entrant_at nodes i) (entrant_at nodes j)
+test_known nodes i j e d r e_is j_in is =
+    is ∙ ap (λ (f : Entrant). goes_before f (get_or nodes j d)) e_is ∙ ap (goes_before (entrant_at nodes i)) (get_or_default nodes j d vacant j_in)
+
+pub test_against : (nodes : List Entrant) (i j : ℕ) (e d : Entrant) (r : Bool) → i < length nodes → e ≡ entrant_at nodes j
+    → r ≡ goes_before (get_or nodes i d) e → r ≡ goes_before (entrant_at nodes i) (entrant_at nodes j)
+test_against nodes i j e d r i_in e_is is =
+    is ∙ ap (λ (f : Entrant). goes_before f e) (get_or_default nodes i d vacant i_in) ∙ ap (goes_before (entrant_at nodes i)) e_is
+
 -- ---- somebody moves up or down
 
 pub but_of : (nodes : List Entrant) (count hole : ℕ) → IsOrdered nodes count → IsOrderedBut nodes count hole

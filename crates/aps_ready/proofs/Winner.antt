@@ -504,7 +504,7 @@ pub least_occupied : (firsts : List Entrant) (set found : ℕ → Bool) → AreL
     → level_of firsts g < 256
 least_occupied firsts set found least g below h = omega (arith, least.below, (in_found firsts set found least g below h).0)
 
-likely_second_occupied : (free : Free) (firsts : List Entrant) (second found : Bits64) → AreLikelySecond free firsts second found
+pub likely_second_occupied : (free : Free) (firsts : List Entrant) (second found : Bits64) → AreLikelySecond free firsts second found
     → (g : ℕ) → g < 64 → has found g ≡ true → level_of firsts g < 256
 likely_second_occupied Ratio firsts second found occupied g below h =
     is_less (level_of firsts g) 256 (both (has second g) (nat_lt (level_of firsts g) 256) (sym (occupied g below) ∙ h)).1
@@ -516,8 +516,3 @@ likely_second_occupied Priority firsts second found (inr none) g below h = absur
   where
     clash : (t : Bool) → t ≡ true → t ≡ false → ⊥
     clash t p q = cc
-
-pub likely_occupied : (free : Free) (firsts : List Entrant) (gates : Gates) (found : Bits64) → AreLikely free firsts gates found
-    → (g : ℕ) → g < 64 → has found g ≡ true → level_of firsts g < 256
-likely_occupied free firsts gates found (inl least) = least_occupied firsts (has gates.first) (has found) least
-likely_occupied free firsts gates found (inr rest) = likely_second_occupied free firsts gates.second found rest.1

@@ -1,4 +1,4 @@
-use Rattle.std.specs.Prelude.{◌≡◌, ℕ, ◌<◌, ◌≤◌, Bool, ◌&&◌, nat_eq, nat_lt, true, List, length, slice_index_or}
+use Rattle.std.specs.Prelude.{◌≡◌, ℕ, ◌<◌, ◌≤◌, Bool, ◌&&◌, nat_eq, nat_lt, true, List, length, slice_index, slice_index_or}
 use Rattle.aps_levels.specs.declared.bits.Bits64.{Bits64}
 use Rattle.aps_levels.specs.declared.levels.Levels.{Levels}
 use Rattle.aps_levels.specs.Bits.{has}
@@ -37,3 +37,20 @@ pub record AreLeast (firsts : List Entrant) (set found : ℕ → Bool) : Type 0 
   pub some : found group ≡ true
   pub these : (g : ℕ) → g < 64 → found g ≡ (nat_eq (level_of firsts g) level && set g)
   pub least : (g : ℕ) → g < 64 → set g ≡ true → level ≤ level_of firsts g
+
+-- the stamps of the firsts
+pub record AreStamps (firsts : List Entrant) (stamps : List ℕ) : Type 0 where
+  pub count : length stamps ≡ 64
+  pub same : (g : ℕ) → g < 64 → slice_index stamps g ≡ (entrant_at firsts g).stamp
+
+-- the groups of the set have one level, which is below 256
+pub record AreLevel (firsts : List Entrant) (set : ℕ → Bool) : Type 0 where
+  pub level : ℕ
+  pub below : level < 256
+  pub same : (g : ℕ) → g < 64 → set g ≡ true → level_of firsts g ≡ level
+
+-- the group is the only one of the set
+pub record IsOnly (set : ℕ → Bool) (group : ℕ) : Type 0 where
+  pub below : group < 64
+  pub here : set group ≡ true
+  pub one : (g : ℕ) → set g ≡ true → g ≡ group

@@ -42,7 +42,7 @@ impl Bracket {
         let mut at = Vec::with_capacity(alloc, width)?;
         for x in 0..width {
             nodes.push(Entrant {
-                thread: x as u16,
+                thread: x as u32,
                 ..vacant()
             })?;
             at.push(x as u16)?;
@@ -97,7 +97,8 @@ fn add(nodes: &mut [Entrant], at: &mut [u16], count: usize, entrant: Entrant)
     ensures places { places nodes.new at.new (count + 1) ≡ slice_set (places nodes.old at.old count) entrant.thread entrant }
 {
     let node = at[entrant.thread as usize] as usize;
-    swap(nodes, at, node, count);
+    let free = nodes[node];
+    swap(nodes, at, node, count, free);
     nodes[count] = entrant;
     settle(nodes, at, count + 1, count);
 }
@@ -114,14 +115,16 @@ fn remove(nodes: &mut [Entrant], at: &mut [u16], count: usize, place: usize) -> 
         return count;
     }
     let last = count - 1;
-    swap(nodes, at, node, last);
+    let gone = nodes[node];
+    swap(nodes, at, node, last, gone);
     settle(nodes, at, last, node);
     last
 }
 
-/// Two nodes change places.
+/// Two nodes change places. Who is at the first one is known.
 #[inline(always)]
-fn swap(nodes: &mut [Entrant], at: &mut [u16], i: usize, j: usize)
+fn swap(nodes: &mut [Entrant], at: &mut [u16], i: usize, j: usize, known: Entrant)
+    requires known { known ≡ entrant_at nodes.old i }
     requires seated { IsSeated nodes.old at.old }
     requires i { i < length nodes.old }
     requires j { j < length nodes.old }
@@ -130,12 +133,11 @@ fn swap(nodes: &mut [Entrant], at: &mut [u16], i: usize, j: usize)
     ensures places { (count : ℕ) → (i < count → j < count) → (j < count → i < count)
         → places nodes.new at.new count ≡ places nodes.old at.old count }
 {
-    let a = nodes[i];
-    let b = nodes[j];
-    nodes[i] = b;
-    nodes[j] = a;
-    at[b.thread as usize] = i as u16;
-    at[a.thread as usize] = j as u16;
+    let other = nodes[j];
+    nodes[i] = other;
+    nodes[j] = known;
+    at[other.thread as usize] = i as u16;
+    at[known.thread as usize] = j as u16;
 }
 
 /// Whoever is at this node, and may stand wrongly there, moves up or down to where it belongs.
@@ -153,29 +155,26 @@ fn settle(nodes: &mut [Entrant], at: &mut [u16], count: usize, from: usize)
     if from >= count {
         return;
     }
+    let mover = nodes[from];
     let mut node = from;
-    'rise: while node > 0 && goes_before(&nodes[node], &nodes[(node - 1) / 2]) {
+    'rise: while node > 0 && goes_before(&mover, &nodes[(node - 1) / 2]) {
         let above = (node - 1) / 2;
-        swap(nodes, at, node, above);
+        swap(nodes, at, node, above, mover);
         node = above;
     }
-    'sink: while node < count {
-        match next_below(nodes, count, node) {
-            None => return,
-            Some(below) => {
-                swap(nodes, at, node, below);
-                node = below;
-            }
-        }
+    'sink: while let Some(below) = next_below(nodes, count, node, &mover) {
+        swap(nodes, at, node, below, mover);
+        node = below;
     }
 }
 
-/// The first of the nodes right below this one, if it goes before this one.
+/// The first of the nodes right below this one, if it goes before whoever is at this one.
 #[inline(always)]
-fn next_below(nodes: &[Entrant], count: usize, node: usize) -> Option<usize>
+fn next_below(nodes: &[Entrant], count: usize, node: usize, here: &Entrant) -> Option<usize>
     requires count { count ≤ length nodes.now }
     requires few { length nodes.now ≤ 1024 }
     requires node { node < count }
+    requires here { here.now ≡ entrant_at nodes.now node }
     ensures some { IfSome result (IsNext nodes.now count node) }
     ensures none { IfNone result (AreBehind nodes.now count node (entrant_at nodes.now node)) }
 {
@@ -188,7 +187,7 @@ fn next_below(nodes: &[Entrant], count: usize, node: usize) -> Option<usize>
     } else {
         left
     };
-    if goes_before(&nodes[next], &nodes[node]) {
+    if goes_before(&nodes[next], here) {
         Some(next)
     } else {
         None

@@ -1,5 +1,5 @@
 //! Which of two candidates of one class is chosen.
-ghost use Rattle.std.specs.Prelude.{◌≡◌, ◌%◌, All};
+ghost use Rattle.std.specs.Prelude.{◌≡◌, ◌%◌, ◌<◌, length, All};
 ghost use Rattle.aps_model.specs.Budget.{part_at};
 ghost use Rattle.aps_ready.specs.Choice.{has_used_less, is_ahead};
 ghost use Rattle.aps_ready.specs.Small.{IsSmall};
@@ -23,6 +23,16 @@ pub fn part_at(parts: &[PartFacts], p: usize) -> PartFacts
             budget: 0,
         },
     }
+}
+
+/// How a partition that exists stands.
+#[inline(always)]
+pub fn part_of(parts: &[PartFacts], p: usize) -> PartFacts
+    requires { p < length parts.now }
+    ensures same { result ≡ part_at parts.now p }
+    ensures small { All IsSmall parts.now → IsSmall result }
+{
+    parts[p]
 }
 
 /// Whether the first of two partitions has used the smaller fraction of its budget.

@@ -7,14 +7,14 @@ ghost use Rattle.aps_ready.specs.Ready.{seat_of};
 use aps_model::{Contender, Facts, PartitionId, ThreadId};
 
 /// Who takes part: a thread, its group, its level (the lower goes first), and its stamp, which decides between equal
-/// levels. It is sixteen bytes of plain numbers, so that one is copied and compared in a few instructions.
+/// levels. It is sixteen bytes of plain numbers without a gap, so that one is copied and compared in a few instructions.
 #[derive(Clone, Copy, Debug, PartialEq, Eq)]
 pub struct Entrant {
     /// 255 less the priority, 256 where nobody is
     pub level: u16,
     /// the partition, and 32 more where the thread is critical; 64 where nobody is
     pub group: u16,
-    pub thread: u16,
+    pub thread: u32,
     pub stamp: u64,
 }
 
@@ -46,7 +46,7 @@ pub fn entrant_of(x: ThreadId, facts: Facts, stamp: u64) -> Entrant
         } else {
             partition
         },
-        thread: x.index() as u16,
+        thread: x.index() as u32,
         stamp,
     }
 }

@@ -36,6 +36,7 @@ impl Gates {
     }
 
     /// The gates of these partitions, each by its number. No thread is of one from number 32 on, so these don't count.
+    #[inline(never)]
     pub fn of(parts: &[PartFacts]) -> Gates
         ensures { AreGates parts.now result }
     {

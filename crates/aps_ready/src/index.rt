@@ -17,6 +17,8 @@ use std::marker::Model;
 #[derive(Drop)]
 pub struct Index {
     firsts: Vec<Entrant>,
+    /// their stamps once more, side by side
+    stamps: Vec<u64>,
     at_level: Vec<Bits64>,
     /// the levels at which groups may stand
     levels: Levels,
@@ -26,14 +28,14 @@ pub struct Index {
 
 impl Model for Index {
     ghost use Rattle.std.specs.Prelude.{List};
-    ghost use Rattle.aps_ready.specs.Index.{IsIndex};
+    ghost use Rattle.aps_ready.specs.Index.{IsIndex, AreStamps};
     ghost use Rattle.aps_ready.specs.declared.entrant.Entrant.{Entrant};
 
     ghost Value = { List Entrant };
 
     ghost view = { λ i. i.firsts.items };
 
-    ghost invariant = { λ i. IsIndex i.firsts.items i.at_level.items i.levels i.occupied };
+    ghost invariant = { λ i. IsIndex i.firsts.items i.at_level.items i.levels i.occupied × AreStamps i.firsts.items i.stamps.items };
 }
 
 impl Index {
@@ -45,12 +47,17 @@ impl Index {
         'firsts: for _ in 0..64usize {
             firsts.push(vacant())?;
         }
+        let mut stamps = Vec::with_capacity(alloc, 64)?;
+        'stamps: for _ in 0..64usize {
+            stamps.push(0u64)?;
+        }
         let mut at_level = Vec::with_capacity(alloc, 256)?;
         'levels: for _ in 0..256usize {
             at_level.push(Bits64::none())?;
         }
         Ok(Index {
             firsts,
+            stamps,
             at_level,
             levels: Levels::none(),
             occupied: Bits64::none(),
@@ -66,6 +73,7 @@ impl Index {
         let before = self.firsts[group].level;
         let level = first.level;
         self.firsts[group] = first;
+        self.stamps[group] = first.stamp;
         if before == level {
             return;
         }
@@ -80,6 +88,15 @@ impl Index {
         ensures { (g : ℕ) → g < 64 → has result g ≡ nat_lt (level_of self.now g) 256 }
     {
         self.occupied
+    }
+
+    /// The first of a group.
+    #[inline(always)]
+    pub fn first(&self, group: usize) -> Entrant
+        requires { group < 64 }
+        ensures { result ≡ entrant_at self.now group }
+    {
+        self.firsts[group]
     }
 
     /// Of the groups of a set those at the least level; none exactly where all of them are empty.
@@ -116,10 +133,10 @@ impl Index {
             return vacant();
         };
         let mut best = start;
-        let mut stamp = self.firsts[start].stamp;
+        let mut stamp = self.stamps[start];
         let mut left = set.without_least();
         'groups: while let Some(group) = left.least() {
-            let other = self.firsts[group].stamp;
+            let other = self.stamps[group];
             if other < stamp {
                 best = group;
                 stamp = other;

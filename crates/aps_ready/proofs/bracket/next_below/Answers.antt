@@ -1,6 +1,6 @@
 use Rattle.std.proofs.Common.{◌<◌, ◌≤◌, ◌+◌, ◌*◌, ◌∙◌, length, sym, arith}
 use Rattle.aps_ready.specs.declared.entrant.Entrant.{Entrant}
-use Rattle.aps_ready.proofs.Played.{IsChosen, chosen_left, chosen_right, next_is, none_next, test_by}
+use Rattle.aps_ready.proofs.Played.{IsChosen, chosen_left, chosen_right, next_is, none_next, test_by, test_against}
 use Rattle.aps_ready.proofs.bracket.next_below.Goals.{then-left-count-2+then-goes_before, else-left-count-2, else-left-count-2-via-then-left-count-2+else-goes_before, else-left-count-2-via-else-left-count-2}
 use Rattle.aps_ready.proofs.bracket.next_below.Goals as goal
 
@@ -28,7 +28,7 @@ returns-then-goes_before-2-clause-some c =
           ])
     ] in
     next_is nodes c.args.count node next is
-    (sym (test_by nodes next node nobody_read c.goes_before-2.result (omega (arith, is.within, room)) (omega (arith, c.requires.node, room)) c.goes_before-2.ensures)
+    (sym (test_against nodes next node c.args.here.now nobody_read c.goes_before-2.result (omega (arith, is.within, room)) c.requires.here c.goes_before-2.ensures)
     ∙ c.if-goes_before-2.true)
 
 pub returns-else-goes_before-2-clause-none : goal.returns-else-goes_before-2-clause-none
@@ -52,5 +52,5 @@ returns-else-goes_before-2-clause-none c =
           ])
     ] in
     none_next nodes c.args.count node next is
-    (sym (test_by nodes next node nobody_read c.goes_before-2.result (omega (arith, is.within, room)) (omega (arith, c.requires.node, room)) c.goes_before-2.ensures)
+    (sym (test_against nodes next node c.args.here.now nobody_read c.goes_before-2.result (omega (arith, is.within, room)) c.requires.here c.goes_before-2.ensures)
     ∙ c.if-goes_before-2.false)

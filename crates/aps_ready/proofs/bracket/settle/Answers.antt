@@ -1,7 +1,8 @@
 use Rattle.std.proofs.Common.{◌<◌, ◌≤◌, ◌∙◌, List, length, sym, subst, ap, arith}
 use Rattle.aps_ready.specs.declared.entrant.Entrant.{Entrant}
+use Rattle.aps_ready.specs.Entrant.{entrant_at}
 use Rattle.aps_ready.specs.Bracket.{above, IsOrderedBut, AreReal}
-use Rattle.aps_ready.proofs.Played.{rise_step, sink_step, sunk_under, real_swap, swapped_length, test_by, IsUnder}
+use Rattle.aps_ready.proofs.Played.{rise_step, sink_step, sunk_under, real_swap, swapped_length, swapped_second, test_known, IsUnder}
 use Rattle.aps_ready.proofs.bracket.settle.Goals.{then-rise-test+else-goes_before, else-rise-test}
 use Rattle.aps_ready.proofs.bracket.settle.Goals as goal
 
@@ -28,6 +29,7 @@ rise-preserved c =
       order = subst (λ (l : List Entrant). IsOrderedBut l count (above node)) (sym c.swap.ensures.nodes)
           (rise_step nodes count node was.order some was.within room);
       same = c.swap.ensures.places count (λ _. omega (arith, low, was.within)) (λ _. was.within) ∙ was.same;
+      known = was.known ∙ sym (ap (λ (l : List Entrant). entrant_at l (above node)) c.swap.ensures.nodes ∙ swapped_second nodes node (above node) there);
     }
 
 pub sink-init : goal.sink-init
@@ -42,11 +44,12 @@ sink-init c =
       under = λ some. elim c.rise-test.branch [
         | then-rise-test+else-goes_before w ↦
             let here : c.rise.node < length c.rise.nodes = omega (arith, was.within, was.size, c.requires.count) in
-            sym (test_by c.rise.nodes c.rise.node (above c.rise.node) nobody_read w.goes_before.result here (omega (arith, here)) w.goes_before.ensures)
+            sym (test_known c.rise.nodes c.rise.node (above c.rise.node) _ nobody_read w.goes_before.result was.known (omega (arith, here)) w.goes_before.ensures)
             ∙ w.if-goes_before.false
         | else-rise-test w ↦ absurd (omega (arith, some, w.rise-test.false))
       ];
       same = was.same;
+      known = was.known;
     }
 
 pub sink-preserved : goal.sink-preserved
@@ -71,4 +74,5 @@ sink-preserved c =
       under = subst (λ (l : List Entrant). IsUnder l next) (sym c.swap-in-Some.ensures.nodes)
           (sunk_under nodes count node next is was.within room);
       same = c.swap-in-Some.ensures.places count (λ _. is.within) (λ _. was.within) ∙ was.same;
+      known = was.known ∙ sym (ap (λ (l : List Entrant). entrant_at l next) c.swap-in-Some.ensures.nodes ∙ swapped_second nodes node next there);
     }

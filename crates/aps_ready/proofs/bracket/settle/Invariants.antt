@@ -1,4 +1,5 @@
 use Rattle.std.proofs.Common.{◌≡◌, ◌<◌, ◌-◌, length}
+use Rattle.aps_ready.specs.Entrant.{entrant_at}
 use Rattle.aps_ready.specs.Bracket.{places, IsSeated, AreReal, IsOrderedBut}
 use Rattle.aps_ready.proofs.Played.{IsUnder}
 use Rattle.aps_ready.proofs.bracket.settle.Given as goal
@@ -12,6 +13,7 @@ invariant-rise l = record {
   within : l.node < l.count;
   order : IsOrderedBut l.nodes l.count l.node;
   same : places l.nodes l.at l.count ≡ places l.fn.nodes l.fn.at l.count;
+  known : l.mover ≡ entrant_at l.nodes l.node;
 }
 
 abbrev pub decreases-rise : goal.decreases-rise
@@ -27,6 +29,7 @@ invariant-sink l = record {
   order : IsOrderedBut l.nodes l.count l.node;
   under : IsUnder l.nodes l.node;
   same : places l.nodes l.at l.count ≡ places l.fn.nodes l.fn.at l.count;
+  known : l.mover ≡ entrant_at l.nodes l.node;
 }
 
 abbrev pub decreases-sink : goal.decreases-sink

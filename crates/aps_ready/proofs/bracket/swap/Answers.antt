@@ -11,12 +11,12 @@ pub returns-clause-seated : goal.returns-clause-seated
 returns-clause-seated c =
     let nodes = c.args.nodes.now in
     seated_by nodes c.args.at.now c.args.i c.args.j _ _
-    (get_or_default nodes c.args.i nobody_read vacant c.requires.i) (get_or_default nodes c.args.j nobody_read vacant c.requires.j)
+    c.requires.known (get_or_default nodes c.args.j nobody_read vacant c.requires.j)
     c.requires.seated c.requires.i c.requires.j
 
 pub returns-clause-places : goal.returns-clause-places
 returns-clause-places c count from to =
     let nodes = c.args.nodes.now in
     places_by nodes c.args.at.now c.args.i c.args.j count _ _
-    (get_or_default nodes c.args.i nobody_read vacant c.requires.i) (get_or_default nodes c.args.j nobody_read vacant c.requires.j)
+    c.requires.known (get_or_default nodes c.args.j nobody_read vacant c.requires.j)
     c.requires.seated c.requires.i c.requires.j from to

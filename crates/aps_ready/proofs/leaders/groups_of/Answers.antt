@@ -1,12 +1,9 @@
-use Rattle.std.proofs.Common.{◌+◌, Bool, ◌&&◌, ◌||◌, nat_eq, ap, ◌∙◌}
-use Rattle.aps_levels.specs.Bits.{has}
+use Rattle.std.proofs.Common.{◌+◌, Bool, ◌||◌, nat_eq, ap, ◌∙◌}
 use Rattle.aps_ready.proofs.Leading.{one_of_two}
 use Rattle.aps_ready.proofs.leaders.groups_of.Goals as goal
 
 pub returns : goal.returns
 returns c g below =
     let p = c.args.p in
-    c.meet.ensures g
-    ∙ ap (λ (t : Bool). has c.args.set g && t)
-    (c.with-2.ensures g ∙ ap (λ (t : Bool). nat_eq g (p + 32) || t) (c.with.ensures g ∙ ap (λ (t : Bool). nat_eq g p || t) (c.none.ensures g))
-    ∙ one_of_two g p below c.requires)
+    c.with-2.ensures g ∙ ap (λ (t : Bool). nat_eq g (p + 32) || t) (c.with.ensures g ∙ ap (λ (t : Bool). nat_eq g p || t) (c.none.ensures g))
+    ∙ one_of_two g p below c.requires

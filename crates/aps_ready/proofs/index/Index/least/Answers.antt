@@ -10,7 +10,7 @@ use Rattle.aps_ready.proofs.index.Index.least.Goals as goal
 pub loop-from-preserved-in-None : goal.loop-from-preserved-in-None
 loop-from-preserved-in-None c =
     all_done c.self.inside.firsts.items c.self.inside.at_level.items c.self.inside.levels c.loop-from.left c.self.inside.occupied c.args.set c.loop-from.from
-    c.self.invariant c.loop-from.invariant c.in-None.ensures.none
+    c.self.invariant.0 c.loop-from.invariant c.in-None.ensures.none
 
 -- what both sets have, by the clauses of the calls
 met : (at_level : List Bits64) (bits found set : Bits64) (l : ℕ) → length at_level ≡ 256 → l < 256 → bits ≡ get_or at_level l bits
@@ -24,20 +24,20 @@ returns-then-not-is_empty-clause-some c =
     let level = c.in-Some.ensures.some in
     subst (λ (firsts : List Entrant). AreLeast firsts (has c.args.set) (has c.meet-found.result)) c.self.view_is
     (are_least c.self.inside.firsts.items c.self.inside.at_level.items c.self.inside.levels c.loop-from.left c.self.inside.occupied c.args.set c.meet-found.result c.loop-from.from c.in-Some.level some.0
-    c.self.invariant c.loop-from.invariant level.below level.earlier
-    (met c.self.inside.at_level.items c.index.result.now c.meet-found.result c.args.set c.in-Some.level c.self.invariant.each level.below c.index.ensures c.meet-found.ensures)
+    c.self.invariant.0 c.loop-from.invariant level.below level.earlier
+    (met c.self.inside.at_level.items c.index.result.now c.meet-found.result c.args.set c.in-Some.level c.self.invariant.0.each level.below c.index.ensures c.meet-found.ensures)
     some.1 some.2)
 
 pub loop-from-preserved : goal.loop-from-preserved
 loop-from-preserved c =
     let level = c.in-Some.ensures.some in
-    let meets = met c.self.inside.at_level.items c.index.result.now c.meet-found.result c.args.set c.in-Some.level c.self.invariant.each level.below c.index.ensures c.meet-found.ensures in
+    let meets = met c.self.inside.at_level.items c.index.result.now c.meet-found.result c.args.set c.in-Some.level c.self.invariant.0.each level.below c.index.ensures c.meet-found.ensures in
     more_done c.self.inside.firsts.items c.self.inside.at_level.items c.self.inside.levels c.loop-from.left c.without-left.result c.self.inside.occupied c.args.set c.loop-from.from c.in-Some.level
-    c.self.invariant c.loop-from.invariant level.below level.here level.earlier
+    c.self.invariant.0 c.loop-from.invariant level.below level.here level.earlier
     (λ g. sym (meets g) ∙ c.if-not-is_empty.ensures.empty (search rules) g)
     c.without-left.ensures
 
 pub returns-clause-none : goal.returns-clause-none
 returns-clause-none c =
     subst (λ (firsts : List Entrant). (g : ℕ) → g < 64 → has c.args.set g ≡ true → 256 ≤ level_of firsts g) c.self.view_is
-    (none_below c.self.inside.firsts.items c.self.inside.at_level.items c.self.inside.levels c.loop-from.left c.self.inside.occupied c.args.set c.loop-from.from c.self.invariant c.loop-from.invariant c.loop-from-test.false)
+    (none_below c.self.inside.firsts.items c.self.inside.at_level.items c.self.inside.levels c.loop-from.left c.self.inside.occupied c.args.set c.loop-from.from c.self.invariant.0 c.loop-from.invariant c.loop-from-test.false)

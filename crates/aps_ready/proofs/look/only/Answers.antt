@@ -1,0 +1,15 @@
+use Rattle.std.proofs.Common.{rules}
+use Rattle.aps_levels.specs.Bits.{has}
+use Rattle.aps_ready.proofs.Fewer.{is_one}
+use Rattle.aps_ready.proofs.look.only.Goals as goal
+
+pub returns-then-is_empty : goal.returns-then-is_empty
+returns-then-is_empty c =
+    let set = has c.args.set in
+    let rest = has c.without_least.result in
+    let least = c.in-Some.ensures.some in
+    record {
+      below = least.below;
+      here = least.here;
+      one = λ g h. is_one set rest c.in-Some.group g (c.without_least.ensures c.in-Some.group least) h (c.if-is_empty.ensures.empty (search rules) g);
+    }
