@@ -9,6 +9,7 @@ use std::alloc::Global;
 
 impl Machine {
     /// The thread as a contender, if it is ready.
+    #[inline(always)]
     pub fn seat_at(&self, x: ThreadId) -> Option<Contender>
         ensures { result ≡ seat_at self.now x }
     {
