@@ -127,17 +127,16 @@ impl Machine {
         ensures within { result < length self.now.cpus }
     {
         let count = self.cpus.len();
-        let mut first = CpuId::at(0);
-        let mut least = dues.of(first);
-        for c in 0..count {
-            let cpu = CpuId::at(c);
-            let due = dues.of(cpu);
+        let mut first = 0;
+        let mut least = dues.at(first);
+        for c in 1..count {
+            let due = dues.at(c);
             if due < least {
-                first = cpu;
+                first = c;
                 least = due;
             }
         }
-        first
+        CpuId::at(first)
     }
 
     /// Whether each processor has stepped at the horizon.
@@ -191,13 +190,14 @@ impl Machine {
         }
     }
 
-    /// The tick of a moment.
-    fn tick_of(&self, moment: Nanos) -> u64
-        requires { moment ≤ horizon self.now.shape }
+    /// The tick of a moment. The tick at hand is best that of the moment.
+    fn tick_of(&self, moment: Nanos, at_hand: u32) -> u64
+        requires moment { moment ≤ horizon self.now.shape }
+        requires at_hand { at_hand ≤ 100000000 }
         ensures same { result ≡ moment / self.now.shape.tick }
         ensures few { result ≤ 1000000 }
     {
-        moment / self.shape.tick
+        due::tick_of(self.shape.tick, moment, u64::from(at_hand))
     }
 
     /// The moment at which the run ends.
@@ -245,7 +245,7 @@ impl Machine {
     {
         let now = dues.of(cpu);
         let from = ends.last_end(entries, cpu);
-        let tick = self.tick_of(now);
+        let tick = self.tick_of(now, window.tick());
         let is_later = usage::go_on(window, tick);
         let running = self.begin(cpu);
         let commanded = self.work_tick(scenario, entries, window, timer, woken, ctl, now, tick);
