@@ -1,4 +1,4 @@
-ghost use Rattle.std.specs.Prelude.{◌≡◌, ◌-◌, ◌<◌, ◌≤◌, ◌/◌, ◌++◌, [], ◌∷◌, length, All, None, false};
+ghost use Rattle.std.specs.Prelude.{◌≡◌, ◌-◌, ◌<◌, ◌≤◌, ◌/◌, ◌++◌, [], ◌∷◌, length, slice_index, All, None, false};
 ghost use Rattle.std.specs.Option.{option_map};
 ghost use Rattle.aps_model.specs.After.{is_at_horizon};
 ghost use Rattle.aps_model.specs.Budget.{all_parts};
@@ -169,6 +169,7 @@ impl Machine {
         requires cpu { cpu < length self.old.cpus }
         requires seats { ready.old ≡ seats_of self.old }
         requires dues { AreOthersDues self.old entries.now cpu dues.now }
+        requires own { slice_index dues.now cpu ≤ e.to }
         ensures same { pick self.old entries.now cpu e.to e ≡ record { entry = result; state = self.new; reboot = None } }
         ensures kept { IsKept self.old self.new }
         ensures seats { ready.new ≡ seats_of self.new }
