@@ -1,5 +1,5 @@
 -- Who may be flagged for the greatest candidate left: nobody where nobody may be flagged for the pick itself, than which it is no greater.
-use Rattle.std.proofs.Common.{◌≡◌, ℕ, zero, suc, ◌+◌, ◌<◌, ◌≤◌, List, [], ◌∷◌, set, refl, sym, ◌∙◌, ap, subst, Bool, true, false, cond, not, ◌&&◌, nat_eq, nat_lt, Option, Some, None, arith}
+use Rattle.std.proofs.Common.{◌≡◌, ℕ, zero, suc, ◌+◌, ◌<◌, ◌≤◌, List, [], ◌∷◌, set, refl, sym, ◌∙◌, ap, subst, Bool, true, false, cond, not, ◌&&◌, nat_eq, nat_lt, Option, Some, None, IfSome, arith}
 use Rattle.std.specs.List.{AllByRecursion, filter, fold, range_with_len}
 use Rattle.std.specs.Option.{option_map}
 use Rattle.std.proofs.lemmas.Bool.Decides.{nat_tests}
@@ -60,7 +60,7 @@ looked_less s h parts left picked c now d least none = by_test (not (nat_eq d c)
 
 -- ---- all of them
 
-scan_none : (look : ℕ → Option Rank) (a n : ℕ) → ((d : ℕ) → a ≤ d → d < a + n → look d ≡ None)
+pub scan_none : (look : ℕ → Option Rank) (a n : ℕ) → ((d : ℕ) → a ≤ d → d < a + n → look d ≡ None)
     → fold (λ best d. lower_ranked d (look d) best) None (range_with_len a n) ≡ None
 scan_none look a zero none = refl
 scan_none look a (suc n) none =
@@ -79,6 +79,14 @@ nobody_flagged s h parts c now cs picked none least = by_left (greatest s.shape.
         ap (option_map (λ (best : ℕ × Rank). best.0))
         (scan_none (looked_at s h parts (merit_among parts left) c now) 0 s.shape.cpus
         (λ d low high. looked_less s h parts (merit_among parts left) (merit_among parts picked) c now d (least left is) (none d (omega (arith, high)))))
+
+-- who may not be flagged for one that is no less may not be flagged for the greatest of these
+pub nobody_less : (s : SchedulerState) (h : List Entry) (parts : List PartFacts) (c now n : ℕ) (cs : List Contender) (picked : Contender) (left : Option Contender)
+    → NobodyRanks s h parts (merit_among parts picked) c now n → IsNoLess s.shape.free parts cs (Some picked) → greatest s.shape.free parts cs ≡ left
+    → IfSome left (λ l. NobodyRanks s h parts (merit_among parts l) c now n)
+nobody_less s h parts c now n cs picked None none least is = tt
+nobody_less s h parts c now n cs picked (Some l) none least is =
+    λ d high. looked_less s h parts (merit_among parts l) (merit_among parts picked) c now d (least l is) (none d high)
 
 -- ---- who is left is no greater than who was picked
 

@@ -1,6 +1,6 @@
 //! When each processor steps next, kept beside the entries: a step changes the due of its own processor and of the one that it
 //! flags.
-ghost use Rattle.std.specs.Prelude.{◌≡◌, ℕ, length, slice_index};
+ghost use Rattle.std.specs.Prelude.{◌≡◌, ◌<◌, ℕ, length, slice_index};
 ghost use Rattle.aps_core.specs.NextDues.{dues_after};
 
 use aps_model::{CpuId, Entry, Nanos};
@@ -40,6 +40,15 @@ impl Dues {
         ensures { result ≡ slice_index self.now cpu }
     {
         self.row[cpu.index()]
+    }
+
+    /// When the processor of this number steps next.
+    #[inline(always)]
+    pub fn at(&self, d: usize) -> Nanos
+        requires { d < 16 }
+        ensures { result ≡ slice_index self.now d }
+    {
+        self.row[d]
     }
 
     /// After the entry: its processor is due then, and who is flagged is due now.

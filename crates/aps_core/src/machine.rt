@@ -1,4 +1,4 @@
-ghost use Rattle.std.specs.Prelude.{◌≡◌, ◌-◌, ◌<◌, ◌≤◌, ◌/◌, ◌++◌, [], ◌∷◌, length, All, None, false};
+ghost use Rattle.std.specs.Prelude.{◌≡◌, ◌-◌, ◌<◌, ◌≤◌, ◌/◌, ◌++◌, [], ◌∷◌, length, slice_index, All, None, false};
 ghost use Rattle.std.specs.Option.{option_map};
 ghost use Rattle.aps_model.specs.After.{is_at_horizon};
 ghost use Rattle.aps_model.specs.Budget.{all_parts};
@@ -127,17 +127,16 @@ impl Machine {
         ensures within { result < length self.now.cpus }
     {
         let count = self.cpus.len();
-        let mut first = CpuId::at(0);
-        let mut least = dues.of(first);
-        for c in 0..count {
-            let cpu = CpuId::at(c);
-            let due = dues.of(cpu);
+        let mut first = 0;
+        let mut least = dues.at(first);
+        for c in 1..count {
+            let due = dues.at(c);
             if due < least {
-                first = cpu;
+                first = c;
                 least = due;
             }
         }
-        first
+        CpuId::at(first)
     }
 
     /// Whether each processor has stepped at the horizon.
@@ -170,6 +169,7 @@ impl Machine {
         requires cpu { cpu < length self.old.cpus }
         requires seats { ready.old ≡ seats_of self.old }
         requires dues { AreOthersDues self.old entries.now cpu dues.now }
+        requires own { slice_index dues.now cpu ≤ e.to }
         ensures same { pick self.old entries.now cpu e.to e ≡ record { entry = result; state = self.new; reboot = None } }
         ensures kept { IsKept self.old self.new }
         ensures seats { ready.new ≡ seats_of self.new }
@@ -191,13 +191,14 @@ impl Machine {
         }
     }
 
-    /// The tick of a moment.
-    fn tick_of(&self, moment: Nanos) -> u64
-        requires { moment ≤ horizon self.now.shape }
+    /// The tick of a moment. The tick at hand is best that of the moment.
+    fn tick_of(&self, moment: Nanos, at_hand: u32) -> u64
+        requires moment { moment ≤ horizon self.now.shape }
+        requires at_hand { at_hand ≤ 100000000 }
         ensures same { result ≡ moment / self.now.shape.tick }
         ensures few { result ≤ 1000000 }
     {
-        moment / self.shape.tick
+        due::tick_of(self.shape.tick, moment, u64::from(at_hand))
     }
 
     /// The moment at which the run ends.
@@ -245,7 +246,7 @@ impl Machine {
     {
         let now = dues.of(cpu);
         let from = ends.last_end(entries, cpu);
-        let tick = self.tick_of(now);
+        let tick = self.tick_of(now, window.tick());
         let is_later = usage::go_on(window, tick);
         let running = self.begin(cpu);
         let commanded = self.work_tick(scenario, entries, window, timer, woken, ctl, now, tick);

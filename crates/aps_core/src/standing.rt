@@ -105,9 +105,26 @@ impl Standing {
         requires rows { All IsRow rows.now }
         ensures { self.new ≡ parts_in shape.now rows.now window.now }
     {
+        if rows.len() == self.parts.len() {
+            return self.fill_again(shape, rows, window);
+        }
         self.clear();
         for p in 0..rows.len() {
             self.push(part_by(shape, &rows[p], window, PartitionId::at(p)));
+        }
+    }
+
+    /// The same, where there are as many partitions as before: most gates stay as they are.
+    fn fill_again(&mut self, shape: &Shape, rows: &[PartitionRow], window: &Window)
+        requires shape { IsShape shape.now }
+        requires few_rows { length rows.now ≤ 32 }
+        requires rows { All IsRow rows.now }
+        requires count { length self.old ≡ length rows.now }
+        ensures { self.new ≡ parts_in shape.now rows.now window.now }
+    {
+        for p in 0..rows.len() {
+            let at = PartitionId::at(p);
+            self.set(at, part_by(shape, &rows[p], window, at));
         }
     }
 

@@ -1,5 +1,5 @@
 //! The window of ticks, as the steps turn it, and how each partition stands by it.
-ghost use Rattle.std.specs.Prelude.{◌≡◌, ◌≢◌, ℕ, ◌-◌, ◌≤◌, ◌++◌, List, [], ◌∷◌, length, All, Some, false};
+ghost use Rattle.std.specs.Prelude.{◌≡◌, ◌≢◌, ℕ, ◌+◌, ◌-◌, ◌/◌, ◌<◌, ◌≤◌, ◌++◌, List, [], ◌∷◌, length, All, Some, false};
 ghost use Rattle.aps_model.specs.declared.entry.Entry.{Entry as EntryOf};
 ghost use Rattle.aps_model.specs.History.{IsEntry};
 ghost use Rattle.aps_model.specs.Partition.{IsRow};
@@ -9,7 +9,6 @@ ghost use Rattle.aps_core.specs.Counts.{CanBill, Counts, parts_in};
 ghost use Rattle.aps_core.specs.Part.{part_of};
 ghost use Rattle.aps_core.specs.Small.{IsSmall};
 
-use crate::due;
 use aps_model::{Entry, Nanos, PartFacts, PartitionId, PartitionRow, Shape, has_allowance};
 use aps_window::Window;
 
@@ -38,6 +37,22 @@ pub fn resize(window: &mut Window, before: u16, shape: &Shape)
     }
 }
 
+/// The tick of a moment that lies in the tick at hand or in the one before it.
+#[inline(always)]
+fn recent_tick(tick: u64, moment: Nanos, at_hand: u32) -> u32
+    requires some { 0 < tick }
+    requires short { tick ≤ 10000000 }
+    requires past { moment / tick ≤ at_hand }
+    requires recent { at_hand ≤ moment / tick + 1 }
+    ensures { result ≡ moment / tick }
+{
+    if u64::from(at_hand) * tick <= moment {
+        at_hand
+    } else {
+        at_hand - 1
+    }
+}
+
 /// The window has the time of one entry more.
 pub fn add_time(window: &mut Window, shape: &Shape, e: &Entry)
     requires shape { IsShape shape.now }
@@ -48,8 +63,8 @@ pub fn add_time(window: &mut Window, shape: &Shape, e: &Entry)
 {
     if let Some(p) = e.billed {
         if e.from < e.to {
-            let tick = due::tick_of(shape.tick, e.from, u64::from(window.tick()));
-            window.bill_at(p, tick as u32, e.to - e.from, e.critical);
+            let tick = recent_tick(shape.tick, e.from, window.tick());
+            window.bill_at(p, tick, e.to - e.from, e.critical);
         }
     }
 }

@@ -33,6 +33,7 @@ impl Machine {
 
     /// The partitions stand by their rows and what the window has of them: all of them anew, or the one that was billed
     /// where no other can stand otherwise than before.
+    #[inline(always)]
     pub fn stand_by(
         &self,
         window: &Window,

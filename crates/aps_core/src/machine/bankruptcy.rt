@@ -66,7 +66,7 @@ impl Machine {
         match self.shape.bankruptcy {
             Bankruptcy::Basic => None,
             Bankruptcy::Cancel => {
-                let tick = self.tick_of(e.to);
+                let tick = self.tick_of(e.to, window.tick());
                 self.cancel(tick, p);
                 None
             }

@@ -5,7 +5,7 @@ ghost use Rattle.aps_model.specs.SchedulerState.{cpu_at, thread_at, with_cpu};
 ghost use Rattle.aps_model.specs.Step.{billed};
 
 use super::Machine;
-use aps_model::{CpuId, Done, Entry, Nanos, Pick, ThreadNow};
+use aps_model::{CpuId, Done, Entry, Nanos, Pick};
 
 impl Machine {
     /// The beginning of the processor's step: its flag is cleared. The answer is what it runs.
@@ -28,15 +28,12 @@ impl Machine {
     {
         if let Some(pick) = running {
             let ns = e.to - e.from;
-            let thread = self.thread(pick.thread);
-            self.set_thread(
-                pick.thread,
-                ThreadNow {
-                    left: left_after(thread.left, ns),
-                    since: thread.since + ns,
-                    ..thread
-                },
-            );
+            let index = pick.thread.index();
+            if index < self.threads.len() {
+                let thread = &mut self.threads[index];
+                thread.left = left_after(thread.left, ns);
+                thread.since += ns;
+            }
         }
     }
 }

@@ -1,7 +1,7 @@
-ghost use Rattle.std.specs.Prelude.{◌≡◌, ℕ, ◌<◌, ◌≤◌, length, All, IfSome, false};
+ghost use Rattle.std.specs.Prelude.{◌≡◌, ℕ, ◌<◌, ◌≤◌, length, slice_index, All, IfSome};
 ghost use Rattle.std.specs.Option.{option_map};
 ghost use Rattle.aps_model.specs.Flag.{rank_of, looked_at, flag_for, with_flag};
-ghost use Rattle.aps_model.specs.Pick.{contenders, greatest};
+ghost use Rattle.aps_model.specs.Pick.{contenders, greatest, merit_among};
 ghost use Rattle.aps_ready.specs.Gates.{AreGates};
 ghost use Rattle.aps_core.specs.Lowest.{lowest, IsNoLess, NobodyRanks};
 ghost use Rattle.aps_core.specs.NextDues.{AreOthersDues};
@@ -37,7 +37,7 @@ impl Machine {
         }
     }
 
-    /// The rank of another processor that isn't due yet.
+    /// The rank of another processor that isn't due yet. The own one is due no later than now.
     #[inline(always)]
     fn looked_at(
         &self,
@@ -47,20 +47,23 @@ impl Machine {
         left: &Merit,
         c: CpuId,
         now: Nanos,
-        d: CpuId,
+        d: usize,
     ) -> Option<Rank>
         requires dues { AreOthersDues self.now entries.now c dues.now }
+        requires own { slice_index dues.now c ≤ now }
         requires d { d < length self.now.cpus }
         ensures { result ≡ looked_at self.now entries.now parts.now left.now c now d }
     {
-        if d != c && now < dues.of(d) {
-            self.rank_of(parts, left, &self.cpus[d.index()].running)
+        let running = &self.cpus[d].running;
+        if now < dues.at(d) {
+            self.rank_of(parts, left, running)
         } else {
             None
         }
     }
 
     /// Of the other processors that aren't due yet and may be flagged for a candidate of this merit, the one of least rank.
+    /// Before the first of these numbers there is none.
     fn lowest(
         &self,
         entries: &[Entry],
@@ -68,24 +71,28 @@ impl Machine {
         parts: &[PartFacts],
         c: CpuId,
         now: Nanos,
+        first: usize,
         left: &Merit,
     ) -> Option<(CpuId, Rank)>
         requires dues { AreOthersDues self.now entries.now c dues.now }
+        requires own { slice_index dues.now c ≤ now }
+        requires inside { first ≤ length self.now.cpus }
+        requires before { NobodyRanks self.now entries.now parts.now left.now c now first }
         ensures same { result ≡ lowest self.now entries.now parts.now left.now c now self.now.shape.cpus }
         ensures within { IfSome result (λ best. best.0 < length self.now.cpus) }
     {
         let mut best = None;
-        for d in 0..self.cpus.len() {
-            let other = CpuId::at(d);
-            let rank = self.looked_at(entries, dues, parts, left, c, now, other);
-            best = merit::lower_ranked(other, rank, best);
+        for d in first..self.cpus.len() {
+            let rank = self.looked_at(entries, dues, parts, left, c, now, d);
+            best = merit::lower_ranked(CpuId::at(d), rank, best);
         }
         best
     }
 
-    /// Whether some other processor that isn't due yet may be flagged for a candidate of this merit.
+    /// The first of the other processors that aren't due yet which may be flagged for a candidate of this merit; past the
+    /// last one where none may.
     #[inline(always)]
-    fn may_flag(
+    fn first_below(
         &self,
         entries: &[Entry],
         dues: &Dues,
@@ -93,17 +100,20 @@ impl Machine {
         c: CpuId,
         now: Nanos,
         merit: &Merit,
-    ) -> bool
-        requires { AreOthersDues self.now entries.now c dues.now }
-        ensures { result ≡ false → NobodyRanks self.now entries.now parts.now merit.now c now self.now.shape.cpus }
+    ) -> usize
+        requires dues { AreOthersDues self.now entries.now c dues.now }
+        requires own { slice_index dues.now c ≤ now }
+        ensures inside { result ≤ length self.now.cpus }
+        ensures before { NobodyRanks self.now entries.now parts.now merit.now c now result }
     {
-        for d in 0..self.cpus.len() {
-            let rank = self.looked_at(entries, dues, parts, merit, c, now, CpuId::at(d));
+        let count = self.cpus.len();
+        for d in 0..count {
+            let rank = self.looked_at(entries, dues, parts, merit, c, now, d);
             if rank.is_some() {
-                return true;
+                return d;
             }
         }
-        false
+        count
     }
 
     /// The processor that is flagged for the greatest candidate left after this pick. That candidate is no greater than the
@@ -122,6 +132,7 @@ impl Machine {
         requires small { All IsSmall parts.now }
         requires gates { AreGates parts.now gates }
         requires dues { AreOthersDues self.now entries.now c dues.now }
+        requires own { slice_index dues.now c ≤ now }
         requires seats { ready.now ≡ seats_of self.now }
         requires picked { IsNoLess self.now.shape.free parts.now (contenders self.now) picked.now }
         ensures same { result
@@ -132,14 +143,15 @@ impl Machine {
             return None;
         };
         let merit = merit::merit_among(parts, picked);
-        if !self.may_flag(entries, dues, parts, c, now, &merit) {
+        let first = self.first_below(entries, dues, parts, c, now, &merit);
+        if first == self.cpus.len() {
             return None;
         }
         let left = ready.greatest_by(gates, parts, self.shape.free);
-        self.flag_for(entries, dues, parts, c, now, &left)
+        self.flag_for(entries, dues, parts, c, now, first, &left)
     }
 
-    /// The processor that is flagged for the greatest candidate left.
+    /// The processor that is flagged for the greatest candidate left. Before the first of these numbers none may be.
     fn flag_for(
         &self,
         entries: &[Entry],
@@ -147,10 +159,14 @@ impl Machine {
         parts: &[PartFacts],
         c: CpuId,
         now: Nanos,
+        first: usize,
         left: &Option<Contender>,
     ) -> Option<CpuId>
         requires small { All IsSmall parts.now }
         requires dues { AreOthersDues self.now entries.now c dues.now }
+        requires own { slice_index dues.now c ≤ now }
+        requires inside { first ≤ length self.now.cpus }
+        requires before { IfSome left.now (λ l. NobodyRanks self.now entries.now parts.now (merit_among parts.now l) c now first) }
         ensures same { result ≡ flag_for self.now entries.now parts.now c now left.now }
         ensures within { IfSome result (λ d. d < length self.now.cpus) }
     {
@@ -158,7 +174,7 @@ impl Machine {
             return None;
         };
         let merit = merit::merit_among(parts, left);
-        cpu_of(self.lowest(entries, dues, parts, c, now, &merit))
+        cpu_of(self.lowest(entries, dues, parts, c, now, first, &merit))
     }
 
     /// The processor, if there is one, is flagged at this moment.

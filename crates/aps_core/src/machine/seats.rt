@@ -1,5 +1,5 @@
 ghost use Rattle.std.specs.Prelude.{◌≡◌, ◌≢◌, ℕ, length, IfOk, Some, true, false};
-ghost use Rattle.aps_core.specs.Seats.{seat_at, seats_of, IsRight, IsSeated};
+ghost use Rattle.aps_core.specs.Seats.{seat_at, seats_of, who_at, IsRight, IsSeated};
 ghost use Rattle.aps_laws.specs.Stamps.{IsStamped};
 
 use super::Machine;
@@ -9,6 +9,7 @@ use std::alloc::Global;
 
 impl Machine {
     /// The thread as a contender, if it is ready.
+    #[inline(always)]
     pub fn seat_at(&self, x: ThreadId) -> Option<Contender>
         ensures { result ≡ seat_at self.now x }
     {
@@ -48,6 +49,7 @@ impl Machine {
     }
 
     /// The thread isn't in, unless it is as it should be.
+    #[inline(always)]
     pub fn leave(&self, ready: &mut Ready, x: ThreadId)
         ensures own { IsSeated self.now ready.new x }
         ensures seated { (y : ℕ) → IsSeated self.now ready.old y → IsSeated self.now ready.new y }
@@ -55,9 +57,20 @@ impl Machine {
         ensures count { length ready.new ≡ length ready.old }
     {
         if let Some(seat) = ready.at(x) {
-            if !self.is_seated(&seat, x) {
-                ready.take(x);
-            }
+            self.leave_seat(ready, x, &seat);
+        }
+    }
+
+    /// The thread, which is in with these values, isn't in, unless it is as it should be.
+    fn leave_seat(&self, ready: &mut Ready, x: ThreadId, seat: &Contender)
+        requires { who_at ready.old x ≡ Some seat.now }
+        ensures own { IsSeated self.now ready.new x }
+        ensures seated { (y : ℕ) → IsSeated self.now ready.old y → IsSeated self.now ready.new y }
+        ensures right { (y : ℕ) → IsRight self.now ready.old y → IsRight self.now ready.new y }
+        ensures count { length ready.new ≡ length ready.old }
+    {
+        if !self.is_seated(seat, x) {
+            ready.take(x);
         }
     }
 

@@ -63,14 +63,11 @@ impl Machine {
             return;
         };
         let is_over = is_slice_over(&self.shape, policy_of(scenario, x), thread.since);
-        let ready = ThreadNow {
-            state: State::Ready,
-            ..thread
-        };
         if is_over {
-            self.set_stamped(x, ready);
+            let state = State::Ready;
+            self.set_stamped(x, ThreadNow { state, ..thread });
         } else {
-            self.set_thread(x, ready);
+            self.set_state(x, State::Ready);
         }
     }
 

@@ -29,10 +29,24 @@ impl Machine {
     {
         if is_any || is_exit(done) {
             self.sync_all(ready);
+        } else if is_alone(done) && woken.is_empty() {
+            self.sync_own(ready, own);
         } else {
             let peer = peer_of(done);
             self.sync_some(ready, woken, own, &peer, is_at_channel(done));
         }
+    }
+
+    /// The queues have the ready threads, where they had them but for this one, if there is one.
+    #[inline(always)]
+    fn sync_own(&self, ready: &mut Ready, own: &Option<ThreadId>)
+        requires count { length ready.old ≡ length self.now.threads }
+        requires stamped { IsStamped self.now.threads self.now.stamps }
+        requires tied { (y : ℕ) → own.now ≢ Some y → IsRight self.now ready.old y }
+        ensures { ready.new ≡ seats_of self.now }
+    {
+        self.leave_one(ready, own);
+        self.enter_one(ready, own);
     }
 
     /// The queues have the ready threads, where they had them but for those who woke, the two threads, and the servers if
@@ -154,6 +168,20 @@ pub fn peer_of(done: &Done) -> Option<ThreadId>
         Done::ReceiveGot(y) => Some(*y),
         Done::ReplyFreed(y) => Some(*y),
         _ => None,
+    }
+}
+
+/// Whether the operation had to do with no other thread, nor with what waits at a channel.
+fn is_alone(done: &Done) -> bool
+    ensures peer { result ≡ true → peer_of done.now ≡ None }
+    ensures channel { result ≡ true → is_at_channel done.now ≡ false }
+{
+    match done {
+        Done::SendBlocked => false,
+        Done::SendTo(_) => false,
+        Done::ReceiveGot(_) => false,
+        Done::ReplyFreed(_) => false,
+        _ => true,
     }
 }
 

@@ -55,16 +55,20 @@ impl Machine {
     pub fn set_state(&mut self, x: ThreadId, state: State)
         ensures { self.new ≡ with_state self.old x state }
     {
-        let thread = self.thread(x);
-        self.set_thread(x, ThreadNow { state, ..thread });
+        let index = x.index();
+        if index < self.threads.len() {
+            self.threads[index].state = state;
+        }
     }
 
     /// The thread has these values of its own from now on.
     pub fn set_own(&mut self, x: ThreadId, own: Facts)
         ensures { self.new ≡ with_own self.old x own }
     {
-        let thread = self.thread(x);
-        self.set_thread(x, ThreadNow { own, ..thread });
+        let index = x.index();
+        if index < self.threads.len() {
+            self.threads[index].own = own;
+        }
     }
 
     /// The thread is this one, with the next stamp.

@@ -30,13 +30,17 @@ impl Machine {
     }
 
     /// The timer has the thread if it sleeps, and only then, whatever it had.
+    #[inline(always)]
     pub fn time(&self, timer: &mut Timer, x: ThreadId)
         requires count { length timer.old ≡ length self.now.threads }
         ensures own { IsTimed self.now timer.new x }
         ensures others { (y : ℕ) → IsTimed self.now timer.old y → IsTimed self.now timer.new y }
         ensures count { length timer.new ≡ length timer.old }
     {
-        timer.set(x, self.until_at(x));
+        let until = self.until_at(x);
+        if timer.until(x) != until {
+            timer.set(x, until);
+        }
     }
 
     /// The same of each thread.
