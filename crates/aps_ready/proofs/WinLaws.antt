@@ -213,6 +213,37 @@ none_above free parts one best contest best_first closed = by_test (is_candidate
         ap (λ (t : Bool). not t || is_above free parts one best) (seen best.group contest.there)
         ∙ above_class free parts one best (other_class parts one h (closed (open_group parts one h))) (open_stands parts best contest.there best_first).class
 
+-- whoever isn't ahead, or isn't a candidate of class 1, doesn't win against one of that class
+pub first_wins_by : (free : Free) (parts : List PartFacts) (one best : Entrant) → (one.group < 64 → one.level ≤ 255) → IsContestant parts best
+    → open_first parts best.group ≡ true
+    → (is_ahead_by_level parts one best && (nat_lt one.group 64 && open_first parts one.group)) ≡ wins free parts one best
+first_wins_by free parts one best level contest best_first =
+    by_test (nat_lt one.group 64) (open_first parts one.group) refl refl
+  where
+    or_all : (a : Bool) → (a && true) ≡ a
+    or_all true = refl
+    or_all false = refl
+
+    or_none : (a : Bool) → (a && false) ≡ false
+    or_none true = refl
+    or_none false = refl
+
+    is_less : nat_lt one.group 64 ≡ true → one.group < 64
+    is_less h = grind (arith, nat_tests)
+
+    is_not_less : nat_lt one.group 64 ≡ false → one.group < 64 → ⊥
+    is_not_less h below = grind (arith, nat_tests)
+
+    by_test : (g o : Bool) → nat_lt one.group 64 ≡ g → open_first parts one.group ≡ o
+        → (is_ahead_by_level parts one best && (g && o)) ≡ wins free parts one best
+    by_test true true there opened =
+        or_all (is_ahead_by_level parts one best) ∙ first_above free parts one best (is_less there) (level (is_less there)) contest best_first opened
+    by_test true false there closed =
+        or_none (is_ahead_by_level parts one best) ∙ sym (none_above free parts one best contest best_first (λ _. closed))
+    by_test false o none _ =
+        or_none (is_ahead_by_level parts one best)
+        ∙ sym (none_above free parts one best contest best_first (λ there. absurd (is_not_less none there)))
+
 pub near_first : (parts : List PartFacts) (row : List Entrant) (aside : Entrant) (brackets : List (List Entrant)) (firsts : List Entrant)
     (best : Entrant) → IsDrawnBut row aside brackets → IsQueued row → AreTopped brackets firsts
     → ((row : List Entrant) (brackets : List (List Entrant)) → AreDrawn row brackets → IsQueued row → AreTopped brackets firsts

@@ -1,5 +1,6 @@
 //! Which of two is the greater candidate, of whatever classes and levels they are.
-ghost use Rattle.std.specs.Prelude.{◌≡◌, ◌<◌, ◌≤◌, true, All};
+ghost use Rattle.std.specs.Prelude.{◌&&◌, nat_lt, List, ◌≡◌, ◌<◌, ◌≤◌, true, All};
+ghost use Rattle.aps_model.specs.declared.merit.PartFacts.{PartFacts};
 ghost use Rattle.aps_model.specs.declared.shape.Free.{Free};
 ghost use Rattle.aps_ready.specs.Choice.{is_ahead_by_level};
 ghost use Rattle.aps_ready.specs.Gates.{open_first, AreGates};
@@ -14,6 +15,26 @@ use aps_model::{Free, PartFacts};
 /// Whether one more takes the place of the best so far: it is a candidate, and nobody is the best so far, or it is above.
 #[inline(always)]
 pub fn wins(gates: Gates, parts: &[PartFacts], free: Free, one: &Entrant, best: &Entrant) -> bool
+    requires gates { AreGates parts.now gates }
+    requires small { All IsSmall parts.now }
+    requires one { one.now.group < 64 → one.now.level ≤ 255 }
+    requires best { best.now.group < 64 → IsContestant parts.now best.now }
+    ensures { result ≡ wins free parts.now one.now best.now }
+{
+    if !is_of_first(gates, best) {
+        return wins_second(gates, parts, free, one, best);
+    }
+    // mostly the level decides
+    if is_ahead_by_level(parts, one, best) {
+        is_of_first(gates, one)
+    } else {
+        false
+    }
+}
+
+/// The same, also where the best so far isn't a candidate of class 1.
+#[inline(never)]
+fn wins_second(gates: Gates, parts: &[PartFacts], free: Free, one: &Entrant, best: &Entrant) -> bool
     requires gates { AreGates parts.now gates }
     requires small { All IsSmall parts.now }
     requires one { one.now.group < 64 → one.now.level ≤ 255 }
@@ -38,8 +59,33 @@ pub fn wins_first(parts: &[PartFacts], one: &Entrant, best: &Entrant) -> bool
     requires first { open_first parts.now best.now.group ≡ true }
     ensures { (free : Free) → result ≡ wins free parts.now one.now best.now }
 {
-    if one.group < 64 && is_in_first(parts, one.group as usize) {
-        is_ahead_by_level(parts, one, best)
+    // mostly the level decides
+    if is_ahead_by_level(parts, one, best) {
+        stands_in_first(parts, one)
+    } else {
+        false
+    }
+}
+
+/// Whether somebody is there, and is a candidate of class 1, by the gates.
+#[inline(always)]
+fn is_of_first(gates: Gates, one: &Entrant) -> bool
+    ensures { (parts : List PartFacts) → AreGates parts gates → result ≡ (nat_lt one.now.group 64 && open_first parts one.now.group) }
+{
+    if one.group < 64 {
+        gates.first.has(one.group as usize)
+    } else {
+        false
+    }
+}
+
+/// The same, with no gates.
+#[inline(always)]
+fn stands_in_first(parts: &[PartFacts], one: &Entrant) -> bool
+    ensures { result ≡ (nat_lt one.now.group 64 && open_first parts.now one.now.group) }
+{
+    if one.group < 64 {
+        is_in_first(parts, one.group as usize)
     } else {
         false
     }
