@@ -9,7 +9,7 @@ use Rattle.aps_core.specs.Standing.{OpensAlike}
 use Rattle.aps_core.proofs.StandsStay.{own_or_other}
 
 -- what is the same of a partition and of the one in its place is the same of each
-kept_in_place : {A : Type 0} (tells : PartFacts → A) (parts : List PartFacts) (p q : ℕ) (part : PartFacts) → p < length parts → tells (part_at parts p) ≡ tells part
+pub kept_in_place : {A : Type 0} (tells : PartFacts → A) (parts : List PartFacts) (p q : ℕ) (part : PartFacts) → p < length parts → tells (part_at parts p) ≡ tells part
     → tells (part_at parts q) ≡ tells (part_at (slice_set parts p part) q)
 kept_in_place tells parts p q part within same = elim (own_or_other q p) [
   | inl own ↦

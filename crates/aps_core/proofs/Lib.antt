@@ -14,6 +14,7 @@ pub mod StepParts
 pub mod StepCounts
 mod StandsStay
 mod GatesStay
+mod ClassesStay
 pub mod Boot
 pub mod Waking
 pub mod Turns

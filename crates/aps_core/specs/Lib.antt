@@ -1,4 +1,5 @@
 pub mod Calls
+pub mod Classes
 pub mod Kept
 pub mod LastEnds
 pub mod NextDues

@@ -7,12 +7,15 @@ use Rattle.aps_model.specs.Budget.{part_at}
 use Rattle.aps_ready.specs.declared.gates.Gates.{Gates}
 use Rattle.aps_ready.specs.Gates.{AreGates}
 use Rattle.aps_window.specs.Window.{Window}
+use Rattle.aps_core.specs.declared.classes.Classes.{Classes}
+use Rattle.aps_core.specs.Classes.{AreClasses}
 use Rattle.aps_core.specs.Counts.{part_in}
 use Rattle.aps_core.specs.Small.{IsSmall}
 
--- the gates are those of the partitions, whose numbers are small, and there is room for 32
-pub record IsStanding (parts : List PartFacts) (gates : Gates) (space : ℕ) : Type 0 where
+-- the gates and the classes are those of the partitions, whose numbers are small, and there is room for 32
+pub record IsStanding (parts : List PartFacts) (gates : Gates) (classes : Classes) (space : ℕ) : Type 0 where
   pub opened : AreGates parts gates
+  pub classed : AreClasses parts classes
   pub small : All IsSmall parts
   pub few : length parts ≤ 32
   pub room : 32 ≤ space

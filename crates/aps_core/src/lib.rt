@@ -3,6 +3,7 @@
 #![tactic(auto)]
 
 mod append;
+mod classes;
 mod due;
 mod dues;
 mod ends;

@@ -177,11 +177,12 @@ impl Machine {
         let now = e.to;
         let parts = standing.parts();
         let gates = standing.gates();
+        let classes = standing.classes();
         let starved = ready.missing_by(gates);
         let best = ready.take_greatest(gates, parts, self.shape.free);
         let picked = thread_of(&best);
         self.choose(parts, cpu, best);
-        let flagged = self.flag_after(entries, dues, parts, gates, ready, cpu, now, &best);
+        let flagged = self.flag_after(entries, dues, parts, gates, classes, ready, cpu, now, &best);
         self.flag(now, &flagged);
         Entry {
             picked,

@@ -5,10 +5,12 @@ ghost use Rattle.aps_model.specs.Partition.{IsRow};
 ghost use Rattle.aps_model.specs.declared.merit.PartFacts.{PartFacts as PartFactsOf};
 ghost use Rattle.aps_model.specs.Shape.{IsShape};
 ghost use Rattle.aps_ready.specs.Gates.{AreGates};
+ghost use Rattle.aps_core.specs.Classes.{AreClasses};
 ghost use Rattle.aps_core.specs.Counts.{parts_in};
 ghost use Rattle.aps_core.specs.Small.{IsSmall};
 ghost use Rattle.aps_core.specs.Standing.{DoOthersStand, OpensAlike};
 
+use crate::classes::{Classes, classes_after};
 use crate::usage::part_by;
 use aps_model::{NoMemory, PartFacts, PartitionId, PartitionRow, Shape};
 use aps_ready::Gates;
@@ -19,12 +21,14 @@ use std::marker::Model;
 /// The most partitions.
 const PARTITIONS: usize = 32;
 
-/// Each partition as it stands, in the place of its number, and the gates by which the ready threads are looked at.
+/// Each partition as it stands, in the place of its number, the gates by which the ready threads are looked at, and the classes
+/// of all threads.
 /// Contracts see the row of partitions.
 #[derive(Drop)]
 pub struct Standing {
     parts: Vec<PartFacts>,
     gates: Gates,
+    classes: Classes,
 }
 
 impl Model for Standing {
@@ -36,7 +40,7 @@ impl Model for Standing {
 
     ghost view = { λ s. s.parts.items };
 
-    ghost invariant = { λ s. IsStanding s.parts.items s.gates (vec_capacity s.parts) };
+    ghost invariant = { λ s. IsStanding s.parts.items s.gates s.classes (vec_capacity s.parts) };
 }
 
 impl Standing {
@@ -47,6 +51,7 @@ impl Standing {
         Ok(Standing {
             parts: Vec::with_capacity(alloc, PARTITIONS)?,
             gates: Gates::none(),
+            classes: Classes::none(),
         })
     }
 
@@ -68,12 +73,21 @@ impl Standing {
         self.gates
     }
 
+    /// The classes of their threads.
+    #[inline(always)]
+    pub fn classes(&self) -> Classes
+        ensures { AreClasses self.now result }
+    {
+        self.classes
+    }
+
     /// No partitions.
     fn clear(&mut self)
         ensures { self.new ≡ [] }
     {
         self.parts.clear();
         self.gates = Gates::none();
+        self.classes = Classes::none();
     }
 
     /// One partition more.
@@ -82,7 +96,9 @@ impl Standing {
         requires small { IsSmall part }
         ensures { self.new ≡ self.old ++ part ∷ [] }
     {
-        self.gates.set(PartitionId::at(self.parts.len()), &part);
+        let p = PartitionId::at(self.parts.len());
+        self.gates.set(p, &part);
+        self.classes.set(p, &part);
         self.parts.push_reserved(part);
     }
 
@@ -95,6 +111,7 @@ impl Standing {
     {
         let before = self.parts[p.index()];
         self.gates = gates_after(self.gates, p, &before, &part);
+        self.classes = classes_after(self.classes, p, &before, &part);
         self.parts[p.index()] = part;
     }
 

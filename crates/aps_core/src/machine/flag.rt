@@ -1,24 +1,35 @@
 ghost use Rattle.std.specs.Prelude.{◌≡◌, ℕ, ◌<◌, ◌≤◌, length, slice_index, All, IfSome};
 ghost use Rattle.std.specs.Option.{option_map};
 ghost use Rattle.aps_model.specs.Flag.{rank_of, looked_at, flag_for, with_flag};
+ghost use Rattle.aps_model.specs.Budget.{part_at};
+ghost use Rattle.aps_model.specs.Merit.{merit_of};
 ghost use Rattle.aps_model.specs.Pick.{contenders, greatest, merit_among};
 ghost use Rattle.aps_ready.specs.Gates.{AreGates};
+ghost use Rattle.aps_core.specs.Classes.{AreClasses};
 ghost use Rattle.aps_core.specs.Lowest.{lowest, IsNoLess, NobodyRanks};
 ghost use Rattle.aps_core.specs.NextDues.{AreOthersDues};
 ghost use Rattle.aps_core.specs.Seats.{seats_of};
 ghost use Rattle.aps_core.specs.Small.{IsSmall};
 
 use super::Machine;
+use crate::classes::Classes;
 use crate::dues::Dues;
 use crate::merit;
-use aps_merit::{is_below, merit_of};
-use aps_model::{Contender, CpuId, CpuNow, Entry, Merit, Nanos, PartFacts, Pick, Rank};
+use aps_merit::is_below;
+use aps_model::{Contender, CpuId, CpuNow, Entry, Facts, Merit, Nanos, PartFacts, Pick, Rank};
 use aps_ready::{Gates, Ready};
 
 impl Machine {
     /// The rank of a processor that keeps this, if it is idle or its thread is below a candidate of this merit.
     #[inline(always)]
-    fn rank_of(&self, parts: &[PartFacts], left: &Merit, running: &Option<Pick>) -> Option<Rank>
+    fn rank_of(
+        &self,
+        parts: &[PartFacts],
+        classes: Classes,
+        left: &Merit,
+        running: &Option<Pick>,
+    ) -> Option<Rank>
+        requires { AreClasses parts.now classes }
         ensures { result ≡ rank_of self.now parts.now left.now running.now }
     {
         let Some(pick) = running else {
@@ -26,7 +37,7 @@ impl Machine {
         };
         let facts = self.facts_of(pick.thread);
         let stamp = self.thread(pick.thread).stamp;
-        let merit = merit_of(facts, stamp, &merit::part_at(parts, facts.partition));
+        let merit = running_merit(&facts, stamp, parts, classes);
         if is_below(&merit, left, self.shape.free) {
             Some(Rank::Running {
                 class: merit.class,
@@ -44,11 +55,13 @@ impl Machine {
         entries: &[Entry],
         dues: &Dues,
         parts: &[PartFacts],
+        classes: Classes,
         left: &Merit,
         c: CpuId,
         now: Nanos,
         d: usize,
     ) -> Option<Rank>
+        requires classes { AreClasses parts.now classes }
         requires dues { AreOthersDues self.now entries.now c dues.now }
         requires own { slice_index dues.now c ≤ now }
         requires d { d < length self.now.cpus }
@@ -56,7 +69,7 @@ impl Machine {
     {
         let running = &self.cpus[d].running;
         if now < dues.at(d) {
-            self.rank_of(parts, left, running)
+            self.rank_of(parts, classes, left, running)
         } else {
             None
         }
@@ -69,11 +82,13 @@ impl Machine {
         entries: &[Entry],
         dues: &Dues,
         parts: &[PartFacts],
+        classes: Classes,
         c: CpuId,
         now: Nanos,
         first: usize,
         left: &Merit,
     ) -> Option<(CpuId, Rank)>
+        requires classes { AreClasses parts.now classes }
         requires dues { AreOthersDues self.now entries.now c dues.now }
         requires own { slice_index dues.now c ≤ now }
         requires inside { first ≤ length self.now.cpus }
@@ -83,7 +98,7 @@ impl Machine {
     {
         let mut best = None;
         for d in first..self.cpus.len() {
-            let rank = self.looked_at(entries, dues, parts, left, c, now, d);
+            let rank = self.looked_at(entries, dues, parts, classes, left, c, now, d);
             best = merit::lower_ranked(CpuId::at(d), rank, best);
         }
         best
@@ -97,10 +112,12 @@ impl Machine {
         entries: &[Entry],
         dues: &Dues,
         parts: &[PartFacts],
+        classes: Classes,
         c: CpuId,
         now: Nanos,
         merit: &Merit,
     ) -> usize
+        requires classes { AreClasses parts.now classes }
         requires dues { AreOthersDues self.now entries.now c dues.now }
         requires own { slice_index dues.now c ≤ now }
         ensures inside { result ≤ length self.now.cpus }
@@ -108,7 +125,7 @@ impl Machine {
     {
         let count = self.cpus.len();
         for d in 0..count {
-            let rank = self.looked_at(entries, dues, parts, merit, c, now, d);
+            let rank = self.looked_at(entries, dues, parts, classes, merit, c, now, d);
             if rank.is_some() {
                 return d;
             }
@@ -124,6 +141,7 @@ impl Machine {
         dues: &Dues,
         parts: &[PartFacts],
         gates: Gates,
+        classes: Classes,
         ready: &Ready,
         c: CpuId,
         now: Nanos,
@@ -131,6 +149,7 @@ impl Machine {
     ) -> Option<CpuId>
         requires small { All IsSmall parts.now }
         requires gates { AreGates parts.now gates }
+        requires classes { AreClasses parts.now classes }
         requires dues { AreOthersDues self.now entries.now c dues.now }
         requires own { slice_index dues.now c ≤ now }
         requires seats { ready.now ≡ seats_of self.now }
@@ -143,12 +162,12 @@ impl Machine {
             return None;
         };
         let merit = merit::merit_among(parts, picked);
-        let first = self.first_below(entries, dues, parts, c, now, &merit);
+        let first = self.first_below(entries, dues, parts, classes, c, now, &merit);
         if first == self.cpus.len() {
             return None;
         }
         let left = ready.greatest_by(gates, parts, self.shape.free);
-        self.flag_for(entries, dues, parts, c, now, first, &left)
+        self.flag_for(entries, dues, parts, classes, c, now, first, &left)
     }
 
     /// The processor that is flagged for the greatest candidate left. Before the first of these numbers none may be.
@@ -157,12 +176,14 @@ impl Machine {
         entries: &[Entry],
         dues: &Dues,
         parts: &[PartFacts],
+        classes: Classes,
         c: CpuId,
         now: Nanos,
         first: usize,
         left: &Option<Contender>,
     ) -> Option<CpuId>
         requires small { All IsSmall parts.now }
+        requires classes { AreClasses parts.now classes }
         requires dues { AreOthersDues self.now entries.now c dues.now }
         requires own { slice_index dues.now c ≤ now }
         requires inside { first ≤ length self.now.cpus }
@@ -174,7 +195,7 @@ impl Machine {
             return None;
         };
         let merit = merit::merit_among(parts, left);
-        cpu_of(self.lowest(entries, dues, parts, c, now, first, &merit))
+        cpu_of(self.lowest(entries, dues, parts, classes, c, now, first, &merit))
     }
 
     /// The processor, if there is one, is flagged at this moment.
@@ -189,6 +210,23 @@ impl Machine {
                 ..cpu
             };
         }
+    }
+}
+
+/// The merit of a thread with these values, whose class is kept.
+#[inline(always)]
+fn running_merit(facts: &Facts, stamp: u64, parts: &[PartFacts], classes: Classes) -> Merit
+    requires { AreClasses parts.now classes }
+    ensures { result ≡ merit_of facts.now stamp (part_at parts.now facts.now.partition) }
+{
+    let partition = facts.partition;
+    let part = merit::part_at(parts, partition);
+    Merit {
+        class: classes.class_of(partition, facts.critical),
+        priority: facts.priority,
+        used: part.used,
+        budget: part.budget,
+        stamp,
     }
 }
 

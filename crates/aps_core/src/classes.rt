@@ -1,0 +1,102 @@
+//! Which threads are of class 1, kept beside the gates: these tell of ready threads, and a processor's look at the others is at
+//! those that run.
+ghost use Rattle.std.specs.Prelude.{◌≡◌, ◌<◌, ◌%◌, ◌++◌, [], ◌∷◌, List, length, nat_lt, slice_set, if◌then◌else◌};
+ghost use Rattle.aps_model.specs.Budget.{part_at};
+ghost use Rattle.aps_model.specs.declared.merit.PartFacts.{PartFacts as PartFactsOf};
+ghost use Rattle.aps_ready.specs.Gates.{is_first};
+ghost use Rattle.aps_core.specs.Classes.{AreClasses};
+
+use aps_levels::Bits64;
+use aps_model::{PartFacts, PartitionId};
+
+/// The most partitions.
+const PARTITIONS: usize = 32;
+
+/// The groups of threads that are of class 1. A group is a partition's number, or 32 more for its critical threads.
+#[derive(Clone, Copy, Debug, PartialEq, Eq)]
+pub struct Classes {
+    pub first: Bits64,
+}
+
+impl Classes {
+    /// Those of no partitions.
+    pub fn none() -> Classes
+        ensures { AreClasses [] result }
+    {
+        Classes {
+            first: Bits64::none(),
+        }
+    }
+
+    /// The classes after one partition changed, or after one more came, whose number is the next.
+    #[inline(always)]
+    pub fn set(&mut self, p: PartitionId, part: &PartFacts)
+        ensures changed { (parts : List PartFactsOf)
+            → AreClasses parts self.old
+            → p < length parts
+            → AreClasses (slice_set parts p part.now) self.new }
+        ensures added { (parts : List PartFactsOf)
+            → AreClasses parts self.old
+            → length parts ≡ p
+            → AreClasses (parts ++ part.now ∷ []) self.new }
+    {
+        let place = p.index();
+        let plain = self.first.put(place, is_first(part, false));
+        self.first = plain.put(place + PARTITIONS, is_first(part, true));
+    }
+
+    /// The class of a thread of this partition, critical or not.
+    #[inline(always)]
+    pub fn class_of(self, p: PartitionId, critical: bool) -> u8
+        ensures { (parts : List PartFactsOf)
+            → AreClasses parts self
+            → result ≡ (if is_first (part_at parts p) critical then 1 else 0) }
+    {
+        if self.first.has(group_of(p, critical)) {
+            1
+        } else {
+            0
+        }
+    }
+}
+
+/// The group of a thread of this partition, critical or not.
+#[inline(always)]
+fn group_of(p: PartitionId, critical: bool) -> usize
+    ensures below { result < 64 }
+    ensures partition { result % 32 ≡ p }
+    ensures critical { nat_lt 31 result ≡ critical }
+{
+    let place = p.index();
+    if critical { place + PARTITIONS } else { place }
+}
+
+/// Whether the critical, or the other, threads of the partition are of class 1.
+#[inline(always)]
+fn is_first(part: &PartFacts, critical: bool) -> bool
+    ensures { result ≡ is_first part.now critical }
+{
+    part.funded | (critical & part.standing)
+}
+
+/// The classes after one partition stands otherwise. They are as they were where nothing changed that they go by.
+#[inline(always)]
+pub fn classes_after(
+    classes: Classes,
+    p: PartitionId,
+    before: &PartFacts,
+    part: &PartFacts,
+) -> Classes
+    ensures { (parts : List PartFactsOf)
+        → AreClasses parts classes
+        → p < length parts
+        → part_at parts p ≡ before.now
+        → AreClasses (slice_set parts p part.now) result }
+{
+    if before.funded == part.funded && before.standing == part.standing {
+        return classes;
+    }
+    let mut after = classes;
+    after.set(p, part);
+    after
+}
