@@ -1,25 +1,14 @@
+//! The run of two processors, and its dispatcher.
 ghost use Rattle.aps_cpu.specs.Row.{IsReady};
 ghost use Rattle.aps_lock.specs.Seats.{HasAllCpus};
 
+use super::TWO_PROCESSORS;
 use aps_core::Core;
 use aps_lock::{CpuSeat, Dispatch};
 use aps_model::Order;
 use aps_scenario::scenario_of;
 use std::alloc::Global;
 use std::process::Abort;
-
-const TWO_PROCESSORS: &str = r#"version = 1
-cpus = 2
-window = 10
-ticks = 10
-partition = [{name = "A", budget = 50}]
-thread = [
-  {name = "s0", priority = 20, program = ["run forever"]},
-  {name = "s1", priority = 20, program = ["run forever"]},
-  {name = "a0", partition = "A", program = ["run forever"]},
-  {name = "a1", partition = "A", program = ["run forever"]},
-]
-"#;
 
 /// The run of a scenario at its start, with room for 1,000 entries.
 fn booted(rt: &impl Abort, alloc: Global, text: &str, order: Order) -> Core {
