@@ -1,9 +1,9 @@
 //! Texts of demands: those that are read, and those that are refused, as one table.
-use aps_model::{Bankruptcy, Demand, Free};
-use aps_scenario::{PathText, ScenarioRefusal, demands_of};
+use super::scenarios::line_of;
+use aps_model::{Bankruptcy, Demand, Free, Name, Shape};
+use aps_scenario::{Demands, demands_of};
 use std::alloc::Global;
-use std::str::from_utf8;
-use std::test::Fail;
+use std::process::Abort;
 
 const TWO_DEMANDS: &str = r#"version = 1
 cpus = 2
@@ -70,58 +70,69 @@ const REFUSED: [(&str, &str); 18] = [
     ),
 ];
 
-fn path_of(path: &PathText) -> &str {
-    from_utf8(path.text()).unwrap_or("no text")
+/// A text is answered so as demands.
+fn check(rt: &impl Abort, alloc: Global, text: &str, answer: &str) {
+    let line = line_of(rt, alloc, demands_of(alloc, text.as_bytes()).err());
+    assert_eq!(rt; line.as_str(), answer);
 }
 
-/// How a text is answered: `read`, or its refusal's kind and path.
-fn answer_to(alloc: Global, text: &[u8]) -> Result<String, Fail> {
-    let line = match &demands_of(alloc, text) {
-        Ok(_) => format!(in alloc; "read")?,
-        Err(ScenarioRefusal::NoMemory) => format!(in alloc; "out of memory")?,
-        Err(ScenarioRefusal::Refused { kind, path }) => {
-            format!(in alloc; "{} {}", kind, path_of(path))?
-        }
-    };
-    Ok(line)
+fn read(rt: &impl Abort, alloc: Global, text: &str) -> Demands {
+    demands_of(alloc, text.as_bytes()).expect(rt, "demands")
 }
 
-fn is_demand(demand: &Demand, name: &[u8], need: u64) -> bool {
-    demand.name.text() == name && demand.need == need
-}
-
-#[test]
-fn demands_are_read(rt: HostRuntime) -> Result<(), Fail> {
-    let read = demands_of(rt.alloc(), TWO_DEMANDS.as_bytes())?;
-    let shape = read.shape();
-    assert!(rt;
-        shape.parts == 100 && shape.cpus == 2 && shape.tick == 1_000_000 && shape.window == 100
-    );
-    assert!(rt; shape.ticks == 1 && shape.call_ns == 1000 && !shape.limit);
-    assert!(rt; shape.free == Free::Priority && shape.bankruptcy == Bankruptcy::Basic);
-    let [a, b] = read.as_slice() else {
-        panic!(rt; "two demands");
-    };
-    assert!(rt; is_demand(a, b"A", 30_000_000));
-    assert!(rt; is_demand(b, b"B", 64_000_000_000));
-    Ok(())
-}
-
-#[test]
-fn sizes_are_read(rt: HostRuntime) -> Result<(), Fail> {
-    let read = demands_of(rt.alloc(), OTHER_THAN_THE_DEFAULTS.as_bytes())?;
-    let shape = read.shape();
-    assert!(rt;
-        shape.parts == 1000 && shape.cpus == 16 && shape.tick == 2_000_000 && shape.window == 8
-    );
-    assert_eq!(rt; read.as_slice().len(), 0);
-    Ok(())
-}
-
-#[test]
-fn other_texts_are_refused(rt: HostRuntime) -> Result<(), Fail> {
-    for (text, answer) in REFUSED {
-        assert_eq!(rt; answer_to(rt.alloc(), text.as_bytes())?.as_str(), answer);
+fn demand(rt: &impl Abort, name: &[u8], need: u64) -> Demand {
+    Demand {
+        name: Name::new(name).expect(rt, "a name"),
+        need,
     }
-    Ok(())
+}
+
+/// The shape of two processors, where nothing else is given.
+const SHAPE: Shape = Shape {
+    parts: 100,
+    cpus: 2,
+    tick: 1_000_000,
+    window: 100,
+    ticks: 1,
+    call_ns: 1000,
+    free: Free::Priority,
+    limit: false,
+    bankruptcy: Bankruptcy::Basic,
+};
+
+#[test]
+fn demands_are_read(rt: HostRuntime) {
+    let read = read(&rt, rt.alloc(), TWO_DEMANDS);
+    assert!(rt; *read.shape() == SHAPE);
+    let demands = [
+        demand(&rt, b"A", 30_000_000),
+        demand(&rt, b"B", 64_000_000_000),
+    ];
+    assert!(rt; read.as_slice() == demands.as_slice());
+}
+
+#[test]
+fn sizes_are_read(rt: HostRuntime) {
+    let read = read(&rt, rt.alloc(), OTHER_THAN_THE_DEFAULTS);
+    let shape = Shape {
+        parts: 1000,
+        cpus: 16,
+        tick: 2_000_000,
+        window: 8,
+        ..SHAPE
+    };
+    assert!(rt; *read.shape() == shape);
+    assert_eq!(rt; read.as_slice().len(), 0);
+}
+
+// The table is passed on, so that what is proved of the loop is free of its texts.
+fn check_all(rt: &impl Abort, alloc: Global, cases: &[(&str, &str)]) {
+    for (text, answer) in cases {
+        check(rt, alloc, text, answer);
+    }
+}
+
+#[test]
+fn other_texts_are_refused(rt: HostRuntime) {
+    check_all(&rt, rt.alloc(), &REFUSED);
 }

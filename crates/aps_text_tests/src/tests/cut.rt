@@ -1,6 +1,5 @@
 //! A text that is cut at each of its bytes.
-use crate::tests::texts::{TWO_PROCESSORS, answer_to};
-use std::test::Fail;
+use super::scenarios::{TWO_PROCESSORS, check};
 
 /// The answers to the first bytes of the text, for each range of their numbers.
 const ANSWERS: [(usize, usize, &str); 14] = [
@@ -21,9 +20,9 @@ const ANSWERS: [(usize, usize, &str); 14] = [
 ];
 
 /// The answer to so many bytes of the text.
-fn answer_to_first(count: usize) -> &'static str {
-    for (first, last, answer) in ANSWERS {
-        if first <= count && count <= last {
+fn answer_to_first(answers: &[(usize, usize, &'static str)], count: usize) -> &'static str {
+    for (first, last, answer) in answers {
+        if *first <= count && count <= *last {
             return answer;
         }
     }
@@ -31,12 +30,11 @@ fn answer_to_first(count: usize) -> &'static str {
 }
 
 #[test]
-fn each_beginning_of_a_text_is_read_or_refused(rt: HostRuntime) -> Result<(), Fail> {
+fn each_beginning_of_a_text_is_read_or_refused(rt: HostRuntime) {
     let text = TWO_PROCESSORS.as_bytes();
     assert_eq!(rt; text.len(), 337);
     for count in 0..=text.len() {
-        let answer = answer_to(rt.alloc(), &text[..count])?;
-        assert_eq!(rt; answer.as_str(), answer_to_first(count), "cut at {count}");
+        let answer = answer_to_first(&ANSWERS, count);
+        check(&rt, rt.alloc(), &text[..count], answer);
     }
-    Ok(())
 }

@@ -1,7 +1,8 @@
 //! Texts that are printed.
 use aps_model::{Scenario, ThreadRow};
 use aps_scenario::{print, scenario_of};
-use std::test::Fail;
+use std::alloc::Global;
+use std::process::Abort;
 
 const CHAIN_OF_SERVERS: &str = r#"version = 1
 cpus = 1
@@ -152,34 +153,42 @@ fn is_same(a: &Scenario, b: &Scenario) -> bool {
         && a.commands() == b.commands()
 }
 
+fn read(rt: &impl Abort, alloc: Global, text: &str) -> Scenario {
+    scenario_of(alloc, text.as_bytes()).expect(rt, "a scenario")
+}
+
+/// The text as which the scenario that this text is is printed.
+fn printed(rt: &impl Abort, alloc: Global, text: &str) -> String {
+    print(alloc, &read(rt, alloc, text)).expect(rt, "memory")
+}
+
 #[test]
-fn what_is_printed_is_read_again(rt: HostRuntime) -> Result<(), Fail> {
+fn what_is_printed_is_read_again(rt: HostRuntime) {
     for text in [CHAIN_OF_SERVERS, COMMANDS_ON_THE_TREE, PARTS_OF_A_THOUSAND] {
-        let scenario = scenario_of(rt.alloc(), text.as_bytes())?;
-        let printed = print(rt.alloc(), &scenario)?;
-        let again = scenario_of(rt.alloc(), printed.as_bytes())?;
+        let scenario = read(&rt, rt.alloc(), text);
+        let printed = printed(&rt, rt.alloc(), text);
+        let again = read(&rt, rt.alloc(), printed.as_str());
         assert!(rt; is_same(&scenario, &again));
     }
-    Ok(())
 }
 
 /// A partition's budget in a text is what it has before its children take theirs.
 #[test]
-fn budgets_are_printed_as_a_text_gives_them(rt: HostRuntime) -> Result<(), Fail> {
-    let scenario = scenario_of(rt.alloc(), PARTS_OF_A_THOUSAND.as_bytes())?;
-    let printed = print(rt.alloc(), &scenario)?;
-    assert!(rt; printed.contains("version = 2\n"));
-    assert!(rt; printed.contains("budget = 400\n"));
-    assert!(rt; printed.contains("budget = 150\n"));
-    assert!(rt; printed.contains("budget = 25\n"));
-    Ok(())
+fn budgets_are_printed_as_a_text_gives_them(rt: HostRuntime) {
+    let printed = printed(&rt, rt.alloc(), PARTS_OF_A_THOUSAND);
+    for line in [
+        "version = 2\n",
+        "budget = 400\n",
+        "budget = 150\n",
+        "budget = 25\n",
+    ] {
+        assert!(rt; printed.contains(line), "{line}");
+    }
 }
 
 /// The text is written out by hand, from the form that a scenario's text has.
 #[test]
-fn a_scenario_is_printed_as_its_text(rt: HostRuntime) -> Result<(), Fail> {
-    let scenario = scenario_of(rt.alloc(), SMALL.as_bytes())?;
-    let printed = print(rt.alloc(), &scenario)?;
+fn a_scenario_is_printed_as_its_text(rt: HostRuntime) {
+    let printed = printed(&rt, rt.alloc(), SMALL);
     assert_eq!(rt; printed.as_str(), TEXT_OF_SMALL);
-    Ok(())
 }

@@ -1,7 +1,7 @@
 //! Texts that are refused, as one table.
-use crate::tests::texts::{TWO_EQUAL_PARTITIONS, answer_to};
+use super::scenarios::{TWO_EQUAL_PARTITIONS, check};
 use std::alloc::Global;
-use std::test::Fail;
+use std::process::Abort;
 
 /// How a text of the table is made.
 #[derive(Clone, Copy)]
@@ -226,46 +226,80 @@ const ANSWERS: [(Text, &str); 54] = [
     ),
 ];
 
-/// The text with so many copies of a piece behind it.
-fn push_copies(text: &mut String, piece: &str, count: usize) -> Result<(), Fail> {
-    for _ in 0..count {
-        text.push_str(piece)?;
-    }
-    Ok(())
+fn push(rt: &impl Abort, text: &mut String, piece: &str) {
+    text.push_str(piece).expect(rt, "memory");
 }
 
-fn nested(alloc: Global, depth: usize) -> Result<String, Fail> {
-    let mut window = "window = ".to_string(alloc)?;
-    push_copies(&mut window, "[", depth)?;
-    push_copies(&mut window, "]", depth)?;
-    Ok(TWO_EQUAL_PARTITIONS.replacen(alloc, "window = 10", window.as_str(), 1)?)
+/// The text with so many copies of a piece behind it.
+fn push_copies(rt: &impl Abort, text: &mut String, piece: &str, count: usize) {
+    for _ in 0..count {
+        push(rt, text, piece);
+    }
+}
+
+/// So many copies of a piece between two others.
+fn copies(
+    rt: &impl Abort,
+    alloc: Global,
+    before: &str,
+    piece: &str,
+    count: usize,
+    after: &str,
+) -> String {
+    let mut text = String::new(alloc);
+    push(rt, &mut text, before);
+    push_copies(rt, &mut text, piece, count);
+    push(rt, &mut text, after);
+    text
+}
+
+/// The two equal partitions, where the first text is replaced by the second.
+fn with(rt: &impl Abort, alloc: Global, old: &str, new: &str) -> String {
+    TWO_EQUAL_PARTITIONS
+        .replacen(alloc, old, new, 1)
+        .expect(rt, "memory")
+}
+
+fn nested(rt: &impl Abort, alloc: Global, depth: usize) -> String {
+    let opened = copies(rt, alloc, "window = ", "[", depth, "");
+    let window = copies(rt, alloc, opened.as_str(), "]", depth, "");
+    with(rt, alloc, "window = 10", window.as_str())
+}
+
+/// The two equal partitions with this command.
+fn with_command(rt: &impl Abort, alloc: Global, command: &str) -> String {
+    format!(in alloc; "{TWO_EQUAL_PARTITIONS}command = [{command}]\n").expect(rt, "memory")
 }
 
 /// The text that is made so, unless it stands in the table whole.
-fn made(alloc: Global, text: Text) -> Result<String, Fail> {
+fn made(rt: &impl Abort, alloc: Global, text: Text) -> String {
     match text {
-        Whole(_) => Ok(String::new(alloc)),
-        With(old, new) => Ok(TWO_EQUAL_PARTITIONS.replacen(alloc, old, new, 1)?),
-        Command(command) => Ok(format!(in alloc; "{TWO_EQUAL_PARTITIONS}command = [{command}]\n")?),
-        Copies(before, piece, count, after) => {
-            let mut text = before.to_string(alloc)?;
-            push_copies(&mut text, piece, count)?;
-            text.push_str(after)?;
-            Ok(text)
-        }
-        Nested(depth) => nested(alloc, depth),
+        Whole(_) => String::new(alloc),
+        With(old, new) => with(rt, alloc, old, new),
+        Command(command) => with_command(rt, alloc, command),
+        Copies(before, piece, count, after) => copies(rt, alloc, before, piece, count, after),
+        Nested(depth) => nested(rt, alloc, depth),
+    }
+}
+
+/// The text that is made so is answered so.
+fn check_made(rt: &impl Abort, alloc: Global, text: Text, answer: &str) {
+    if let Whole(bytes) = text {
+        check(rt, alloc, bytes, answer);
+    } else {
+        let made = made(rt, alloc, text);
+        check(rt, alloc, made.as_bytes(), answer);
+    }
+}
+
+// The table is passed on, so that what is proved of the loop is free of its texts.
+fn check_all(rt: &impl Abort, alloc: Global, cases: &[(Text, &str)]) {
+    for (text, answer) in cases {
+        check_made(rt, alloc, *text, answer);
     }
 }
 
 #[test]
-fn each_text_of_the_table_is_answered(rt: HostRuntime) -> Result<(), Fail> {
-    for (text, answer) in ANSWERS {
-        let made = made(rt.alloc(), text)?;
-        let bytes = match text {
-            Whole(bytes) => bytes,
-            _ => made.as_bytes(),
-        };
-        assert_eq!(rt; answer_to(rt.alloc(), bytes)?.as_str(), answer);
-    }
-    Ok(())
+fn each_text_of_the_table_is_answered(rt: HostRuntime) {
+    check_all(&rt, rt.alloc(), &ANSWERS);
 }
