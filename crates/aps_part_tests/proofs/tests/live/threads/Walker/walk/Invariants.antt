@@ -1,7 +1,7 @@
 use Rattle.std.proofs.Common.{◌<◌, ◌≤◌}
 use Rattle.aps_live.specs.Seats.{HasCpu, IsSeatOf}
-use Rattle.aps_live_tests.specs.Opened.{HasFour, IsStill}
-use Rattle.aps_live_tests.proofs.tests.threads.Walker.walk.Given as goal
+use Rattle.aps_part_tests.specs.Opened.{HasFour, IsStill}
+use Rattle.aps_part_tests.proofs.tests.live.threads.Walker.walk.Given as goal
 
 abbrev pub invariant-loop : goal.invariant-loop
 invariant-loop g l = record {

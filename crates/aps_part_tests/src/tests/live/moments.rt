@@ -1,12 +1,11 @@
 //! Moments: before the one seen, at the limit, on the boundaries of ticks, and far apart.
-use crate::tests::calls::{OneProcessor, Told, Who, at, took};
+use super::calls::{OneProcessor, Told, Who, at, took};
 use aps_live::LiveTurn;
-use std::test::Fail;
 
 /// A moment before the one seen changes nothing: neither the history, nor who waits. A's wake is told again.
 #[test]
-fn a_moment_gone_by_changes_nothing(rt: HostRuntime) -> Result<(), Fail> {
-    let mut run = OneProcessor::open(rt.alloc(), 10)?;
+fn a_moment_gone_by_changes_nothing(rt: HostRuntime) {
+    let mut run = OneProcessor::open(&rt, rt.alloc(), 10);
     let calls = [
         at(
             1_000_000,
@@ -39,15 +38,14 @@ fn a_moment_gone_by_changes_nothing(rt: HostRuntime) -> Result<(), Fail> {
             ),
         ),
     ];
-    assert_eq!(rt; run.differs(&rt, &calls), None);
+    run.check(&rt, &calls);
     assert_eq!(rt; run.seen_len(), 2);
-    Ok(())
 }
 
 /// At the limit a moment before the one seen is told first.
 #[test]
-fn a_full_history_tells_moments_gone_by_first(rt: HostRuntime) -> Result<(), Fail> {
-    let mut run = OneProcessor::open(rt.alloc(), 1)?;
+fn a_full_history_tells_moments_gone_by_first(rt: HostRuntime) {
+    let mut run = OneProcessor::open(&rt, rt.alloc(), 1);
     let calls = [
         at(
             5,
@@ -59,16 +57,15 @@ fn a_full_history_tells_moments_gone_by_first(rt: HostRuntime) -> Result<(), Fai
         at(6, Told::Block, LiveTurn::Full),
         at(4, Told::Stay, LiveTurn::Back { now_seen: 5 }),
     ];
-    assert_eq!(rt; run.differs(&rt, &calls), None);
+    run.check(&rt, &calls);
     assert_eq!(rt; run.seen_len(), 1);
-    Ok(())
 }
 
 /// `A` has used 4,999,999 ns, and is in budget; then 5,000,000, and isn't. At 9,999,999 ticks 0 to 9 count, with all that `A`
 /// used. At 10,000,000 it is ticks 1 to 10, with 4,000,000 of it; and `System` has used 5,000,000.
 #[test]
-fn a_tick_is_left_behind_at_its_boundary(rt: HostRuntime) -> Result<(), Fail> {
-    let mut run = OneProcessor::open(rt.alloc(), 10)?;
+fn a_tick_is_left_behind_at_its_boundary(rt: HostRuntime) {
+    let mut run = OneProcessor::open(&rt, rt.alloc(), 10);
     let calls = [
         at(
             0,
@@ -96,15 +93,14 @@ fn a_tick_is_left_behind_at_its_boundary(rt: HostRuntime) -> Result<(), Fail> {
             took(9_999_999, 10_000_000, Some(Who::S), Some(Who::A), None),
         ),
     ];
-    assert_eq!(rt; run.differs(&rt, &calls), None);
-    Ok(())
+    run.check(&rt, &calls);
 }
 
 /// Of the 25 ticks that `A` ran ticks 16 to 24 count at 25,000,000, and 4,000,000 ns of it at 30,000,000, when `System` has
 /// used 5,000,000.
 #[test]
-fn an_interval_outlasts_the_window(rt: HostRuntime) -> Result<(), Fail> {
-    let mut run = OneProcessor::open(rt.alloc(), 10)?;
+fn an_interval_outlasts_the_window(rt: HostRuntime) {
+    let mut run = OneProcessor::open(&rt, rt.alloc(), 10);
     let calls = [
         at(
             0,
@@ -127,14 +123,13 @@ fn an_interval_outlasts_the_window(rt: HostRuntime) -> Result<(), Fail> {
             took(29_999_999, 30_000_000, Some(Who::S), Some(Who::A), None),
         ),
     ];
-    assert_eq!(rt; run.differs(&rt, &calls), None);
-    Ok(())
+    run.check(&rt, &calls);
 }
 
 /// The last moment that may be told, after an interval of 10,000,000 ticks, 9 of which count.
 #[test]
-fn the_last_moment_is_taken(rt: HostRuntime) -> Result<(), Fail> {
-    let mut run = OneProcessor::open(rt.alloc(), 10)?;
+fn the_last_moment_is_taken(rt: HostRuntime) {
+    let mut run = OneProcessor::open(&rt, rt.alloc(), 10);
     let calls = [
         at(
             0,
@@ -154,6 +149,5 @@ fn the_last_moment_is_taken(rt: HostRuntime) -> Result<(), Fail> {
             },
         ),
     ];
-    assert_eq!(rt; run.differs(&rt, &calls), None);
-    Ok(())
+    run.check(&rt, &calls);
 }

@@ -1,14 +1,13 @@
 //! Two runs call by call, and the histories that they leave.
-use crate::tests::calls::{OneProcessor, Told, Who, at, took};
+use super::calls::{OneProcessor, Told, Who, at, took};
 use aps_live::{LiveEvent, LiveTurn};
 use aps_model::ThreadId;
-use std::test::Fail;
 
 /// Of the 8,000,000 ns of `System` only 3,000,000 lie in ticks 5 to 14, so at 14,500,000 it is in budget, and `A`, which ran
 /// 6,500,000, isn't.
 #[test]
-fn a_long_interval_is_billed_where_it_lies(rt: HostRuntime) -> Result<(), Fail> {
-    let mut run = OneProcessor::open(rt.alloc(), 4)?;
+fn a_long_interval_is_billed_where_it_lies(rt: HostRuntime) {
+    let mut run = OneProcessor::open(&rt, rt.alloc(), 4);
     let calls = [
         at(
             0,
@@ -39,23 +38,22 @@ fn a_long_interval_is_billed_where_it_lies(rt: HostRuntime) -> Result<(), Fail> 
         ),
         at(14_500_000, Told::Stay, LiveTurn::Full),
     ];
-    assert_eq!(rt; run.differs(&rt, &calls), None);
-    let history = run.close();
-    assert_eq!(rt; history.entries().len(), 4);
+    run.check(&rt, &calls);
     let events = [
         LiveEvent::Wake(ThreadId::at(0)),
         LiveEvent::Block,
         LiveEvent::Wake(ThreadId::at(1)),
         LiveEvent::Wake(ThreadId::at(0)),
     ];
+    let history = run.close();
+    assert!(rt; history.entries().len() == 4);
     assert!(rt; history.events() == events.as_slice());
-    Ok(())
 }
 
 /// `A` ran 6,500,000 ns of ticks 0 to 9, more than its 5,000,000, since nobody asked in between.
 #[test]
-fn nobody_is_stopped_between_two_calls(rt: HostRuntime) -> Result<(), Fail> {
-    let mut run = OneProcessor::open(rt.alloc(), 10)?;
+fn nobody_is_stopped_between_two_calls(rt: HostRuntime) {
+    let mut run = OneProcessor::open(&rt, rt.alloc(), 10);
     let calls = [
         at(
             0,
@@ -79,6 +77,5 @@ fn nobody_is_stopped_between_two_calls(rt: HostRuntime) -> Result<(), Fail> {
             ),
         ),
     ];
-    assert_eq!(rt; run.differs(&rt, &calls), None);
-    Ok(())
+    run.check(&rt, &calls);
 }

@@ -1,12 +1,12 @@
 //! A run of two processors.
-ghost use Rattle.std.specs.Prelude.{◌≤◌, IfOk};
-ghost use Rattle.aps_live_tests.specs.Opened.{HasFour};
+ghost use Rattle.std.specs.Prelude.{◌≤◌};
+ghost use Rattle.aps_part_tests.specs.Opened.{HasFour};
 ghost use Rattle.aps_live.specs.Seats.{HasAllCpus, IsSeatOf};
 
 use aps_live::{Live, LiveSeat};
 use aps_scenario::scenario_of;
-use std::alloc::{AllocError, Global};
-use std::test::Fail;
+use std::alloc::Global;
+use std::process::Abort;
 
 const TWO_PROCESSORS: &str = r#"version = 1
 cpus = 2
@@ -22,12 +22,10 @@ thread = [
 "#;
 
 /// The run, with room for 1,000 entries, and the seat of both processors.
-pub fn opened(alloc: Global) -> Result<(Live, LiveSeat), Fail>
-    ensures { IfOk result (λ r. IsSeatOf r.0 r.1 × HasAllCpus r.1 × HasFour r.0) }
+pub fn opened(rt: &impl Abort, alloc: Global) -> (Live, LiveSeat)
+    ensures { IsSeatOf result.0 result.1 × HasAllCpus result.1 × HasFour result.0 }
 {
-    let scenario = scenario_of(alloc, TWO_PROCESSORS.as_bytes())?;
-    if scenario.threads().len() < 4 {
-        return Err(AllocError)?;
-    }
-    Ok(Live::open(alloc, scenario, 1000)?)
+    let scenario = scenario_of(alloc, TWO_PROCESSORS.as_bytes()).expect(rt, "a scenario");
+    assert!(rt; scenario.threads().len() >= 4);
+    Live::open(alloc, scenario, 1000).expect(rt, "memory")
 }

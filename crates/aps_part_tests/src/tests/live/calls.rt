@@ -7,9 +7,9 @@ ghost use Rattle.aps_live.specs.Seats.{HasAllCpus, IsSeatOf};
 use aps_live::{Live, LiveEvent, LiveHistory, LiveSeat, LiveTurn};
 use aps_model::{CpuId, Done, Entry, Nanos, PartitionId, ThreadId};
 use aps_scenario::scenario_of;
-use std::alloc::{AllocError, Global};
+use std::alloc::Global;
+use std::process::Abort;
 use std::sync::Wait;
-use std::test::Fail;
 
 const ONE_PROCESSOR: &str = r#"version = 1
 cpus = 1
@@ -107,16 +107,14 @@ pub struct OneProcessor {
 
 impl OneProcessor {
     /// A run with room for so many entries.
-    pub fn open(alloc: Global, limit: u32) -> Result<OneProcessor, Fail>
+    pub fn open(rt: &impl Abort, alloc: Global, limit: u32) -> OneProcessor
         requires some { 1 ≤ limit }
         requires few { limit ≤ 4000000 }
     {
-        let scenario = scenario_of(alloc, ONE_PROCESSOR.as_bytes())?;
-        if scenario.threads().len() < 2 {
-            return Err(AllocError)?;
-        }
-        let (live, seat) = Live::open(alloc, scenario, limit)?;
-        Ok(OneProcessor { live, seat })
+        let scenario = scenario_of(alloc, ONE_PROCESSOR.as_bytes()).expect(rt, "a scenario");
+        assert!(rt; scenario.threads().len() >= 2);
+        let (live, seat) = Live::open(alloc, scenario, limit).expect(rt, "memory");
+        OneProcessor { live, seat }
     }
 
     /// One call for processor 0.
@@ -132,16 +130,12 @@ impl OneProcessor {
             .live_step(rt, &mut self.seat, CpuId::at(0), now, event)
     }
 
-    /// Makes the calls, and tells the first one whose answer is another, by its place and the answer.
-    pub fn differs<R: Wait>(&mut self, rt: &R, calls: &[Call]) -> Option<(usize, LiveTurn)> {
-        for i in 0..calls.len() {
-            let call = calls[i];
+    /// Makes the calls, each of which has to give its answer.
+    pub fn check<R: Abort + Wait>(&mut self, rt: &R, calls: &[Call]) {
+        for call in calls {
             let turn = self.step(rt, call.now, call.told);
-            if turn != call.turn {
-                return Some((i, turn));
-            }
+            assert_eq!(rt; turn, call.turn);
         }
-        None
     }
 
     /// How many entries the seat has seen.

@@ -1,16 +1,16 @@
 //! Two threads, each with a seat of one processor and moments of its own.
-ghost use Rattle.std.specs.Prelude.{◌≡◌, ◌<◌, ◌≤◌};
+ghost use Rattle.std.specs.Prelude.{◌≡◌, ◌+◌, ◌<◌, ◌≤◌};
 ghost use Rattle.aps_live.specs.Seats.{HasCpu, IsSeatOf};
-ghost use Rattle.aps_live_tests.specs.Opened.{HasFour, IsStill};
+ghost use Rattle.aps_part_tests.specs.Opened.{HasFour, IsStill};
 
-use crate::tests::two_processors::opened;
+use super::two_processors::opened;
 use aps_live::{Live, LiveEvent, LiveHistory, LiveSeat, LiveTurn};
 use aps_model::{CpuId, Entry, Nanos, ThreadId};
 use std::alloc::Global;
+use std::process::Abort;
 use std::sync::Wait;
 use std::sync::atomic::Ordering::SeqCst;
 use std::sync::atomic::{AtomicBool, AtomicU64};
-use std::test::Fail;
 use std::thread;
 use std::thread::{Threads, join_mut};
 
@@ -157,17 +157,35 @@ fn walk_both<R: Threads + Wait + Sync>(
     );
 }
 
-#[test]
-fn two_threads_find_their_entries(rt: HostRuntime) -> Result<(), Fail> {
-    let alloc: Global = rt.alloc();
-    let (live, mut x) = opened(alloc)?;
-    assert_eq!(rt; x.last().index(), 1);
+/// The history, and the entries that each thread took.
+#[derive(Drop)]
+struct Walked {
+    history: LiveHistory,
+    of_zero: Vec<Entry>,
+    of_one: Vec<Entry>,
+}
+
+/// Lets both walk, and hands back the history and what each took.
+fn both_walked<R: Abort + Threads + Wait + Sync>(
+    rt: &R,
+    alloc: Global,
+    meeting: &Meeting,
+) -> Walked {
+    let (live, mut x) = opened(rt, alloc);
+    assert!(rt; x.last().index() == 1);
     let y = live.split(&mut x, CpuId::at(1));
-    let meeting = Meeting::new();
     let mut zero = Walker::new(alloc, x, ThreadId::at(0));
     let mut one = Walker::new(alloc, y, ThreadId::at(2));
-    walk_both(&rt, &live, &meeting, &mut zero, &mut one);
-    assert!(rt; !meeting.missed.load(SeqCst));
+    walk_both(rt, &live, meeting, &mut zero, &mut one);
+    closed(live, zero, one)
+}
+
+/// The history of the run that both have walked to its end.
+fn closed(live: Live, zero: Walker, one: Walker) -> Walked
+    requires zero { IsSeatOf live zero.seat × (zero.seat.first ≡ 0) }
+    requires one { IsSeatOf live one.seat × (one.seat.last + 1 ≡ live.setup.scenario.shape.cpus) }
+    requires next { zero.seat.last + 1 ≡ one.seat.first }
+{
     let Walker {
         seat: mut x,
         took: of_zero,
@@ -179,10 +197,21 @@ fn two_threads_find_their_entries(rt: HostRuntime) -> Result<(), Fail> {
         ..
     } = one;
     live.join(&mut x, y);
-    let history = live.close(x);
-    assert_eq!(rt; (of_zero.len(), of_one.len()), (STEPS, STEPS));
-    assert!(rt; is_found(&history, CpuId::at(0), &of_zero));
-    assert!(rt; is_found(&history, CpuId::at(1), &of_one));
-    assert_eq!(rt; history.entries().len(), 2 * STEPS);
-    Ok(())
+    Walked {
+        history: live.close(x),
+        of_zero,
+        of_one,
+    }
+}
+
+#[test]
+fn two_threads_find_their_entries(rt: HostRuntime) {
+    let meeting = Meeting::new();
+    let walked = both_walked(&rt, rt.alloc(), &meeting);
+    assert!(rt; !meeting.missed.load(SeqCst));
+    let lengths = (walked.of_zero.len(), walked.of_one.len());
+    assert!(rt; lengths == (STEPS, STEPS));
+    assert!(rt; is_found(&walked.history, CpuId::at(0), &walked.of_zero));
+    assert!(rt; is_found(&walked.history, CpuId::at(1), &walked.of_one));
+    assert!(rt; walked.history.entries().len() == 2 * STEPS);
 }
