@@ -1,24 +1,7 @@
-//! Texts that are refused, as one table.
+//! Texts that are refused, as tables.
 use super::scenarios::{TWO_EQUAL_PARTITIONS, check};
 use std::alloc::Global;
 use std::process::Abort;
-
-/// How a text of the table is made.
-#[derive(Clone, Copy)]
-enum Text {
-    /// These bytes.
-    Whole(&'static [u8]),
-    /// The two equal partitions, where the first text is replaced by the second.
-    With(&'static str, &'static str),
-    /// The two equal partitions with this command.
-    Command(&'static str),
-    /// So many copies of a piece between two others.
-    Copies(&'static str, &'static str, usize, &'static str),
-    /// The two equal partitions, where the window is an array nested so deep.
-    Nested(usize),
-}
-
-use Text::{Command, Copies, Nested, Whole, With};
 
 /// The part of the two equal partitions in front of their threads.
 const SIZES: &str = r#"version = 1
@@ -58,173 +41,185 @@ thread = [
 const FIRST_THREAD: &str = r#"thread = [
   {name = "s", program = ["run forever"]},"#;
 
-const ANSWERS: [(Text, &str); 54] = [
-    (Whole(b""), "missing version"),
-    (Copies("", "#", 1_048_576, ""), "missing version"),
-    (Whole(b"version = \"1"), "not-toml -"),
-    (Whole(b"version 1"), "not-toml -"),
-    (Whole(b"version = \xff"), "not-toml -"),
-    (Whole(b"version = 1\ncolour = 2"), "unknown-key colour"),
-    (Whole(b"version = 1\n\"b c\" = 2\na = 3"), "unknown-key a"),
-    (Whole(b"version = 1\n\"b c\" = 2"), "unknown-key ?"),
-    (Whole(b"version = true"), "wrong-kind version"),
-    (With("version = 1", "version = 3"), "out-of-range version"),
-    (With("window = 10", "window = 7"), "out-of-range window"),
-    (Nested(50), "wrong-kind window"),
-    (Nested(1000), "not-toml -"),
+/// Whole texts, each with its answer.
+const WHOLE: [(&[u8], &str); 8] = [
+    (b"", "missing version"),
+    (b"version = \"1", "not-toml -"),
+    (b"version 1", "not-toml -"),
+    (b"version = \xff", "not-toml -"),
+    (b"version = 1\ncolour = 2", "unknown-key colour"),
+    (b"version = 1\n\"b c\" = 2\na = 3", "unknown-key a"),
+    (b"version = 1\n\"b c\" = 2", "unknown-key ?"),
+    (b"version = true", "wrong-kind version"),
+];
+
+/// What is replaced in the two equal partitions, by what, and the answer.
+const REPLACED: [(&str, &str, &str); 26] = [
+    ("version = 1", "version = 3", "out-of-range version"),
+    ("window = 10", "window = 7", "out-of-range window"),
     (
-        With(
-            "ticks = 20",
-            "ticks = 20\naaaaaaaaaaaaaaaaaaaaaaaaaaaaaaaa = 1",
-        ),
+        "ticks = 20",
+        "ticks = 20\naaaaaaaaaaaaaaaaaaaaaaaaaaaaaaaa = 1",
         "unknown-key aaaaaaaaaaaaaaaaaaaaaaaaaaaaaaaa",
     ),
     (
-        With(
-            "ticks = 20",
-            "ticks = 20\naaaaaaaaaaaaaaaaaaaaaaaaaaaaaaaaa = 1",
-        ),
+        "ticks = 20",
+        "ticks = 20\naaaaaaaaaaaaaaaaaaaaaaaaaaaaaaaaa = 1",
         "unknown-key ?",
     ),
     (
-        With("\"A\", budget = 50", "\"A.b\", budget = 101"),
+        "\"A\", budget = 50",
+        "\"A.b\", budget = 101",
         "bad-name partition[0].name",
     ),
     (
-        With("\"A\", budget", "\"System\", budget"),
+        "\"A\", budget",
+        "\"System\", budget",
         "duplicate partition[0].name",
     ),
     (
-        With("budget = 50", "budget = 101"),
+        "budget = 50",
+        "budget = 101",
         "out-of-range partition[0].budget",
     ),
+    (SIZES, OF_VERSION_2, "out-of-range partition[0].budget"),
     (
-        With(SIZES, OF_VERSION_2),
-        "out-of-range partition[0].budget",
-    ),
-    (
-        With("budget = 50", "budget = 50, max = 49"),
+        "budget = 50",
+        "budget = 50, max = 49",
         "out-of-range partition[0].max",
     ),
     (
-        With("50}", "60}, {name = \"B\", budget = 41}"),
+        "50}",
+        "60}, {name = \"B\", budget = 41}",
         "budget-over partition[1].budget",
     ),
     (
-        With("50}", "50}, {name = \"B\", parent = \"A\", budget = 51}"),
+        "50}",
+        "50}, {name = \"B\", parent = \"A\", budget = 51}",
         "budget-over partition[1].budget",
     ),
     (
-        With(
-            "thread",
-            "channel = [{name = \"c\"}, {name = \"c\"}]\nthread",
-        ),
+        "thread",
+        "channel = [{name = \"c\"}, {name = \"c\"}]\nthread",
         "duplicate channel[1].name",
     ),
+    ("name = \"a\"", "name = \"s\"", "duplicate thread[1].name"),
     (
-        With("name = \"a\"", "name = \"s\""),
-        "duplicate thread[1].name",
-    ),
-    (
-        With("\"A\", program", "\"Zed\", program"),
+        "\"A\", program",
+        "\"Zed\", program",
         "unknown-name thread[1].partition",
     ),
     (
-        With(", program = [\"run forever\"]", ""),
+        ", program = [\"run forever\"]",
+        "",
         "missing thread[0].program",
     ),
+    ("\"run forever\"", "", "out-of-range thread[0].program"),
+    ("\"run forever\"", "7", "wrong-kind thread[0].program[0]"),
     (
-        With("\"run forever\"", ""),
-        "out-of-range thread[0].program",
-    ),
-    (
-        With("\"run forever\"", "7"),
-        "wrong-kind thread[0].program[0]",
-    ),
-    (
-        With("\"run forever\"", "\"run 0\", \"exit\""),
+        "\"run forever\"",
+        "\"run 0\", \"exit\"",
         "bad-operation thread[0].program[0]",
     ),
     (
-        With("\"run forever\"", "\"run 007\", \"exit\""),
+        "\"run forever\"",
+        "\"run 007\", \"exit\"",
         "bad-operation thread[0].program[0]",
     ),
     (
-        With("\"run forever\"", "\"run 5\""),
+        "\"run forever\"",
+        "\"run 5\"",
         "bad-operation thread[0].program[0]",
     ),
     (
-        With("\"run forever\"", "\"run forever\", \"exit\""),
+        "\"run forever\"",
+        "\"run forever\", \"exit\"",
         "bad-operation thread[0].program[0]",
     ),
     (
-        With("\"run forever\"", "\"run 5\", \"send c\""),
+        "\"run forever\"",
+        "\"run 5\", \"send c\"",
         "unknown-name thread[0].program[1]",
     ),
     (
-        With("\"run forever\"", "\"send é\", \"exit\""),
+        "\"run forever\"",
+        "\"send é\", \"exit\"",
         "bad-operation thread[0].program[0]",
     ),
     (
-        With("\"run forever\"", "\"join a.b\", \"exit\""),
+        "\"run forever\"",
+        "\"join a.b\", \"exit\"",
         "bad-operation thread[0].program[0]",
     ),
     (
-        With("\"run forever\"", "\"join N\", \"exit\""),
+        "\"run forever\"",
+        "\"join N\", \"exit\"",
         "unknown-name thread[0].program[0]",
     ),
-    (With(FIRST_THREAD, CREATED), "unknown-key command[0].colour"),
-    (Copies(THREADS, "7, ", 1024, "]"), "wrong-kind thread[0]"),
-    (Copies(THREADS, THREAD, 1025, "]"), "out-of-range thread"),
-    (Copies(PROGRAM, "\"yield\", ", 255, "\"exit\"]}]"), "read"),
+    (FIRST_THREAD, CREATED, "unknown-key command[0].colour"),
+];
+
+/// Commands of the two equal partitions, each with the answer.
+const COMMANDS: [(&str, &str); 13] = [
+    ("7", "wrong-kind command[0]"),
+    ("{tick = 0}", "missing command[0].do"),
     (
-        Copies(PROGRAM, "\"yield\", ", 256, "\"exit\"]}]"),
-        "out-of-range thread[0].program",
-    ),
-    (Command("7"), "wrong-kind command[0]"),
-    (Command("{tick = 0}"), "missing command[0].do"),
-    (
-        Command("{tick = 20, do = \"create\"}"),
+        "{tick = 20, do = \"create\"}",
         "out-of-range command[0].tick",
     ),
     (
-        Command("{tick = 20, do = \"lookup\", partition = \"A\"}"),
+        "{tick = 20, do = \"lookup\", partition = \"A\"}",
         "out-of-range command[0].tick",
     ),
     (
-        Command("{tick = 0, do = 7, budget = 1}"),
+        "{tick = 0, do = 7, budget = 1}",
         "unknown-key command[0].budget",
     ),
-    (Command("{tick = 0, do = 7}"), "wrong-kind command[0].do"),
+    ("{tick = 0, do = 7}", "wrong-kind command[0].do"),
     (
-        Command("{tick = 0, do = \"jump\", partition = \"A\"}"),
+        "{tick = 0, do = \"jump\", partition = \"A\"}",
         "unknown-key command[0].partition",
     ),
+    ("{tick = 0, do = \"jump\"}", "out-of-range command[0].do"),
     (
-        Command("{tick = 0, do = \"jump\"}"),
-        "out-of-range command[0].do",
-    ),
-    (
-        Command("{tick = 0, do = \"create\", name = \"N\", budget = 5, max = 101}"),
+        "{tick = 0, do = \"create\", name = \"N\", budget = 5, max = 101}",
         "out-of-range command[0].max",
     ),
     (
-        Command("{tick = 0, do = \"modify\"}"),
+        "{tick = 0, do = \"modify\"}",
         "missing command[0].partition",
     ),
     (
-        Command("{tick = 0, do = \"modify\", partition = \"A\"}"),
+        "{tick = 0, do = \"modify\", partition = \"A\"}",
         "missing command[0].budget",
     ),
     (
-        Command("{tick = 0, do = \"set_parameters\"}"),
+        "{tick = 0, do = \"set_parameters\"}",
         "missing command[0].window",
     ),
     (
-        Command("{tick = 0, do = \"query_thread\", thread = \"z\"}"),
+        "{tick = 0, do = \"query_thread\", thread = \"z\"}",
         "unknown-name command[0].thread",
     ),
 ];
+
+/// A beginning, a piece, how many copies of it stand there, the end, and the answer.
+const COPIES: [(&str, &str, usize, &str, &str); 5] = [
+    ("", "#", 1_048_576, "", "missing version"),
+    (THREADS, "7, ", 1024, "]", "wrong-kind thread[0]"),
+    (THREADS, THREAD, 1025, "]", "out-of-range thread"),
+    (PROGRAM, "\"yield\", ", 255, "\"exit\"]}]", "read"),
+    (
+        PROGRAM,
+        "\"yield\", ",
+        256,
+        "\"exit\"]}]",
+        "out-of-range thread[0].program",
+    ),
+];
+
+/// How deep the window of the two equal partitions is nested as an array, and the answer.
+const NESTED: [(usize, &str); 2] = [(50, "wrong-kind window"), (1000, "not-toml -")];
 
 fn push(rt: &impl Abort, text: &mut String, piece: &str) {
     text.push_str(piece).expect(rt, "memory");
@@ -271,35 +266,58 @@ fn with_command(rt: &impl Abort, alloc: Global, command: &str) -> String {
     format!(in alloc; "{TWO_EQUAL_PARTITIONS}command = [{command}]\n").expect(rt, "memory")
 }
 
-/// The text that is made so, unless it stands in the table whole.
-fn made(rt: &impl Abort, alloc: Global, text: Text) -> String {
-    match text {
-        Whole(_) => String::new(alloc),
-        With(old, new) => with(rt, alloc, old, new),
-        Command(command) => with_command(rt, alloc, command),
-        Copies(before, piece, count, after) => copies(rt, alloc, before, piece, count, after),
-        Nested(depth) => nested(rt, alloc, depth),
-    }
-}
-
-/// The text that is made so is answered so.
-fn check_made(rt: &impl Abort, alloc: Global, text: Text, answer: &str) {
-    if let Whole(bytes) = text {
-        check(rt, alloc, bytes, answer);
-    } else {
-        let made = made(rt, alloc, text);
-        check(rt, alloc, made.as_bytes(), answer);
-    }
-}
-
-// The table is passed on, so that what is proved of the loop is free of its texts.
-fn check_all(rt: &impl Abort, alloc: Global, cases: &[(Text, &str)]) {
+// Each table is passed on, so that what is proved of its loop is free of its texts.
+fn check_whole(rt: &impl Abort, alloc: Global, cases: &[(&[u8], &str)]) {
     for (text, answer) in cases {
-        check_made(rt, alloc, *text, answer);
+        check(rt, alloc, text, answer);
+    }
+}
+
+fn check_replaced(rt: &impl Abort, alloc: Global, cases: &[(&str, &str, &str)]) {
+    for (old, new, answer) in cases {
+        let text = with(rt, alloc, old, new);
+        check(rt, alloc, text.as_bytes(), answer);
+    }
+}
+
+fn check_commands(rt: &impl Abort, alloc: Global, cases: &[(&str, &str)]) {
+    for (command, answer) in cases {
+        let text = with_command(rt, alloc, command);
+        check(rt, alloc, text.as_bytes(), answer);
+    }
+}
+
+fn check_copies(rt: &impl Abort, alloc: Global, cases: &[(&str, &str, usize, &str, &str)]) {
+    for (before, piece, count, after, answer) in cases {
+        let text = copies(rt, alloc, before, piece, *count, after);
+        check(rt, alloc, text.as_bytes(), answer);
+    }
+}
+
+fn check_nested(rt: &impl Abort, alloc: Global, cases: &[(usize, &str)]) {
+    for (depth, answer) in cases {
+        let text = nested(rt, alloc, *depth);
+        check(rt, alloc, text.as_bytes(), answer);
     }
 }
 
 #[test]
-fn each_text_of_the_table_is_answered(rt: HostRuntime) {
-    check_all(&rt, rt.alloc(), &ANSWERS);
+fn whole_texts_are_answered(rt: HostRuntime) {
+    check_whole(&rt, rt.alloc(), &WHOLE);
+}
+
+#[test]
+fn texts_with_something_replaced_are_answered(rt: HostRuntime) {
+    check_replaced(&rt, rt.alloc(), &REPLACED);
+}
+
+#[test]
+fn texts_with_a_command_are_answered(rt: HostRuntime) {
+    check_commands(&rt, rt.alloc(), &COMMANDS);
+}
+
+#[test]
+fn texts_with_many_copies_are_answered(rt: HostRuntime) {
+    check_copies(&rt, rt.alloc(), &COPIES);
+    check_nested(&rt, rt.alloc(), &NESTED);
 }
