@@ -1,2 +1,0 @@
-pub mod SmallTasks
-pub mod ThreeThreads

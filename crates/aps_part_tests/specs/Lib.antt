@@ -1,1 +1,1 @@
-pub mod SmallTasks
+pub mod Opened

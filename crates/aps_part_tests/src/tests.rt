@@ -4,6 +4,7 @@ mod critical;
 mod ctl;
 mod inherit;
 mod levels;
+mod live;
 mod merit;
 mod ready;
 mod tasks;

@@ -1,18 +1,17 @@
-//! Words, bytes and texts, with values from outside.
+//! Words, bytes, texts, histories and scenarios, with values from outside.
 mod admit;
 mod bound;
+mod commands;
+mod cut;
+mod demands;
 mod hints;
+mod histories;
+mod printed;
+mod read;
+mod refused;
 mod report;
+mod scenarios;
 mod streams;
 mod text;
+mod view_words;
 mod words;
-
-use aps_model::Scenario;
-use aps_scenario::scenario_of;
-use std::alloc::Global;
-use std::process::Abort;
-
-/// The scenario that this text is.
-fn read_scenario(rt: &impl Abort, alloc: Global, text: &str) -> Scenario {
-    scenario_of(alloc, text.as_bytes()).expect(rt, "a scenario")
-}

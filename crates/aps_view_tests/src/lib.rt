@@ -1,4 +1,4 @@
-//! Tests of whole calls of the program `apsview`, and of its words. They stand in a crate of their own, so that the calls are proved once.
+//! Tests of whole calls of the program `apsview`. They stand in a crate of their own, so that the calls are proved once.
 #![tactic(auto)]
 
 #[cfg(test)]

@@ -1,6 +1,4 @@
 //! Whole calls of the program in memory: what they write, and the statuses.
-mod words;
-
 use aps_io::{CalmSink, CalmSource};
 use aps_view::calm::calm_top;
 use std::alloc::{AllocError, Global};

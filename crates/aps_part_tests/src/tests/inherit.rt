@@ -1,83 +1,38 @@
 //! Chains of three threads, with values that were worked out by hand.
-ghost use Rattle.std.specs.Prelude.{◌≡◌, [], ◌∷◌, IfOk, false};
-ghost use Rattle.aps_model.specs.declared.program.Op.TheVariants.{Forever};
-ghost use Rattle.aps_model.specs.declared.scenario.Policy.TheVariants.{Fifo};
+ghost use Rattle.std.specs.Prelude.{◌≡◌, [], ◌≤◌};
 
 use aps_inherit::Inherit;
-use aps_model::{
-    Bankruptcy, ChannelId, Facts, Free, Name, NoMemory, Op, PartitionId, PartitionRow, Policy,
-    Program, Scenario, Shape, ThreadId, ThreadRow,
-};
+use aps_model::{ChannelId, Facts, PartitionId, ThreadId};
+use aps_scenario::scenario_of;
 use std::alloc::Global;
-use std::test::Fail;
-
-fn row(name: Name) -> PartitionRow
-    ensures { result ≡ record { name = name; parent = 0; budget = 100; critical = 0; max = 100 } }
-{
-    PartitionRow {
-        name,
-        parent: PartitionId::at(0),
-        budget: 100,
-        critical: 0,
-        max: 100,
-    }
-}
-
-fn thread(alloc: Global, name: Name, priority: u8) -> Result<ThreadRow, NoMemory>
-    ensures { IfOk result (λ t. t
-        ≡ record { name = name; partition = 0; priority = priority; policy = Fifo; critical = false; program = Forever ∷ [] }) }
-{
-    let ops = vec![in alloc; Op::Forever]?;
-    Ok(ThreadRow {
-        name,
-        partition: PartitionId::at(0),
-        priority,
-        policy: Policy::Fifo,
-        critical: false,
-        program: Program::new(ops),
-    })
-}
+use std::process::Abort;
 
 /// Threads 0, 1 and 2 in `System`, of priority 10, 11 and 12, and two channels.
-fn begun(alloc: Global) -> Result<Inherit, NoMemory>
-    ensures { IfOk result (λ inherit. inherit.triples ≡ []) }
+const THREE_THREADS: &str = r#"version = 1
+cpus = 1
+window = 10
+ticks = 2
+channel = [{name = "c"}, {name = "d"}]
+thread = [
+  {name = "x", priority = 10, program = ["run forever"]},
+  {name = "y", priority = 11, program = ["run forever"]},
+  {name = "z", priority = 12, program = ["run forever"]},
+]
+"#;
+
+fn begun(rt: &impl Abort, alloc: Global) -> Inherit
+    ensures { result.triples ≡ [] }
 {
-    let shape = Shape {
-        parts: 100,
-        cpus: 1,
-        tick: 1_000_000,
-        window: 10,
-        ticks: 2,
-        call_ns: 1_000,
-        free: Free::Priority,
-        limit: false,
-        bankruptcy: Bankruptcy::Basic,
-    };
-    let system = row(Name::new(b"System").unwrap());
-    let c = Name::new(b"c").unwrap();
-    let d = Name::new(b"d").unwrap();
-    let x = thread(alloc, Name::new(b"x").unwrap(), 10)?;
-    let y = thread(alloc, Name::new(b"y").unwrap(), 11)?;
-    let z = thread(alloc, Name::new(b"z").unwrap(), 12)?;
-    let scenario = Scenario::new(
-        shape,
-        vec![in alloc; system]?,
-        vec![in alloc; c, d]?,
-        vec![in alloc; x, y, z]?,
-        Vec::new(alloc),
-    );
-    Inherit::new(alloc, &scenario)
+    let scenario = scenario_of(alloc, THREE_THREADS.as_bytes()).expect(rt, "a scenario");
+    Inherit::new(alloc, &scenario).expect(rt, "memory")
 }
 
 /// Thread 2 serves thread 1, which serves thread 0, each by channel 0.
-fn chain(alloc: Global) -> Result<Inherit, NoMemory>
-    ensures { IfOk result (λ inherit. inherit.triples
-        ≡ (record { server = 2; client = 1; channel = 0 }) ∷ (record { server = 1; client = 0; channel = 0 }) ∷ []) }
-{
-    let mut inherit = begun(alloc)?;
+fn chain(rt: &impl Abort, alloc: Global) -> Inherit {
+    let mut inherit = begun(rt, alloc);
     inherit.serve(ThreadId::at(1), ThreadId::at(0), ChannelId::at(0));
     inherit.serve(ThreadId::at(2), ThreadId::at(1), ChannelId::at(0));
-    Ok(inherit)
+    inherit
 }
 
 fn facts(priority: u8) -> Facts {
@@ -88,44 +43,79 @@ fn facts(priority: u8) -> Facts {
     }
 }
 
-#[test]
-fn a_mark_travels_up_the_chain(rt: HostRuntime) -> Result<(), Fail> {
-    let mut inherit = chain(rt.alloc())?;
-    inherit.mark(ThreadId::at(0), true);
-    assert!(rt; inherit.of(ThreadId::at(2)).critical);
+/// What the thread inherits.
+fn of(inherit: &Inherit, x: usize) -> Facts
+    requires { x ≤ 2 }
+{
+    inherit.of(ThreadId::at(x))
+}
+
+/// Thread 2 serves no longer.
+fn end(inherit: &mut Inherit) {
     inherit.end(ThreadId::at(2));
-    assert_eq!(rt; inherit.of(ThreadId::at(2)), facts(12));
-    assert!(rt; inherit.of(ThreadId::at(1)).critical);
-    Ok(())
+}
+
+fn mark(inherit: &mut Inherit) {
+    inherit.mark(ThreadId::at(0), true);
 }
 
 #[test]
-fn a_waiting_message_raises_the_priority_alone(rt: HostRuntime) -> Result<(), Fail> {
-    let mut inherit = chain(rt.alloc())?;
-    inherit.raise(ChannelId::at(1), Some(30));
-    assert_eq!(rt; inherit.of(ThreadId::at(2)), facts(10));
-    inherit.raise(ChannelId::at(0), Some(20));
-    assert_eq!(rt; inherit.of(ThreadId::at(0)), facts(10));
-    assert_eq!(rt; inherit.of(ThreadId::at(1)), facts(20));
-    assert_eq!(rt; inherit.of(ThreadId::at(2)), facts(20));
-    inherit.raise(ChannelId::at(0), None);
-    assert_eq!(rt; inherit.of(ThreadId::at(1)), facts(10));
-    assert_eq!(rt; inherit.of(ThreadId::at(2)), facts(10));
-    Ok(())
+fn a_mark_travels_up_the_chain(rt: HostRuntime) {
+    let mut inherit = chain(&rt, rt.alloc());
+    mark(&mut inherit);
+    assert!(rt; of(&inherit, 2).critical);
+    end(&mut inherit);
+    assert!(rt; of(&inherit, 2) == facts(12));
+    assert!(rt; of(&inherit, 1).critical);
+}
+
+fn raise(inherit: &mut Inherit, channel: usize, top: Option<u8>)
+    requires { channel ≤ 1 }
+{
+    inherit.raise(ChannelId::at(channel), top);
+}
+
+/// Whether the three threads inherit these priorities, and nothing else.
+fn inherit_these(inherit: &Inherit, priorities: [u8; 3]) -> bool {
+    of(inherit, 0) == facts(priorities[0])
+        && of(inherit, 1) == facts(priorities[1])
+        && of(inherit, 2) == facts(priorities[2])
 }
 
 #[test]
-fn own_values_come_back(rt: HostRuntime) -> Result<(), Fail> {
-    let mut inherit = chain(rt.alloc())?;
+fn a_waiting_message_raises_the_priority_alone(rt: HostRuntime) {
+    let mut inherit = chain(&rt, rt.alloc());
+    raise(&mut inherit, 1, Some(30));
+    assert!(rt; inherit_these(&inherit, [10, 10, 10]));
+    raise(&mut inherit, 0, Some(20));
+    assert!(rt; inherit_these(&inherit, [10, 20, 20]));
+    raise(&mut inherit, 0, None);
+    assert!(rt; inherit_these(&inherit, [10, 10, 10]));
+}
+
+/// The chain, where thread 0 joined another partition, and threads 0 and 2 have other priorities of their own.
+fn changed(rt: &impl Abort, alloc: Global) -> Inherit {
+    let mut inherit = chain(rt, alloc);
     inherit.join(ThreadId::at(0), PartitionId::at(1));
     inherit.set_priority(ThreadId::at(0), 40);
     inherit.set_priority(ThreadId::at(2), 50);
-    let last = inherit.of(ThreadId::at(2));
-    assert_eq!(rt; (last.partition, last.priority), (PartitionId::at(1), 40));
-    assert_eq!(rt; inherit.server_of(ThreadId::at(1)), Some(ThreadId::at(2)));
-    assert_eq!(rt; inherit.client_of(ThreadId::at(1)), Some(ThreadId::at(0)));
-    inherit.end(ThreadId::at(2));
-    assert_eq!(rt; inherit.own(ThreadId::at(2)), facts(50));
-    assert_eq!(rt; inherit.of(ThreadId::at(2)), facts(50));
-    Ok(())
+    inherit
+}
+
+/// The server and the client of thread 1.
+fn beside(inherit: &Inherit) -> (Option<ThreadId>, Option<ThreadId>) {
+    let x = ThreadId::at(1);
+    (inherit.server_of(x), inherit.client_of(x))
+}
+
+#[test]
+fn own_values_come_back(rt: HostRuntime) {
+    let mut inherit = changed(&rt, rt.alloc());
+    let last = of(&inherit, 2);
+    assert!(rt; last.partition == PartitionId::at(1) && last.priority == 40);
+    let (server, client) = (ThreadId::at(2), ThreadId::at(0));
+    assert!(rt; beside(&inherit) == (Some(server), Some(client)));
+    end(&mut inherit);
+    assert!(rt; inherit.own(server) == facts(50));
+    assert!(rt; of(&inherit, 2) == facts(50));
 }

@@ -1,6 +1,8 @@
 //! What is told of refused texts and words: one worked line for each kind of refusal.
+use super::scenarios::refusal;
+use super::words::owned;
 use aps_hints::{Document, Line, Usage, scenario_hint, usage_meant, words_hint};
-use aps_scenario::{Kind, PathText, ScenarioRefusal, demands_of, scenario_of};
+use aps_scenario::{demands_of, scenario_of};
 use std::alloc::Global;
 use std::process::Abort;
 
@@ -79,14 +81,6 @@ const HINTS: [(&str, &str); 17] = [
     ),
 ];
 
-/// The kind and the path of a refusal.
-fn refusal(rt: &impl Abort, refused: ScenarioRefusal) -> (Kind, PathText) {
-    match refused {
-        ScenarioRefusal::Refused { kind, path } => (kind, path),
-        ScenarioRefusal::NoMemory => panic!(rt; "out of memory"),
-    }
-}
-
 /// What is told of a text that is no scenario.
 fn told(rt: &impl Abort, alloc: Global, text: &[u8]) -> Line {
     let refused = scenario_of(alloc, text).expect_err(rt, "a scenario");
@@ -104,9 +98,13 @@ fn check(rt: &impl Abort, alloc: Global, text: &[u8], hint: &str) {
 fn joined(rt: &impl Abort, alloc: Global, texts: &[&str]) -> Vec<u8> {
     let mut text = Vec::new(alloc);
     for part in texts {
-        text.extend_from_slice(part.as_bytes()).expect(rt, "memory");
+        push(rt, &mut text, part.as_bytes());
     }
     text
+}
+
+fn push(rt: &impl Abort, text: &mut Vec<u8>, piece: &[u8]) {
+    text.extend_from_slice(piece).expect(rt, "memory");
 }
 
 /// This is told of the text that these texts are, one after the other.
@@ -115,11 +113,16 @@ fn check_joined(rt: &impl Abort, alloc: Global, texts: &[&str], hint: &str) {
     check(rt, alloc, &text, hint);
 }
 
+// The table is passed on, so that what is proved of the loop is free of its texts.
+fn check_all(rt: &impl Abort, alloc: Global, head: &str, cases: &[(&str, &str)]) {
+    for (end, hint) in cases {
+        check_joined(rt, alloc, &[head, end], hint);
+    }
+}
+
 #[test]
 fn a_refused_scenario_is_told(rt: HostRuntime) {
-    for (end, hint) in HINTS {
-        check_joined(&rt, rt.alloc(), &[HEAD, end], hint);
-    }
+    check_all(&rt, rt.alloc(), HEAD, &HINTS);
 }
 
 #[test]
@@ -147,9 +150,7 @@ fn partitions_are_told(rt: HostRuntime) {
             "partition[1].parent: \"B\" names nothing; known are System, \"A\"",
         ),
     ];
-    for (end, hint) in hints {
-        check_joined(&rt, rt.alloc(), &[head, end], hint);
-    }
+    check_all(&rt, rt.alloc(), head, &hints);
 }
 
 #[test]
@@ -160,12 +161,12 @@ fn bytes_that_are_no_text_are_told(rt: HostRuntime) {
 
 /// So many letters between two texts.
 fn between(rt: &impl Abort, alloc: Global, before: &str, count: usize, after: &str) -> Vec<u8> {
-    let mut text = before.as_bytes().to_vec(alloc).expect(rt, "memory");
+    let mut text = Vec::new(alloc);
+    push(rt, &mut text, before.as_bytes());
     for _ in 0..count {
-        text.push(b'x').expect(rt, "memory");
+        push(rt, &mut text, b"x");
     }
-    text.extend_from_slice(after.as_bytes())
-        .expect(rt, "memory");
+    push(rt, &mut text, after.as_bytes());
     text
 }
 
@@ -193,12 +194,9 @@ fn refused_demands_are_told(rt: HostRuntime) {
 
 #[test]
 fn the_usage_of_the_command_is_told(rt: HostRuntime) {
-    let mut words = Vec::new(rt.alloc());
-    assert_eq!(rt; usage_meant(&words), Usage::All);
-    for word in ["admit", "--limit"] {
-        let word = String::from_str(rt.alloc(), word).expect(&rt, "memory");
-        words.push(word).expect(&rt, "memory");
-    }
-    assert_eq!(rt; usage_meant(&words), Usage::Admit);
-    assert_eq!(rt; words_hint(&words), "usage: apsim admit < DEMANDS.toml\n");
+    let none = Vec::new(rt.alloc());
+    assert!(rt; usage_meant(&none) == Usage::All);
+    let words = owned(&rt, rt.alloc(), &["admit", "--limit"]);
+    assert!(rt; usage_meant(&words) == Usage::Admit);
+    assert!(rt; words_hint(&words) == "usage: apsim admit < DEMANDS.toml\n");
 }

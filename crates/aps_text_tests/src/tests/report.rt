@@ -1,7 +1,7 @@
 //! The reports of small histories, whole.
-ghost use Rattle.std.specs.Prelude.{◌≡◌, ◌≤◌, [], length, IfSome};
+ghost use Rattle.std.specs.Prelude.{◌≡◌, ◌≤◌, [], IfSome};
 
-use crate::tests::read_scenario;
+use super::histories::{self, add_all};
 use aps_io::MemSink;
 use aps_model::{
     Answer, Audit, Bankruptcy, ChannelId, CpuId, CtlRefusal, Done, End, Entry, Facts, Free,
@@ -44,21 +44,24 @@ const NO_AUDIT: Audit = Audit {
 
 /// The history of the two equal partitions at its start.
 fn begun(rt: &impl Abort, alloc: Global) -> History
-    ensures entries { result.entries ≡ [] }
     ensures replies { result.replies ≡ [] }
-    ensures room { result.room.entries ≡ 5000 }
-    ensures more_room { result.room.replies ≡ 32 }
+    ensures room { result.room ≡ record { entries = 5000; replies = 32; changes = 8 } }
 {
-    let scenario = read_scenario(rt, alloc, TWO_EQUAL);
-    History::begin(alloc, scenario, 5000, 32, 0).expect(rt, "memory")
+    histories::begun(rt, alloc, TWO_EQUAL)
+}
+
+/// The same history with these entries, at its end.
+fn ended(rt: &impl Abort, alloc: Global, entries: &[Entry]) -> History {
+    let mut history = begun(rt, alloc);
+    add_all(rt, &mut history, entries);
+    history.set_end(End::Horizon);
+    history
 }
 
 /// An entry of processor 0 without a critical, a starved or a flagged one.
 fn entry(from: Nanos, to: Nanos, ran: Option<usize>, done: Done, picked: Option<usize>) -> Entry
     requires ran { IfSome ran (λ x. x ≤ 1) }
     requires picked { IfSome picked (λ x. x ≤ 1) }
-    ensures from { result.from ≡ from }
-    ensures to { result.to ≡ to }
 {
     Entry {
         from,
@@ -77,17 +80,14 @@ fn entry(from: Nanos, to: Nanos, ran: Option<usize>, done: Done, picked: Option<
 
 /// The two threads take turns, a tick each, from `s` on.
 fn two_equal(rt: &impl Abort, alloc: Global) -> History {
-    let mut history = begun(rt, alloc);
-    history.add_entry(entry(0, 0, None, Done::Nothing, Some(0)));
-    for k in 0..19 {
+    let mut entries = [entry(0, 0, None, Done::Nothing, Some(0)); 21];
+    for k in 0..20 {
         let from = k as u64 * 1_000_000;
         let ran = Some(k % 2);
-        let picked = Some((k + 1) % 2);
-        history.add_entry(entry(from, from + 1_000_000, ran, Done::Nothing, picked));
+        let picked = if k < 19 { Some((k + 1) % 2) } else { None };
+        entries[k + 1] = entry(from, from + 1_000_000, ran, Done::Nothing, picked);
     }
-    history.add_entry(entry(19_000_000, 20_000_000, Some(1), Done::Nothing, None));
-    history.set_end(End::Horizon);
-    history
+    ended(rt, alloc, &entries)
 }
 
 #[test]
@@ -299,26 +299,20 @@ fn the_refusals_of_commands(rt: HostRuntime) {
 
 /// A thread of `A` that sleeps after each 400,000 ns, beside one of `System`.
 fn sleeping_worker(rt: &impl Abort, alloc: Global) -> History {
-    let mut history = begun(rt, alloc);
-    history.add_entry(entry(0, 0, None, Done::Nothing, Some(1)));
-    let first = entry(0, 400_000, Some(1), Done::Run, Some(0));
-    history.add_entry(starved(first));
-    history.add_entry(entry(400_000, 1_000_000, Some(0), Done::Nothing, Some(1)));
-    history.add_entry(entry(1_000_000, 1_001_000, Some(1), Done::Repeat, Some(1)));
-    let second = entry(1_001_000, 1_401_000, Some(1), Done::Run, Some(0));
-    history.add_entry(starved(second));
-    let alone = entry(1_401_000, 2_000_000, Some(0), Done::Nothing, Some(0));
-    history.add_entry(starved(alone));
-    history.add_entry(entry(2_000_000, 3_000_000, Some(0), Done::Nothing, None));
-    history.set_end(End::Horizon);
-    history
+    let entries = [
+        entry(0, 0, None, Done::Nothing, Some(1)),
+        starved(entry(0, 400_000, Some(1), Done::Run, Some(0))),
+        entry(400_000, 1_000_000, Some(0), Done::Nothing, Some(1)),
+        entry(1_000_000, 1_001_000, Some(1), Done::Repeat, Some(1)),
+        starved(entry(1_001_000, 1_401_000, Some(1), Done::Run, Some(0))),
+        starved(entry(1_401_000, 2_000_000, Some(0), Done::Nothing, Some(0))),
+        entry(2_000_000, 3_000_000, Some(0), Done::Nothing, None),
+    ];
+    ended(rt, alloc, &entries)
 }
 
 /// The same entry, with `A` starved.
-fn starved(e: Entry) -> Entry
-    ensures from { result.from ≡ e.from }
-    ensures to { result.to ≡ e.to }
-{
+fn starved(e: Entry) -> Entry {
     Entry {
         starved: Some(PartitionId::at(1)),
         ..e
@@ -353,21 +347,16 @@ fn the_journal_of_a_sleeping_worker(rt: HostRuntime) {
     assert_eq!(rt; failed.written().len(), 0);
 }
 
-/// So many entries of no time.
-fn idle(rt: &impl Abort, alloc: Global, count: usize) -> History
-    requires { count ≤ 5000 }
-{
-    let mut history = begun(rt, alloc);
-    for _k in 0..count {
-        history.add_entry(entry(0, 0, None, Done::Nothing, None));
-    }
-    history
+/// 4,000 entries of no time.
+fn idle(rt: &impl Abort, alloc: Global) -> History {
+    let entries = vec![in alloc; entry(0, 0, None, Done::Nothing, None); 4000];
+    ended(rt, alloc, &entries.expect(rt, "memory"))
 }
 
 #[test]
 fn a_long_journal_fails_in_mid_stream(rt: HostRuntime) {
     let line = b"0 0 0 - - - - - - -\n";
-    let history = idle(&rt, rt.alloc(), 4000);
+    let history = idle(&rt, rt.alloc());
     let whole = journal_of(&rt, rt.alloc(), &history);
     assert_eq!(rt; whole.written().len(), 4000 * line.len());
     let failed = failed_journal(&rt, rt.alloc(), &history, 1);

@@ -62,14 +62,10 @@ fn check_journal(rt: &impl Abort, alloc: Global, text: &str, count: usize) {
 
 #[test]
 fn worked_journals_are_read_and_printed_again(rt: HostRuntime) {
-    for (text, count) in [
-        (SLEEPING_WORKER, 7),
-        (SHARED_SERVER, 12),
-        (REFUSED_RECEIVE, 14),
-        ("", 0),
-    ] {
-        check_journal(&rt, rt.alloc(), text, count);
-    }
+    check_journal(&rt, rt.alloc(), SLEEPING_WORKER, 7);
+    check_journal(&rt, rt.alloc(), SHARED_SERVER, 12);
+    check_journal(&rt, rt.alloc(), REFUSED_RECEIVE, 14);
+    check_journal(&rt, rt.alloc(), "", 0);
 }
 
 /// The one entry of a journal.
@@ -113,13 +109,25 @@ const BAD_LINES: [(&str, u32, u32); 14] = [
     ("0 0 0 - - - - - - -\n0 0 0 - - - - - - -\n0", 3, 2),
 ];
 
+/// What is wrong with a text that is no journal.
+fn refusal_of(alloc: Global, text: &str) -> Option<JournalRefusal> {
+    entries_of(alloc, text).err()
+}
+
+// The table is passed on, so that what is proved of the loop is free of its texts.
+fn check_bad_lines(rt: &impl Abort, alloc: Global, cases: &[(&str, u32, u32)]) {
+    for (text, line, column) in cases {
+        let bad_line = JournalRefusal::BadLine {
+            line: *line,
+            column: *column,
+        };
+        assert!(rt; refusal_of(alloc, text) == Some(bad_line), "{text}");
+    }
+}
+
 #[test]
 fn bad_lines_have_their_places(rt: HostRuntime) {
-    for (text, line, column) in BAD_LINES {
-        let refusal = entries_of(rt.alloc(), text).err();
-        let bad_line = JournalRefusal::BadLine { line, column };
-        assert_eq!(rt; refusal, Some(bad_line), "{text}");
-    }
+    check_bad_lines(&rt, rt.alloc(), &BAD_LINES);
 }
 
 // The length of the scenario, and where the journal begins, of such a text.

@@ -5,7 +5,7 @@ use std::alloc::Global;
 use std::process::Abort;
 
 /// These words, as a list that is owned.
-fn owned(rt: &impl Abort, alloc: Global, words: &[&str]) -> Vec<String> {
+pub fn owned(rt: &impl Abort, alloc: Global, words: &[&str]) -> Vec<String> {
     let mut owned = Vec::new(alloc);
     for word in words {
         let word = word.to_string(alloc).expect(rt, "memory");
@@ -80,11 +80,16 @@ const REFUSED: [&[&str]; 44] = [
     ],
 ];
 
+// The table is passed on, so that what is proved of the loop is free of its texts.
+fn check_refused(rt: &impl Abort, alloc: Global, cases: &[&[&str]]) {
+    for words in cases {
+        assert!(rt; read(rt, alloc, words) == Err(WordsRefusal::Words));
+    }
+}
+
 #[test]
 fn these_words_are_no_command(rt: HostRuntime) {
-    for words in REFUSED {
-        assert_eq!(rt; read(&rt, rt.alloc(), words), Err(WordsRefusal::Words));
-    }
+    check_refused(&rt, rt.alloc(), &REFUSED);
 }
 
 /// Words, each with the command that they are.
@@ -154,9 +159,13 @@ const COMMANDS: [(&[&str], Command); 9] = [
     ),
 ];
 
+fn check_commands(rt: &impl Abort, alloc: Global, cases: &[(&[&str], Command)]) {
+    for (words, command) in cases {
+        assert!(rt; read(rt, alloc, words) == Ok(*command));
+    }
+}
+
 #[test]
 fn these_words_are_commands(rt: HostRuntime) {
-    for (words, command) in COMMANDS {
-        assert_eq!(rt; read(&rt, rt.alloc(), words), Ok(command));
-    }
+    check_commands(&rt, rt.alloc(), &COMMANDS);
 }

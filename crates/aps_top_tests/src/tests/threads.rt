@@ -1,25 +1,13 @@
 //! Whole calls with a thread for each processor.
-use crate::tests::{TWO_EQUAL, bytes_of, owned, told};
+use super::calls::{journal_of, source_of, words_of};
+use super::{TWO_EQUAL, TWO_PROCESSORS};
 use aps_cpu::{Gate, MeetGate, OpenGate};
 use aps_io::{CalmSink, CalmSource};
 use aps_top::top::top;
-use std::alloc::{AllocError, Global};
+use std::alloc::Global;
+use std::process::Abort;
 use std::sync::Wait;
-use std::test::Fail;
 use std::thread::Threads;
-
-const TWO_PROCESSORS: &str = r#"version = 1
-cpus = 2
-window = 10
-ticks = 10
-partition = [{name = "A", budget = 50}]
-thread = [
-  {name = "s0", priority = 20, program = ["run forever"]},
-  {name = "s1", priority = 20, program = ["run forever"]},
-  {name = "a0", partition = "A", program = ["run forever"]},
-  {name = "a1", partition = "A", program = ["run forever"]},
-]
-"#;
 
 const TWO_PROCESSORS_SUMMARY: &str = "aps summary 1
 end horizon
@@ -39,52 +27,47 @@ overcritical 0 partition 0 window 0
 ";
 
 /// The status of a call with these words over this source, with this gate.
-fn called<R: Threads + Wait + Sync, G: Gate + Sync>(
+fn status_of<R: Threads + Wait + Sync, G: Gate + Sync>(
     rt: &R,
     alloc: Global,
-    words: &[&str],
+    words: &[String],
     source: &mut CalmSource,
     sink: &mut CalmSink,
     gate: &G,
-) -> Result<u8, AllocError> {
-    let words = owned(alloc, words)?;
-    let ended = top(rt, alloc, &words, source, sink, gate);
-    Ok(ended.status)
+) -> u8 {
+    top(rt, alloc, words, source, sink, gate).status
 }
 
-/// The status of a call with these words over this input, with this gate, and the sink with what it writes.
-fn threaded<R: Threads + Wait + Sync, G: Gate + Sync>(
+/// A call with these words over this input, with this gate, has status 0 and writes this text.
+fn check<R: Abort + Threads + Wait + Sync, G: Gate + Sync>(
     rt: &R,
     alloc: Global,
     words: &[&str],
     input: &str,
     gate: &G,
-) -> Result<(u8, CalmSink), AllocError> {
-    let mut source = CalmSource::new(bytes_of(alloc, input)?);
+    text: &[u8],
+) {
+    let words = words_of(rt, alloc, words);
+    let mut source = source_of(rt, alloc, input.as_bytes());
     let mut sink = CalmSink::new(Vec::new(alloc));
-    let status = called(rt, alloc, words, &mut source, &mut sink, gate)?;
-    Ok((status, sink))
-}
-
-#[test]
-fn two_threads_meet(rt: HostRuntime) -> Result<(), Fail> {
-    let gate = MeetGate::new();
-    let (status, sink) = threaded(&rt, rt.alloc(), &["run"], TWO_PROCESSORS, &gate)?;
-    assert!(rt; gate.met());
+    let status = status_of(rt, alloc, &words, &mut source, &mut sink, gate);
     assert_eq!(rt; status, 0);
-    assert_eq!(rt; sink.written(), TWO_PROCESSORS_SUMMARY.as_bytes());
-    Ok(())
+    assert_eq!(rt; sink.written(), text);
 }
 
 #[test]
-fn where_one_run_is_possible_threads_make_it(rt: HostRuntime) -> Result<(), Fail> {
-    let alloc = rt.alloc();
+fn two_threads_meet(rt: HostRuntime) {
+    let gate = MeetGate::new();
+    let summary = TWO_PROCESSORS_SUMMARY.as_bytes();
+    check(&rt, rt.alloc(), &["run"], TWO_PROCESSORS, &gate, summary);
+    assert!(rt; gate.met());
+}
+
+#[test]
+fn where_one_run_is_possible_threads_make_it(rt: HostRuntime) {
     for (input, order) in [(TWO_EQUAL, "free"), (TWO_PROCESSORS, "fixed")] {
-        let alone = told(alloc, &["solo", "--report=journal"], input.as_bytes())?;
+        let alone = journal_of(&rt, rt.alloc(), input);
         let words = ["run", "--report=journal", "--order", order];
-        let (status, sink) = threaded(&rt, alloc, &words, input, &OpenGate)?;
-        assert_eq!(rt; (status, alone.status), (0, 0));
-        assert_eq!(rt; sink.written(), alone.text.as_slice());
+        check(&rt, rt.alloc(), &words, input, &OpenGate, alone.written());
     }
-    Ok(())
 }

@@ -1,35 +1,34 @@
-//! Verdicts on the journal of a small generated load, and on other short ones. Spoiled journals are judged beside these, through
-//! the whole program.
+//! Verdicts on the journal of a small generated load, and on other short ones. Spoiled journals are judged beside these, as calls of
+//! the whole program (`aps_worked`).
 ghost use Rattle.std.specs.Prelude.{◌≤◌};
 
 use aps_check::text::print_verdict;
 use aps_check::{Rule, Verdict, check};
 use aps_core::Core;
 use aps_gen::generate;
-use aps_model::{CpuId, Done, End, Entry, NoMemory, Order, PartitionId, Scenario};
+use aps_model::{CpuId, Done, End, Entry, Order, PartitionId, Scenario};
 use std::alloc::Global;
-use std::test::Fail;
+use std::process::Abort;
 
 const LIMIT: u32 = 1000;
 
 /// A load of two processors and two partitions, for three ticks.
-fn load(alloc: Global) -> Result<Scenario, NoMemory> {
-    generate(alloc, 7, 2, 2, 3)
+fn load(rt: &impl Abort, alloc: Global) -> Scenario {
+    generate(alloc, 7, 2, 2, 3).expect(rt, "memory")
 }
 
 /// The journal of its run in fixed order.
-fn journal(alloc: Global) -> Result<Vec<Entry>, NoMemory> {
-    let mut core = Core::boot(alloc, load(alloc)?, Order::Fixed, LIMIT)?;
+fn journal(rt: &impl Abort, alloc: Global) -> Vec<Entry> {
+    let mut core = Core::boot(alloc, load(rt, alloc), Order::Fixed, LIMIT).expect(rt, "memory");
     let _end = core.finish();
-    core.history().entries().to_vec(alloc)
+    core.history().entries().to_vec(alloc).expect(rt, "memory")
 }
 
-fn judge(alloc: Global, order: Order, journal: &[Entry]) -> Result<Verdict, NoMemory> {
-    check(alloc, &load(alloc)?, order, LIMIT, journal)
-}
-
-fn judge_limited(alloc: Global, journal: &[Entry]) -> Result<Verdict, NoMemory> {
-    check(alloc, &load(alloc)?, Order::Fixed, 3, journal)
+/// What is said of a journal of the load, in this order and up to this limit.
+fn judge(rt: &impl Abort, alloc: Global, order: Order, limit: u32, journal: &[Entry]) -> Verdict
+    requires { (1 ≤ limit) × (limit ≤ 4000000) }
+{
+    check(alloc, &load(rt, alloc), order, limit, journal).expect(rt, "memory")
 }
 
 fn breaks(entry: u32, rule: Rule, expected: Option<Entry>) -> Verdict {
@@ -59,66 +58,72 @@ fn blank(cpu: usize) -> Entry
 }
 
 #[test]
-fn the_journal_of_a_run_is_legal(rt: HostRuntime) -> Result<(), Fail> {
-    let alloc = rt.alloc();
-    let entries = journal(alloc)?;
+fn the_journal_of_a_run_is_legal(rt: HostRuntime) {
+    let entries = journal(&rt, rt.alloc());
     let legal = Verdict::Legal {
         end: Some(End::Horizon),
     };
-    assert_eq!(rt; judge(alloc, Order::Fixed, entries.as_slice())?, legal);
-    assert_eq!(rt; judge(alloc, Order::Free, entries.as_slice())?, legal);
-    Ok(())
+    for order in [Order::Fixed, Order::Free] {
+        let verdict = judge(&rt, rt.alloc(), order, LIMIT, &entries);
+        assert_eq!(rt; verdict, legal);
+    }
 }
 
 #[test]
-fn an_end_bars_further_entries(rt: HostRuntime) -> Result<(), Fail> {
-    let alloc = rt.alloc();
-    let entries = journal(alloc)?;
+fn an_end_bars_further_entries(rt: HostRuntime) {
+    let entries = journal(&rt, rt.alloc());
     let [first, second, third, ..] = entries.as_slice() else {
         panic!(rt; "no third entry");
     };
+    let longer = [*first, *second, *third, *third];
     let limited = Verdict::Legal {
         end: Some(End::Limit),
     };
-    let verdict = judge_limited(alloc, &[*first, *second, *third])?;
+    let verdict = judge(&rt, rt.alloc(), Order::Fixed, 3, &longer[..3]);
     assert_eq!(rt; verdict, limited);
-    let verdict = judge_limited(alloc, &[*first, *second, *third, *third])?;
+    let verdict = judge(&rt, rt.alloc(), Order::Fixed, 3, &longer);
     assert_eq!(rt; verdict, breaks(3, Rule::After, None));
-    Ok(())
+}
+
+/// The first entry of processor 1, as it is told where another one stands.
+fn first_of_one(rt: &impl Abort, alloc: Global) -> Entry {
+    let verdict = judge(rt, alloc, Order::Free, LIMIT, &[blank(1)]);
+    match verdict {
+        Verdict::Breaks {
+            expected: Some(step),
+            ..
+        } => step,
+        _ => panic!(rt; "processor 1 has no turn"),
+    }
 }
 
 #[test]
-fn turns_are_taken_in_their_order(rt: HostRuntime) -> Result<(), Fail> {
-    let alloc = rt.alloc();
+fn turns_are_taken_in_their_order(rt: HostRuntime) {
     let open = Verdict::Legal { end: None };
-    assert_eq!(rt; judge(alloc, Order::Fixed, &[])?, open);
-    let Verdict::Breaks {
-        expected: Some(step),
-        ..
-    } = judge(alloc, Order::Free, &[blank(1)])?
-    else {
-        panic!(rt; "processor 1 has no turn");
-    };
-    assert_eq!(rt; judge(alloc, Order::Free, &[step])?, open);
     let out_of_turn = breaks(0, Rule::Turn, None);
-    assert_eq!(rt; judge(alloc, Order::Fixed, &[step])?, out_of_turn);
-    assert_eq!(rt; judge(alloc, Order::Free, &[blank(2)])?, out_of_turn);
-    Ok(())
-}
-
-fn text_of(alloc: Global, verdict: Verdict) -> Result<String, NoMemory> {
-    print_verdict(alloc, &verdict)
+    let first = [first_of_one(&rt, rt.alloc())];
+    let other = [blank(2)];
+    assert_eq!(rt; judge(&rt, rt.alloc(), Order::Fixed, LIMIT, &[]), open);
+    assert_eq!(rt; judge(&rt, rt.alloc(), Order::Free, LIMIT, &first), open);
+    let fixed = judge(&rt, rt.alloc(), Order::Fixed, LIMIT, &first);
+    assert_eq!(rt; fixed, out_of_turn);
+    let free = judge(&rt, rt.alloc(), Order::Free, LIMIT, &other);
+    assert_eq!(rt; free, out_of_turn);
 }
 
 #[test]
-fn verdicts_have_their_texts(rt: HostRuntime) -> Result<(), Fail> {
-    let alloc = rt.alloc();
-    let end = Some(End::Reboot(PartitionId::at(31)));
-    let text = text_of(alloc, Verdict::Legal { end })?;
-    assert_eq!(rt; text.as_str(), "check legal reboot 31\n");
-    let text = text_of(alloc, Verdict::Legal { end: None })?;
-    assert_eq!(rt; text.as_str(), "check legal open\n");
-    let text = text_of(alloc, breaks(4_000_000, Rule::After, None))?;
-    assert_eq!(rt; text.as_str(), "check breaks 4000000 after\n");
-    Ok(())
+fn verdicts_have_their_texts(rt: HostRuntime) {
+    let rebooted = Some(End::Reboot(PartitionId::at(31)));
+    let texts = [
+        (Verdict::Legal { end: rebooted }, "check legal reboot 31\n"),
+        (Verdict::Legal { end: None }, "check legal open\n"),
+        (
+            breaks(4_000_000, Rule::After, None),
+            "check breaks 4000000 after\n",
+        ),
+    ];
+    for (verdict, text) in texts {
+        let printed = print_verdict(rt.alloc(), &verdict).expect(&rt, "memory");
+        assert_eq!(rt; printed.as_str(), text);
+    }
 }
