@@ -1,4 +1,10 @@
-pub mod Played
+pub mod Nodes
+pub mod Fewer
+pub mod Places
+pub mod Moving
+pub mod Coming
+pub mod Going
+pub mod Renewed
 pub mod BracketLaws
 pub mod Aside
 pub mod Queued
@@ -8,7 +14,6 @@ pub mod GateLaws
 pub mod Content
 pub mod Tops
 pub mod Above
-pub mod Fewer
 pub mod Earliest
 pub mod Fractions
 pub mod Leading

@@ -4,6 +4,7 @@
 
 mod ahead;
 mod bracket;
+mod brackets;
 mod choice;
 mod contest;
 mod entrant;

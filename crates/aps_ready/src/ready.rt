@@ -14,13 +14,13 @@ ghost use Rattle.aps_ready.specs.Ready.{contender_of, members, seat_of, without,
 ghost use Rattle.aps_ready.specs.Small.{IsSmall};
 
 use crate::ahead::{Ahead, ahead_at, highest};
-use crate::bracket::Bracket;
+use crate::brackets::Brackets;
 use crate::contest::{wins, wins_first};
 use crate::entrant::{Entrant, entrant_of, seat_of, vacant};
 use crate::gates::{Gates, PARTITIONS};
 use crate::index::Index;
 use crate::look::{look, near};
-use crate::seat::{GROUPS, enter, leave};
+use crate::seat::{enter, leave};
 use aps_levels::Bits64;
 use aps_model::{Contender, Facts, Free, NoMemory, PartFacts, PartitionId, ThreadId};
 use std::alloc::Global;
@@ -43,7 +43,7 @@ pub struct Ready {
     row: Vec<Entrant>,
     /// nobody, or who was put in last
     aside: Entrant,
-    brackets: Vec<Bracket>,
+    brackets: Brackets,
     /// the first of each bracket, and the groups by its level
     index: Index,
 }
@@ -71,11 +71,11 @@ impl Model for Ready {
 
     ghost view = { λ r. map seat_of r.row.items };
 
-    ghost invariant = { λ r. IsDrawnBut r.row.items r.aside r.brackets.items × IsQueued r.row.items × AreTopped r.brackets.items r.index };
+    ghost invariant = { λ r. IsDrawnBut r.row.items r.aside r.brackets × IsQueued r.row.items × AreTopped r.brackets r.index };
 }
 
 impl Ready {
-    /// Nobody is in. All room is taken here, 18 bytes for each thread in each of 64 groups.
+    /// Nobody is in. All room is taken here, 16 bytes for each thread in each of 64 groups, and 18 more for each.
     pub fn new(alloc: Global, threads: u16) -> Result<Ready, NoMemory>
         requires { threads ≤ 1024 }
         ensures { IfOk result (λ ready. ready ≡ replicate threads None) }
@@ -85,10 +85,7 @@ impl Ready {
         'row: for _ in 0..count {
             row.push(vacant())?;
         }
-        let mut brackets = Vec::with_capacity(alloc, GROUPS)?;
-        'brackets: for _ in 0..GROUPS {
-            brackets.push(Bracket::new(alloc, count)?)?;
-        }
+        let brackets = Brackets::new(alloc, count)?;
         let index = Index::new(alloc)?;
         Ok(Ready {
             row,
