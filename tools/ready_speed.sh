@@ -206,6 +206,26 @@ fn look_by(ready: &Ready, gates: &[Gates], parts: &[PartFacts]) -> u64
     sum
 }
 
+/// Looks for what the best is ahead by.
+fn look_ahead(ready: &Ready, gates: &[Gates]) -> u64
+    requires { length gates.now ≡ 2 }
+{
+    let mut sum = 0u64;
+    for i in 0..TURNS {
+        sum = sum.wrapping_add(priority_of(ready, gates[(i % 2) as usize], i));
+    }
+    sum
+}
+
+/// The priority that the best has, or another number. It stands apart, so that each look is made.
+#[inline(never)]
+fn priority_of(ready: &Ready, gates: Gates, other: u64) -> u64 {
+    match ready.ahead_by(gates) {
+        None => other,
+        Some(ahead) => u64::from(ahead.priority),
+    }
+}
+
 /// The thread's number, or another one.
 fn number_of(best: Option<ThreadId>, other: u64) -> u64 {
     match best {
@@ -233,7 +253,7 @@ fn measure(rt: &HostRuntime, count: usize, load: Load, usage: Usage) -> anyhow::
     let gates = twice(alloc, Gates::of(&parts))?;
     let mut ready = Ready::new(alloc, count as u16)?;
     fill(&mut ready, count, load);
-    let (mut best, mut best_by, mut renewed) = (u64::MAX, u64::MAX, u64::MAX);
+    let (mut best, mut best_by, mut ahead, mut renewed) = (u64::MAX, u64::MAX, u64::MAX, u64::MAX);
     let mut sum = 0u64;
     for i in 0..TIMES {
         let start = Instant::now(rt)?;
@@ -242,6 +262,9 @@ fn measure(rt: &HostRuntime, count: usize, load: Load, usage: Usage) -> anyhow::
         let start = Instant::now(rt)?;
         sum = sum.wrapping_add(look_by(&ready, &gates, &parts));
         best_by = best_by.min(tenths(start.elapsed(rt)?.as_micros()));
+        let start = Instant::now(rt)?;
+        sum = sum.wrapping_add(look_ahead(&ready, &gates));
+        ahead = ahead.min(tenths(start.elapsed(rt)?.as_micros()));
         let start = Instant::now(rt)?;
         renew_all(&mut ready, count, load, 1024 + TURNS * i);
         renewed = renewed.min(tenths(start.elapsed(rt)?.as_micros()));
@@ -252,7 +275,7 @@ fn measure(rt: &HostRuntime, count: usize, load: Load, usage: Usage) -> anyhow::
         Usage::AllTheSame => "all the same",
         Usage::LessAndLess => "less and less",
     };
-    println!(rt; "| {count} | {ties} | {used} | {}.{} | {}.{} | {}.{} | {} |", best / 10, best % 10, best_by / 10, best_by % 10, renewed / 10, renewed % 10, sum % 9973)?;
+    println!(rt; "| {count} | {ties} | {used} | {}.{} | {}.{} | {}.{} | {}.{} | {} |", best / 10, best % 10, best_by / 10, best_by % 10, ahead / 10, ahead % 10, renewed / 10, renewed % 10, sum % 9973)?;
     Ok(())
 }
 
@@ -269,8 +292,8 @@ fn measure_all(rt: &HostRuntime, count: usize) -> anyhow::Result<()>
 }
 
 fn main(rt: HostRuntime) -> anyhow::Result<()> {
-    println!(rt; "| threads | at the highest priority | partitions have used | best | best_by | take and put | (a sum) |")?;
-    println!(rt; "|---|---|---|---|---|---|---|")?;
+    println!(rt; "| threads | at the highest priority | partitions have used | best | best_by | ahead_by | take and put | (a sum) |")?;
+    println!(rt; "|---|---|---|---|---|---|---|---|")?;
     measure_all(&rt, 16)?;
     measure_all(&rt, 128)?;
     measure_all(&rt, 1024)?;

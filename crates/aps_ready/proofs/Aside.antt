@@ -100,12 +100,12 @@ aside_level row aside brackets but queued g =
     (queued.levels aside.thread (within_row row aside.thread aside own g) (subst (λ (e : Entrant). e.group < 64) (sym own) g))
 
 pub aside_out : (row : List Entrant) (aside : Entrant) (brackets : List (List Entrant)) → IsDrawnBut row aside brackets → aside.group < 64
-    → entrant_at (bracket_at brackets aside.group) aside.thread ≡ vacant
-aside_out row aside brackets but g =
-    let within : aside.thread < length row = within_row row aside.thread aside (but.own g) g in
-    ap (λ (b : List Entrant). entrant_at b aside.thread) (but.rest.drawn aside.group g)
-    ∙ get_or-map (entrant_in aside.group) (rest_of row aside) aside.thread vacant vacant (omega (arith, within, rest_length row aside))
-    ∙ ap (entrant_in aside.group) (rest_own row aside g (but.own g)) ∙ in_vacant aside.group
+    → (g : ℕ) → g < 64 → entrant_at (bracket_at brackets g) aside.thread ≡ vacant
+aside_out row aside brackets but there g below =
+    let within : aside.thread < length row = within_row row aside.thread aside (but.own there) there in
+    ap (λ (b : List Entrant). entrant_at b aside.thread) (but.rest.drawn g below)
+    ∙ get_or-map (entrant_in g) (rest_of row aside) aside.thread vacant vacant (omega (arith, within, rest_length row aside))
+    ∙ ap (entrant_in g) (rest_own row aside there (but.own there)) ∙ in_vacant g
 
 -- the one who stands aside enters its bracket
 pub entered : (row : List Entrant) (aside : Entrant) (brackets : List (List Entrant)) → IsDrawnBut row aside brackets

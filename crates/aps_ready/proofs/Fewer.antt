@@ -68,3 +68,46 @@ fewer before after m (suc n) without here below = elim (cases_eq n m) [
       let equal : weight (after n) ≡ weight (before n) = ap weight (stays before after m n without ne) in
       omega (arith, rest, equal)
 ]
+
+-- ---- how many there can be
+
+pub at_most : (set : ℕ → Bool) (n : ℕ) → size set n ≤ n
+unfolding size
+at_most set zero = omega arith
+at_most set (suc n) = omega (arith, at_most set n, light (set n))
+  where
+    light : (t : Bool) → weight t ≤ 1
+    light true = omega arith
+    light false = omega arith
+
+-- different numbers of a set are as many as it has at most
+as_many : (set : ℕ → Bool) (f : ℕ → ℕ) (width count : ℕ) → ((n : ℕ) → n < count → f n < width) → ((n : ℕ) → n < count → set (f n) ≡ true)
+    → ((m n : ℕ) → m < count → n < count → f m ≡ f n → m ≡ n) → count ≤ size set width
+as_many set f width zero below here one = omega arith
+as_many set f width (suc c) below here one =
+    let less = fewer set rest (f c) width (λ k. refl) (here c (omega arith)) (below c (omega arith)) in
+    let more = as_many rest f width c (λ n h. below n (omega (arith, h))) in_rest
+    (λ m n g h. one m n (omega (arith, g)) (omega (arith, h))) in
+    omega (arith, less, more)
+  where
+    rest : ℕ → Bool
+    rest k = not (nat_eq k (f c)) && set k
+
+    in_rest : (n : ℕ) → n < c → rest (f n) ≡ true
+    in_rest n h =
+        ap (λ (t : Bool). not t && set (f n)) (not_equal (f n) (f c) (λ same. omega (arith, h, one n c (omega (arith, h)) (omega arith) same)))
+        ∙ here n (omega (arith, h))
+
+-- different numbers below the width, none of which is x, are fewer than the width
+pub room_left : (f : ℕ → ℕ) (width count x : ℕ) → ((n : ℕ) → n < count → f n < width)
+    → ((m n : ℕ) → m < count → n < count → f m ≡ f n → m ≡ n) → ((n : ℕ) → n < count → f n ≢ x) → x < width → count < width
+room_left f width count x below one other within =
+    omega (
+      arith,
+      as_many rest f width count below (λ n h. ap (λ (t : Bool). not t && true) (not_equal (f n) x (other n h))) one,
+      fewer (λ k. true) rest x width (λ k. refl) refl within,
+      at_most (λ k. true) width,
+    )
+  where
+    rest : ℕ → Bool
+    rest k = not (nat_eq k x) && true

@@ -1,4 +1,10 @@
-pub mod Played
+pub mod Nodes
+pub mod Fewer
+pub mod Places
+pub mod Moving
+pub mod Coming
+pub mod Going
+pub mod Renewed
 pub mod BracketLaws
 pub mod Aside
 pub mod Queued
@@ -7,8 +13,7 @@ pub mod IndexLaws
 pub mod GateLaws
 pub mod Content
 pub mod Tops
-pub mod Ahead
-pub mod Fewer
+pub mod Above
 pub mod Earliest
 pub mod Fractions
 pub mod Leading
@@ -18,3 +23,5 @@ pub mod Among
 pub mod Winner
 pub mod WinLaws
 pub mod Starved
+pub mod Highest
+pub mod AheadBy

@@ -1,30 +1,35 @@
-use Rattle.std.specs.Prelude.{◌≡◌, ◌≢◌, ℕ, ◌-◌, ◌/◌, ◌<◌, ◌≤◌, true, false, nat_lt, if◌then◌else◌, List, length, map, slice_set, slice_index}
+use Rattle.std.specs.Prelude.{◌≡◌, ◌≢◌, ℕ, ◌-◌, ◌/◌, ◌<◌, ◌≤◌, true, false, ◌&&◌, nat_eq, nat_lt, if◌then◌else◌, List, length, map, slice_index}
+use Rattle.std.specs.List.{range_with_len}
 use Rattle.aps_ready.specs.declared.entrant.Entrant.{Entrant}
 use Rattle.aps_ready.specs.Entrant.{entrant_at, goes_before, vacant}
 
--- who takes part at a node: nobody from the count on
-abbrev pub taking : List Entrant → ℕ → ℕ → Entrant
-taking nodes count n = if nat_lt n count then entrant_at nodes n else vacant
+-- a bracket: who takes part is at a node below the count
+pub record Heap : Type 0 where
+  pub nodes : List Entrant
+  pub count : ℕ
 
--- who takes part at each place
-abbrev pub places : List Entrant → List ℕ → ℕ → List Entrant
-places nodes at count = map (taking nodes count) at
-
+-- the node that is kept for a place
 abbrev pub node_of : List ℕ → ℕ → ℕ
 node_of at x = slice_index at x
 
--- two nodes in each other's place
-abbrev pub swapped : List Entrant → ℕ → ℕ → List Entrant
-swapped nodes i j = slice_set (slice_set nodes i (entrant_at nodes j)) j (entrant_at nodes i)
+-- who takes part at a node, if anybody does, and its place is x
+abbrev pub held : List Entrant → ℕ → ℕ → ℕ → Entrant
+held nodes count x n = if nat_lt n count && nat_eq (entrant_at nodes n).thread x then entrant_at nodes n else vacant
 
--- each place has its node, and each node is that of one place
-pub record IsSeated (nodes : List Entrant) (at : List ℕ) : Type 0 where
+-- who takes part at each place
+abbrev pub places : List Entrant → List ℕ → ℕ → List Entrant
+places nodes at count = map (λ x. held nodes count x (node_of at x)) (range_with_len 0 (length at))
+
+-- for each place where somebody takes part its node is kept
+pub record IsSeated (nodes : List Entrant) (at : List ℕ) (count : ℕ) : Type 0 where
   pub few : length at ≤ 1024
   pub both : length nodes ≡ length at
-  pub node : (x : ℕ) → x < length at → node_of at x < length nodes
-  pub there : (x : ℕ) → x < length at → (entrant_at nodes (node_of at x)).thread ≡ x
-  pub place : (n : ℕ) → n < length nodes → (entrant_at nodes n).thread < length at
-  pub own : (n : ℕ) → n < length nodes → node_of at (entrant_at nodes n).thread ≡ n
+  pub place : (n : ℕ) → n < count → (entrant_at nodes n).thread < length at
+  pub own : (n : ℕ) → n < count → node_of at (entrant_at nodes n).thread ≡ n
+
+-- the nodes that are kept for places where nobody takes part are as before
+abbrev pub AreKept : List Entrant → List ℕ → List ℕ → Type 0
+AreKept row at new = (x : ℕ) → x < length at → entrant_at row x ≡ vacant → node_of new x ≡ node_of at x
 
 -- those who take part have a level that there is
 abbrev pub AreReal : List Entrant → ℕ → Type 0
@@ -59,7 +64,7 @@ pub record IsNext (nodes : List Entrant) (count node next : ℕ) : Type 0 where
 
 -- a bracket as it stands between two calls
 pub record IsPlayed (nodes : List Entrant) (at : List ℕ) (count : ℕ) : Type 0 where
-  pub seated : IsSeated nodes at
+  pub seated : IsSeated nodes at count
   pub real : AreReal nodes count
   pub room : count ≤ length nodes
   pub order : IsOrdered nodes count

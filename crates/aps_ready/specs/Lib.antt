@@ -4,6 +4,7 @@ pub mod Bracket
 pub mod Gates
 pub mod Index
 pub mod Ready
+pub mod Brackets
 pub mod Topped
 pub mod Choice
 pub mod Likely
@@ -11,3 +12,5 @@ pub mod Best
 pub mod Leaders
 pub mod Winner
 pub mod Aside
+pub mod Highest
+pub mod Ahead

@@ -1,82 +1,75 @@
 //! A bracket: who is first of many, kept while one after another comes and goes.
-ghost use Rattle.std.specs.Prelude.{◌≡◌, ℕ, ◌+◌, ◌*◌, ◌<◌, ◌≤◌, length, slice_set, replicate, IfOk, IfSome, IfNone};
-ghost use Rattle.aps_ready.specs.Entrant.{entrant_at, vacant, IsFirst};
-ghost use Rattle.aps_ready.specs.Bracket.{places, swapped, IsSeated, AreReal, IsOrdered, IsOrderedBut, IsNext, AreBehind, IsPlayed};
+ghost use Rattle.std.specs.Prelude.{◌≡◌, ℕ, ◌+◌, ◌*◌, ◌<◌, ◌≤◌, ◌&&◌, nat_eq, nat_lt, length, slice_set, replicate, IfOk, IfSome, IfNone};
+ghost use Rattle.aps_ready.specs.Entrant.{entrant_at, vacant};
+ghost use Rattle.aps_ready.specs.Bracket.{places, IsSeated, AreKept, AreReal, IsOrdered, IsOrderedBut, IsNext, AreBehind, IsPlayed};
 
 use crate::entrant::{Entrant, goes_before, vacant};
 use aps_model::NoMemory;
 use std::alloc::Global;
 use std::marker::Model;
 
-/// A row of places, and at hand the entrant that goes before all others. Contracts see the row.
-///
-/// Who takes part is at a node below `count`, and nobody goes before whoever is at the node above it, `(n - 1) / 2` of node
-/// `n`: so node 0 has the first of all. The other nodes stand for the vacant places.
+/// Who takes part, and at hand the entrant that goes before all others. Nobody goes before whoever is at the node above it,
+/// `(n - 1) / 2` of node `n`: so node 0 has the first of all. The calls keep beside it the node of each place where somebody
+/// takes part. Contracts see the nodes and how many take part.
 #[derive(Drop)]
 pub struct Bracket {
     nodes: Vec<Entrant>,
-    /// the node of each place
-    at: Vec<u16>,
+    /// who takes part is at a node below this one
     count: usize,
 }
 
 impl Model for Bracket {
-    ghost use Rattle.std.specs.Prelude.{List};
-    ghost use Rattle.aps_ready.specs.Bracket.{places, IsPlayed};
-    ghost use Rattle.aps_ready.specs.declared.entrant.Entrant.{Entrant};
+    ghost use Rattle.aps_ready.specs.Bracket.{Heap};
 
-    ghost Value = { List Entrant };
+    ghost Value = { Heap };
 
-    ghost view = { λ b. places b.nodes.items b.at.items b.count };
-
-    ghost invariant = { λ b. IsPlayed b.nodes.items b.at.items b.count };
+    ghost view = { λ b. record { nodes = b.nodes.items; count = b.count } };
 }
 
 impl Bracket {
-    /// A row of places where nobody takes part.
+    /// Nobody takes part.
     pub fn new(alloc: Global, width: usize) -> Result<Bracket, NoMemory>
-        requires { width ≤ 1024 }
-        ensures { IfOk result (λ b. b ≡ replicate width vacant) }
+        ensures { IfOk result (λ b. b ≡ record { nodes = replicate width vacant; count = 0 }) }
     {
         let mut nodes = Vec::with_capacity(alloc, width)?;
-        let mut at = Vec::with_capacity(alloc, width)?;
-        for x in 0..width {
-            nodes.push(Entrant {
-                thread: x as u32,
-                ..vacant()
-            })?;
-            at.push(x as u16)?;
+        'nodes: for _ in 0..width {
+            nodes.push(vacant())?;
         }
-        Ok(Bracket {
-            nodes,
-            at,
-            count: 0,
-        })
+        Ok(Bracket { nodes, count: 0 })
     }
 
     /// Somebody comes to its place.
-    pub fn fill(&mut self, entrant: Entrant)
-        requires inside { entrant.thread < length self.old }
+    pub fn fill(&mut self, at: &mut [u16], entrant: Entrant)
+        requires played { IsPlayed self.old.nodes at.old self.old.count }
+        requires inside { entrant.thread < length at.old }
         requires level { entrant.level ≤ 255 }
-        requires out { entrant_at self.old entrant.thread ≡ vacant }
-        ensures { self.new ≡ slice_set self.old entrant.thread entrant }
+        requires out { entrant_at (places self.old.nodes at.old self.old.count) entrant.thread ≡ vacant }
+        ensures played { IsPlayed self.new.nodes at.new self.new.count }
+        ensures places { places self.new.nodes at.new self.new.count
+            ≡ slice_set (places self.old.nodes at.old self.old.count) entrant.thread entrant }
+        ensures kept { AreKept (places self.new.nodes at.new self.new.count) at.old at.new }
     {
-        add(&mut self.nodes, &mut self.at, self.count, entrant);
+        add(&mut self.nodes, at, self.count, entrant);
         self.count += 1;
     }
 
     /// Whoever is at a place, if anybody is, goes.
-    pub fn clear(&mut self, place: usize)
-        requires { place < length self.old }
-        ensures { self.new ≡ slice_set self.old place vacant }
+    pub fn clear(&mut self, at: &mut [u16], place: usize)
+        requires played { IsPlayed self.old.nodes at.old self.old.count }
+        requires inside { place < length at.old }
+        ensures played { IsPlayed self.new.nodes at.new self.new.count }
+        ensures places { places self.new.nodes at.new self.new.count ≡ slice_set (places self.old.nodes at.old self.old.count) place vacant }
+        ensures kept { AreKept (places self.new.nodes at.new self.new.count) at.old at.new }
     {
-        self.count = remove(&mut self.nodes, &mut self.at, self.count, place);
+        self.count = remove(&mut self.nodes, at, self.count, place);
     }
 
-    /// The entrant that goes before all others; nobody where all places are vacant.
+    /// The entrant that goes before all others; nobody where nobody takes part.
     #[inline(always)]
     pub fn first(&self) -> Entrant
-        ensures { IsFirst self.now result }
+        requires { self.now.count ≤ length self.now.nodes }
+        ensures none { self.now.count ≡ 0 → result ≡ vacant }
+        ensures some { 0 < self.now.count → result ≡ entrant_at self.now.nodes 0 }
     {
         if self.count == 0 {
             vacant()
@@ -95,12 +88,9 @@ fn add(nodes: &mut [Entrant], at: &mut [u16], count: usize, entrant: Entrant)
     ensures few { count < 1024 }
     ensures played { IsPlayed nodes.new at.new (count + 1) }
     ensures places { places nodes.new at.new (count + 1) ≡ slice_set (places nodes.old at.old count) entrant.thread entrant }
+    ensures kept { AreKept (places nodes.new at.new (count + 1)) at.old at.new }
 {
-    let node = at[entrant.thread as usize] as usize;
-    let free = nodes[node];
-    swap(nodes, at, node, count, free);
-    nodes[count] = entrant;
-    settle(nodes, at, count + 1, count);
+    settle(nodes, at, count + 1, count, entrant);
 }
 
 /// Whoever is at a place, if anybody is, goes. The answer is how many take part afterwards.
@@ -109,74 +99,86 @@ fn remove(nodes: &mut [Entrant], at: &mut [u16], count: usize, place: usize) -> 
     requires inside { place < length at.old }
     ensures played { IsPlayed nodes.new at.new result }
     ensures places { places nodes.new at.new result ≡ slice_set (places nodes.old at.old count) place vacant }
+    ensures kept { AreKept (places nodes.new at.new result) at.old at.new }
 {
     let node = at[place] as usize;
-    if node >= count {
+    if !is_at(nodes, count, node, place) {
         return count;
     }
     let last = count - 1;
-    let gone = nodes[node];
-    swap(nodes, at, node, last, gone);
-    settle(nodes, at, last, node);
+    if node == last {
+        return last;
+    }
+    let mover = nodes[last];
+    settle(nodes, at, last, node, mover);
     last
 }
 
-/// Two nodes change places. Who is at the first one is known.
+/// Whether somebody takes part at this node, and this is its place.
 #[inline(always)]
-fn swap(nodes: &mut [Entrant], at: &mut [u16], i: usize, j: usize, known: Entrant)
-    requires known { known ≡ entrant_at nodes.old i }
-    requires seated { IsSeated nodes.old at.old }
-    requires i { i < length nodes.old }
-    requires j { j < length nodes.old }
-    ensures nodes { nodes.new ≡ swapped nodes.old i j }
-    ensures seated { IsSeated nodes.new at.new }
-    ensures places { (count : ℕ) → (i < count → j < count) → (j < count → i < count)
-        → places nodes.new at.new count ≡ places nodes.old at.old count }
+fn is_at(nodes: &[Entrant], count: usize, node: usize, place: usize) -> bool
+    requires { count ≤ length nodes.now }
+    ensures { result ≡ (nat_lt node count && nat_eq (entrant_at nodes.now node).thread place) }
 {
-    let other = nodes[j];
-    nodes[i] = other;
-    nodes[j] = known;
-    at[other.thread as usize] = i as u16;
-    at[known.thread as usize] = j as u16;
+    if node < count {
+        nodes[node].thread as usize == place
+    } else {
+        false
+    }
 }
 
-/// Whoever is at this node, and may stand wrongly there, moves up or down to where it belongs.
-fn settle(nodes: &mut [Entrant], at: &mut [u16], count: usize, from: usize)
-    requires seated { IsSeated nodes.old at.old }
-    requires real { AreReal nodes.old count }
+/// Somebody is put at this node, in place of whoever is there, and moves up or down to where it belongs. It is written only
+/// where it comes to rest.
+fn settle(nodes: &mut [Entrant], at: &mut [u16], count: usize, from: usize, mover: Entrant)
+    requires seated { IsSeated (slice_set nodes.old from mover) (slice_set at.old mover.thread from) count }
+    requires real { AreReal (slice_set nodes.old from mover) count }
+    requires from { from < count }
     requires count { count ≤ length nodes.old }
-    requires order { IsOrderedBut nodes.old count from }
-    ensures seated { IsSeated nodes.new at.new }
+    requires order { IsOrderedBut (slice_set nodes.old from mover) count from }
+    ensures seated { IsSeated nodes.new at.new count }
     ensures real { AreReal nodes.new count }
     ensures size { length nodes.new ≡ length nodes.old }
     ensures order { IsOrdered nodes.new count }
-    ensures places { places nodes.new at.new count ≡ places nodes.old at.old count }
+    ensures places { places nodes.new at.new count ≡ places (slice_set nodes.old from mover) (slice_set at.old mover.thread from) count }
+    ensures kept { AreKept (places nodes.new at.new count) at.old at.new }
 {
-    if from >= count {
-        return;
-    }
-    let mover = nodes[from];
     let mut node = from;
     'rise: while node > 0 && goes_before(&mover, &nodes[(node - 1) / 2]) {
         let above = (node - 1) / 2;
-        swap(nodes, at, node, above, mover);
+        shift(nodes, at, above, node);
         node = above;
     }
     'sink: while let Some(below) = next_below(nodes, count, node, &mover) {
-        swap(nodes, at, node, below, mover);
+        shift(nodes, at, below, node);
         node = below;
     }
+    nodes[node] = mover;
+    at[mover.thread as usize] = node as u16;
 }
 
-/// The first of the nodes right below this one, if it goes before whoever is at this one.
+/// Whoever is at one node goes to another.
+#[inline(always)]
+fn shift(nodes: &mut [Entrant], at: &mut [u16], from: usize, to: usize)
+    requires from { from < length nodes.old }
+    requires to { to < length nodes.old }
+    requires few { length nodes.old ≤ 1024 }
+    requires place { (entrant_at nodes.old from).thread < length at.old }
+    ensures nodes { nodes.new ≡ slice_set nodes.old to (entrant_at nodes.old from) }
+    ensures at { at.new ≡ slice_set at.old (entrant_at nodes.old from).thread to }
+{
+    let one = nodes[from];
+    nodes[to] = one;
+    at[one.thread as usize] = to as u16;
+}
+
+/// The first of the nodes right below this one, if it goes before whoever is to be at this one.
 #[inline(always)]
 fn next_below(nodes: &[Entrant], count: usize, node: usize, here: &Entrant) -> Option<usize>
     requires count { count ≤ length nodes.now }
     requires few { length nodes.now ≤ 1024 }
     requires node { node < count }
-    requires here { here.now ≡ entrant_at nodes.now node }
-    ensures some { IfSome result (IsNext nodes.now count node) }
-    ensures none { IfNone result (AreBehind nodes.now count node (entrant_at nodes.now node)) }
+    ensures some { IfSome result (IsNext (slice_set nodes.now node here.now) count node) }
+    ensures none { IfNone result (AreBehind (slice_set nodes.now node here.now) count node here.now) }
 {
     let left = 2 * node + 1;
     if left >= count {

@@ -2,7 +2,9 @@
 //! and mark, so that a thread is put in, changed and taken out in a few steps; `Gates` keeps which of them are candidates.
 #![tactic(auto)]
 
+mod ahead;
 mod bracket;
+mod brackets;
 mod choice;
 mod contest;
 mod entrant;
@@ -13,5 +15,6 @@ mod look;
 mod ready;
 mod seat;
 
+pub use ahead::Ahead;
 pub use gates::Gates;
 pub use ready::{Drawn, Ready};

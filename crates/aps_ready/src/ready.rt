@@ -6,19 +6,21 @@ ghost use Rattle.aps_model.specs.declared.merit.Contender.{Contender};
 ghost use Rattle.aps_model.specs.declared.merit.PartFacts.{PartFacts};
 ghost use Rattle.aps_model.specs.declared.shape.Free.{Free};
 ghost use Rattle.aps_levels.specs.Bits.{has};
+ghost use Rattle.aps_ready.specs.Ahead.{IsAhead};
 ghost use Rattle.aps_ready.specs.Entrant.{vacant};
 ghost use Rattle.aps_ready.specs.Gates.{AreGates};
 ghost use Rattle.aps_ready.specs.Index.{level_of};
 ghost use Rattle.aps_ready.specs.Ready.{contender_of, members, seat_of, without, IsFree, with_facts};
 ghost use Rattle.aps_ready.specs.Small.{IsSmall};
 
-use crate::bracket::Bracket;
+use crate::ahead::{Ahead, ahead_at, highest};
+use crate::brackets::Brackets;
 use crate::contest::{wins, wins_first};
 use crate::entrant::{Entrant, entrant_of, seat_of, vacant};
 use crate::gates::{Gates, PARTITIONS};
 use crate::index::Index;
 use crate::look::{look, near};
-use crate::seat::{GROUPS, enter, leave};
+use crate::seat::{enter, leave};
 use aps_levels::Bits64;
 use aps_model::{Contender, Facts, Free, NoMemory, PartFacts, PartitionId, ThreadId};
 use std::alloc::Global;
@@ -41,7 +43,7 @@ pub struct Ready {
     row: Vec<Entrant>,
     /// nobody, or who was put in last
     aside: Entrant,
-    brackets: Vec<Bracket>,
+    brackets: Brackets,
     /// the first of each bracket, and the groups by its level
     index: Index,
 }
@@ -69,11 +71,11 @@ impl Model for Ready {
 
     ghost view = { λ r. map seat_of r.row.items };
 
-    ghost invariant = { λ r. IsDrawnBut r.row.items r.aside r.brackets.items × IsQueued r.row.items × AreTopped r.brackets.items r.index };
+    ghost invariant = { λ r. IsDrawnBut r.row.items r.aside r.brackets × IsQueued r.row.items × AreTopped r.brackets r.index };
 }
 
 impl Ready {
-    /// Nobody is in. All room is taken here, 18 bytes for each thread in each of 64 groups.
+    /// Nobody is in. All room is taken here, 16 bytes for each thread in each of 64 groups, and 18 more for each.
     pub fn new(alloc: Global, threads: u16) -> Result<Ready, NoMemory>
         requires { threads ≤ 1024 }
         ensures { IfOk result (λ ready. ready ≡ replicate threads None) }
@@ -83,10 +85,7 @@ impl Ready {
         'row: for _ in 0..count {
             row.push(vacant())?;
         }
-        let mut brackets = Vec::with_capacity(alloc, GROUPS)?;
-        'brackets: for _ in 0..GROUPS {
-            brackets.push(Bracket::new(alloc, count)?)?;
-        }
+        let brackets = Brackets::new(alloc, count)?;
         let index = Index::new(alloc)?;
         Ok(Ready {
             row,
@@ -193,6 +192,25 @@ impl Ready {
     {
         let best = self.greatest(gates, parts, free);
         known(&best)
+    }
+
+    /// What the greatest candidate is ahead by; none exactly where there is none. It looks at levels alone, and at no
+    /// partition: who is below the greatest candidate is known by these.
+    #[inline(always)]
+    pub fn ahead_by(&self, gates: Gates) -> Option<Ahead>
+        ensures { (parts : List PartFacts) (free : Free) → AreGates parts gates
+            → IsAhead free parts (greatest free parts (members self.now)) result }
+    {
+        let first = highest(&self.index, &self.aside, gates.first);
+        if first < 256 {
+            return Some(ahead_at(1, first));
+        }
+        let second = highest(&self.index, &self.aside, gates.second);
+        if second < 256 {
+            Some(ahead_at(0, second))
+        } else {
+            None
+        }
     }
 
     /// Takes the greatest candidate out, if there is one, and tells what is known of it. The gates of the partitions are kept, as

@@ -15,4 +15,4 @@ returns-else-aside-lt64-clause-drawn c row but is =
     ] in
     subst (λ (brackets : List (List Entrant)). IsDrawnBut (set row one.thread vacant) c.args.aside.now brackets)
     (sym c.go.ensures.set)
-    (left_but row c.args.aside.now c.args.brackets.now.items one but c.requires.group is apart)
+    (left_but row c.args.aside.now c.args.brackets.now one but c.requires.group is apart)

@@ -15,7 +15,7 @@ returns-in-Some c parts are few =
     let row = c.self.inside.row.items in
     let found = starved_found parts row c.args.gates
     c.join.result c.occupied-occupied.result c.meet-groups.result c.upper_half.result c.join-2.result c.minus-starved.result c.in-Some.p
-    are (groups_occupied c.self.inside.row.items c.self.inside.aside c.self.inside.brackets.items c.self.inside.index c.occupied-occupied.result
+    are (groups_occupied c.self.inside.row.items c.self.inside.aside c.self.inside.brackets c.self.inside.index c.occupied-occupied.result
     c.self.invariant.0 c.self.invariant.1 c.self.invariant.2 c.occupied-occupied.ensures)
     (record {
       opened = c.join.ensures;
@@ -40,7 +40,7 @@ returns-in_default c parts are few =
     sym (ap (λ (seats : List (Option Contender)). missing parts (members seats)) (sym c.self.view_is)
     ∙ none_starved parts c.self.inside.row.items c.args.gates
     c.join.result c.occupied-occupied.result c.meet-groups.result c.upper_half.result c.join-2.result c.minus-starved.result
-    are (groups_occupied c.self.inside.row.items c.self.inside.aside c.self.inside.brackets.items c.self.inside.index c.occupied-occupied.result
+    are (groups_occupied c.self.inside.row.items c.self.inside.aside c.self.inside.brackets c.self.inside.index c.occupied-occupied.result
     c.self.invariant.0 c.self.invariant.1 c.self.invariant.2 c.occupied-occupied.ensures)
     (record {
       opened = c.join.ensures;

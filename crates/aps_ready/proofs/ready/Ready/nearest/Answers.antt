@@ -6,7 +6,7 @@ use Rattle.aps_ready.proofs.ready.Ready.nearest.Goals as goal
 pub wins_first-requires-clause-best : goal.wins_first-requires-clause-best
 wins_first-requires-clause-best c =
     let there : c.near-found.result.group < 64 = omega (arith, c.if-found-ge64.false) in
-    let look = looked Priority c.args.parts.now c.self.inside.row.items c.self.inside.aside c.self.inside.brackets.items c.self.inside.index
+    let look = looked Priority c.args.parts.now c.self.inside.row.items c.self.inside.aside c.self.inside.brackets c.self.inside.index
     c.near-found.result c.args.self.now c.self.invariant.0 c.self.invariant.1 c.self.view_is c.self.invariant.2
     (λ row brackets drawn queued topped. c.near-found.ensures.winner Priority row brackets there drawn queued topped) in
     found_contests Priority c.args.parts.now c.self.inside.row.items c.self.inside.aside c.near-found.result c.args.self.now look there
@@ -14,13 +14,13 @@ wins_first-requires-clause-best c =
 pub wins_first-requires-clause-first : goal.wins_first-requires-clause-first
 wins_first-requires-clause-first c =
     let there : c.near-found.result.group < 64 = omega (arith, c.if-found-ge64.false) in
-    near_first c.args.parts.now c.self.inside.row.items c.self.inside.aside c.self.inside.brackets.items c.self.inside.index c.near-found.result
+    near_first c.args.parts.now c.self.inside.row.items c.self.inside.aside c.self.inside.brackets c.self.inside.index c.near-found.result
     c.self.invariant.0 c.self.invariant.1 c.self.invariant.2 (λ row brackets drawn queued topped. c.near-found.ensures.first row brackets there drawn queued topped)
 
 pub returns-then-wins_first-clause-greatest : goal.returns-then-wins_first-clause-greatest
 returns-then-wins_first-clause-greatest c free _ =
     let there : c.near-found.result.group < 64 = omega (arith, c.if-found-ge64.false) in
-    let look = looked free c.args.parts.now c.self.inside.row.items c.self.inside.aside c.self.inside.brackets.items c.self.inside.index
+    let look = looked free c.args.parts.now c.self.inside.row.items c.self.inside.aside c.self.inside.brackets c.self.inside.index
     c.near-found.result c.args.self.now c.self.invariant.0 c.self.invariant.1 c.self.view_is c.self.invariant.2
     (λ row brackets drawn queued topped. c.near-found.ensures.winner free row brackets there drawn queued topped) in
     (aside_greatest free c.args.parts.now c.self.inside.row.items c.self.inside.aside c.near-found.result c.args.self.now look (sym (c.wins_first.ensures free) ∙ c.if-wins_first.true)).is
@@ -28,7 +28,7 @@ returns-then-wins_first-clause-greatest c free _ =
 pub returns-then-wins_first-clause-thread : goal.returns-then-wins_first-clause-thread
 returns-then-wins_first-clause-thread c =
     let there : c.near-found.result.group < 64 = omega (arith, c.if-found-ge64.false) in
-    let look = looked Priority c.args.parts.now c.self.inside.row.items c.self.inside.aside c.self.inside.brackets.items c.self.inside.index
+    let look = looked Priority c.args.parts.now c.self.inside.row.items c.self.inside.aside c.self.inside.brackets c.self.inside.index
     c.near-found.result c.args.self.now c.self.invariant.0 c.self.invariant.1 c.self.view_is c.self.invariant.2
     (λ row brackets drawn queued topped. c.near-found.ensures.winner Priority row brackets there drawn queued topped) in
     (aside_greatest Priority c.args.parts.now c.self.inside.row.items c.self.inside.aside c.near-found.result c.args.self.now look (sym (c.wins_first.ensures Priority) ∙ c.if-wins_first.true)).few
@@ -36,7 +36,7 @@ returns-then-wins_first-clause-thread c =
 pub returns-then-wins_first-clause-inside : goal.returns-then-wins_first-clause-inside
 returns-then-wins_first-clause-inside c =
     let there : c.near-found.result.group < 64 = omega (arith, c.if-found-ge64.false) in
-    let look = looked Priority c.args.parts.now c.self.inside.row.items c.self.inside.aside c.self.inside.brackets.items c.self.inside.index
+    let look = looked Priority c.args.parts.now c.self.inside.row.items c.self.inside.aside c.self.inside.brackets c.self.inside.index
     c.near-found.result c.args.self.now c.self.invariant.0 c.self.invariant.1 c.self.view_is c.self.invariant.2
     (λ row brackets drawn queued topped. c.near-found.ensures.winner Priority row brackets there drawn queued topped) in
     (aside_greatest Priority c.args.parts.now c.self.inside.row.items c.self.inside.aside c.near-found.result c.args.self.now look (sym (c.wins_first.ensures Priority) ∙ c.if-wins_first.true)).inside
@@ -44,7 +44,7 @@ returns-then-wins_first-clause-inside c =
 pub returns-then-wins_first-clause-present : goal.returns-then-wins_first-clause-present
 returns-then-wins_first-clause-present c =
     let there : c.near-found.result.group < 64 = omega (arith, c.if-found-ge64.false) in
-    let look = looked Priority c.args.parts.now c.self.inside.row.items c.self.inside.aside c.self.inside.brackets.items c.self.inside.index
+    let look = looked Priority c.args.parts.now c.self.inside.row.items c.self.inside.aside c.self.inside.brackets c.self.inside.index
     c.near-found.result c.args.self.now c.self.invariant.0 c.self.invariant.1 c.self.view_is c.self.invariant.2
     (λ row brackets drawn queued topped. c.near-found.ensures.winner Priority row brackets there drawn queued topped) in
     (aside_greatest Priority c.args.parts.now c.self.inside.row.items c.self.inside.aside c.near-found.result c.args.self.now look (sym (c.wins_first.ensures Priority) ∙ c.if-wins_first.true)).present
@@ -52,7 +52,7 @@ returns-then-wins_first-clause-present c =
 pub returns-else-wins_first-clause-greatest : goal.returns-else-wins_first-clause-greatest
 returns-else-wins_first-clause-greatest c free _ =
     let there : c.near-found.result.group < 64 = omega (arith, c.if-found-ge64.false) in
-    let look = looked free c.args.parts.now c.self.inside.row.items c.self.inside.aside c.self.inside.brackets.items c.self.inside.index
+    let look = looked free c.args.parts.now c.self.inside.row.items c.self.inside.aside c.self.inside.brackets c.self.inside.index
     c.near-found.result c.args.self.now c.self.invariant.0 c.self.invariant.1 c.self.view_is c.self.invariant.2
     (λ row brackets drawn queued topped. c.near-found.ensures.winner free row brackets there drawn queued topped) in
     (found_greatest free c.args.parts.now c.self.inside.row.items c.self.inside.aside c.near-found.result c.args.self.now look (sym (c.wins_first.ensures free) ∙ c.if-wins_first.false)).is
@@ -60,7 +60,7 @@ returns-else-wins_first-clause-greatest c free _ =
 pub returns-else-wins_first-clause-thread : goal.returns-else-wins_first-clause-thread
 returns-else-wins_first-clause-thread c =
     let there : c.near-found.result.group < 64 = omega (arith, c.if-found-ge64.false) in
-    let look = looked Priority c.args.parts.now c.self.inside.row.items c.self.inside.aside c.self.inside.brackets.items c.self.inside.index
+    let look = looked Priority c.args.parts.now c.self.inside.row.items c.self.inside.aside c.self.inside.brackets c.self.inside.index
     c.near-found.result c.args.self.now c.self.invariant.0 c.self.invariant.1 c.self.view_is c.self.invariant.2
     (λ row brackets drawn queued topped. c.near-found.ensures.winner Priority row brackets there drawn queued topped) in
     (found_greatest Priority c.args.parts.now c.self.inside.row.items c.self.inside.aside c.near-found.result c.args.self.now look (sym (c.wins_first.ensures Priority) ∙ c.if-wins_first.false)).few
@@ -68,7 +68,7 @@ returns-else-wins_first-clause-thread c =
 pub returns-else-wins_first-clause-inside : goal.returns-else-wins_first-clause-inside
 returns-else-wins_first-clause-inside c =
     let there : c.near-found.result.group < 64 = omega (arith, c.if-found-ge64.false) in
-    let look = looked Priority c.args.parts.now c.self.inside.row.items c.self.inside.aside c.self.inside.brackets.items c.self.inside.index
+    let look = looked Priority c.args.parts.now c.self.inside.row.items c.self.inside.aside c.self.inside.brackets c.self.inside.index
     c.near-found.result c.args.self.now c.self.invariant.0 c.self.invariant.1 c.self.view_is c.self.invariant.2
     (λ row brackets drawn queued topped. c.near-found.ensures.winner Priority row brackets there drawn queued topped) in
     (found_greatest Priority c.args.parts.now c.self.inside.row.items c.self.inside.aside c.near-found.result c.args.self.now look (sym (c.wins_first.ensures Priority) ∙ c.if-wins_first.false)).inside
@@ -76,7 +76,7 @@ returns-else-wins_first-clause-inside c =
 pub returns-else-wins_first-clause-present : goal.returns-else-wins_first-clause-present
 returns-else-wins_first-clause-present c =
     let there : c.near-found.result.group < 64 = omega (arith, c.if-found-ge64.false) in
-    let look = looked Priority c.args.parts.now c.self.inside.row.items c.self.inside.aside c.self.inside.brackets.items c.self.inside.index
+    let look = looked Priority c.args.parts.now c.self.inside.row.items c.self.inside.aside c.self.inside.brackets c.self.inside.index
     c.near-found.result c.args.self.now c.self.invariant.0 c.self.invariant.1 c.self.view_is c.self.invariant.2
     (λ row brackets drawn queued topped. c.near-found.ensures.winner Priority row brackets there drawn queued topped) in
     (found_greatest Priority c.args.parts.now c.self.inside.row.items c.self.inside.aside c.near-found.result c.args.self.now look (sym (c.wins_first.ensures Priority) ∙ c.if-wins_first.false)).present

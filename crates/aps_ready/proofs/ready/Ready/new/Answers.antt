@@ -10,10 +10,8 @@ use Rattle.aps_ready.proofs.ready.Ready.new.Goals as goal
 pub invariant_of-result : goal.invariant_of-result
 invariant_of-result c =
     let all : c.row.counter ≡ c.args.threads = omega arith in
-    let groups : c.brackets.counter ≡ 64 = omega arith in
     let row_is = c.row.invariant ∙ ap (λ n. replicate n vacant) all in
-    let brackets_are = c.brackets.invariant ∙ ap (λ n. replicate n (replicate c.args.threads vacant)) groups in
-    rw (row_is, brackets_are, c.in_ok-index.ensures) (
+    rw (row_is, c.in_ok-brackets.ensures, c.in_ok-index.ensures) (
       none_aside (replicate c.args.threads vacant) (replicate 64 (replicate c.args.threads vacant)) c.vacant-2.result c.vacant-2.ensures
           (drawn_replicate c.args.threads (omega arith)),
       queued_replicate c.args.threads,

@@ -4,6 +4,3 @@ use Rattle.aps_ready.proofs.ready.Ready.new.Given as goal
 
 abbrev pub invariant-row : goal.invariant-row
 invariant-row l = l.row.items ≡ replicate l.counter vacant
-
-abbrev pub invariant-brackets : goal.invariant-brackets
-invariant-brackets l = l.brackets.items ≡ replicate l.counter (replicate l.count vacant)

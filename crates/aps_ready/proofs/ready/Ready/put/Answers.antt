@@ -8,10 +8,10 @@ use Rattle.aps_ready.proofs.ready.Ready.put.Goals as goal
 
 pub enter-requires-clause-level : goal.enter-requires-clause-level
 enter-requires-clause-level c there =
-    aside_level c.self.inside.row.items c.self.inside.aside c.self.inside.brackets.items c.self.invariant.0 c.self.invariant.1 there
+    aside_level c.self.inside.row.items c.self.inside.aside c.self.inside.brackets c.self.invariant.0 c.self.invariant.1 there
 
 pub enter-requires-clause-out : goal.enter-requires-clause-out
-enter-requires-clause-out c there = aside_out c.self.inside.row.items c.self.inside.aside c.self.inside.brackets.items c.self.invariant.0 there
+enter-requires-clause-out c there = aside_out c.self.inside.row.items c.self.inside.aside c.self.inside.brackets c.self.invariant.0 there
 
 pub invariant_of-self : goal.invariant_of-self
 invariant_of-self c =
@@ -25,7 +25,7 @@ invariant_of-self c =
     let there : e.group < 64 =
     omega (arith, ap (λ (f : Entrant). f.group) is, in_group c.args.facts c.entrant_of-entrant.ensures.partition) in
     let thread = ap (λ (f : Entrant). f.thread) is ∙ sym c.index.ensures.same in (
-      put_aside row c.enter.new.brackets.items i e (c.enter.ensures.drawn row c.self.invariant.0) within out there thread,
+      put_aside row c.enter.new.brackets i e (c.enter.ensures.drawn row c.self.invariant.0) within out there thread,
       queued_set row i e c.self.invariant.1 within (λ g. record {
         level = rw is (omega arith);
         thread = thread;

@@ -18,7 +18,7 @@ invariant_of-self c =
     let read : one ≡ entrant_at row i = get_or_read row i one within c.index-entrant.ensures vacant in
     let thread : one.thread ≡ i = ap (λ (e : Entrant). e.thread) read ∙ c.self.invariant.1.threads i within present in
     let nobody : vacant ≡ c.vacant.result = sym c.vacant.ensures in (
-      subst (λ (l : List Entrant). IsDrawnBut l c.leave.new.aside c.leave.new.brackets.items)
+      subst (λ (l : List Entrant). IsDrawnBut l c.leave.new.aside c.leave.new.brackets)
           (ap (λ (j : ℕ). set row j vacant) thread ∙ ap (set row i) nobody)
           (c.leave.ensures.drawn row c.self.invariant.0 (ap (entrant_at row) thread ∙ sym read)),
       subst (λ (e : Entrant). IsQueued (set row i e)) nobody (queued_set row i vacant c.self.invariant.1 within (λ g. absurd (omega (arith, g)))),
