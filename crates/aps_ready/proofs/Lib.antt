@@ -7,7 +7,7 @@ pub mod IndexLaws
 pub mod GateLaws
 pub mod Content
 pub mod Tops
-pub mod Ahead
+pub mod Above
 pub mod Fewer
 pub mod Earliest
 pub mod Fractions
@@ -18,3 +18,5 @@ pub mod Among
 pub mod Winner
 pub mod WinLaws
 pub mod Starved
+pub mod Highest
+pub mod AheadBy

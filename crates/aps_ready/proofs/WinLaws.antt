@@ -18,7 +18,7 @@ use Rattle.aps_ready.specs.Choice.{is_ahead_by_level}
 use Rattle.aps_ready.specs.Aside.{rest_of, IsDrawnBut}
 use Rattle.aps_ready.specs.Topped.{AreTopped}
 use Rattle.aps_ready.specs.Winner.{is_above, is_candidate_at, wins, IsContestant, IsWinner}
-use Rattle.aps_ready.proofs.Ahead.{class_at, above_class, above_first_by_level, above_one_way, above_chain}
+use Rattle.aps_ready.proofs.Above.{class_at, above_class, above_first_by_level, above_one_way, above_chain}
 use Rattle.aps_ready.proofs.Aside.{aside_or_rest, rest_length, rest_none, rest_there, rest_some, within_row}
 use Rattle.aps_ready.proofs.Content.{open_group}
 use Rattle.aps_ready.proofs.Queued.{queued_set, seat_in}

@@ -24,7 +24,7 @@ use Rattle.aps_ready.specs.Winner.{is_above, is_candidate_at, IsWinner}
 use Rattle.aps_ready.proofs.Queued.{seat_at, seat_in}
 use Rattle.aps_ready.proofs.Content.{open_from, open_group, open_among, all_candidates}
 use Rattle.aps_ready.proofs.Tops.{IsKept, level_at_most, Occupant, occupant, sits_level}
-use Rattle.aps_ready.proofs.Ahead.{class_at, ahead_in_part, above_tie, above_by_ratio, above_lower_first, above_lower_second, above_class}
+use Rattle.aps_ready.proofs.Above.{class_at, ahead_in_part, above_tie, above_by_ratio, above_lower_first, above_lower_second, above_class}
 
 -- ---- what the gates say of somebody
 

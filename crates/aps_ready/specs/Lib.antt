@@ -11,3 +11,5 @@ pub mod Best
 pub mod Leaders
 pub mod Winner
 pub mod Aside
+pub mod Highest
+pub mod Ahead

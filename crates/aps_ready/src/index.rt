@@ -3,6 +3,7 @@ ghost use Rattle.std.specs.Prelude.{◌≡◌, ℕ, ◌<◌, ◌&&◌, ◌||◌,
 ghost use Rattle.aps_levels.specs.Bits.{has};
 ghost use Rattle.aps_levels.specs.Levels.{has_level};
 ghost use Rattle.aps_ready.specs.Entrant.{entrant_at, vacant};
+ghost use Rattle.aps_ready.specs.Highest.{IsLowest};
 ghost use Rattle.aps_ready.specs.Index.{level_of, bits_at, AreLeast, AreEmpty};
 ghost use Rattle.aps_ready.specs.Leaders.{IsEarliest};
 
@@ -121,6 +122,20 @@ impl Index {
             }
         }
         None
+    }
+
+    /// The least level of the groups of a set; 256 where all of them are empty.
+    #[inline(always)]
+    pub fn lowest(&self, set: Bits64) -> u16
+        ensures { IsLowest self.now (has set) result }
+    {
+        let Some(found) = self.least(set) else {
+            return 256;
+        };
+        let Some(group) = found.least() else {
+            return 256;
+        };
+        self.firsts[group].level
     }
 
     /// The first with the smallest stamp, of those of the groups of a set; nobody where the set is empty.

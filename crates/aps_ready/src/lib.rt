@@ -2,6 +2,7 @@
 //! and mark, so that a thread is put in, changed and taken out in a few steps; `Gates` keeps which of them are candidates.
 #![tactic(auto)]
 
+mod ahead;
 mod bracket;
 mod choice;
 mod contest;
@@ -13,5 +14,6 @@ mod look;
 mod ready;
 mod seat;
 
+pub use ahead::Ahead;
 pub use gates::Gates;
 pub use ready::{Drawn, Ready};

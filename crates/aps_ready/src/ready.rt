@@ -6,12 +6,14 @@ ghost use Rattle.aps_model.specs.declared.merit.Contender.{Contender};
 ghost use Rattle.aps_model.specs.declared.merit.PartFacts.{PartFacts};
 ghost use Rattle.aps_model.specs.declared.shape.Free.{Free};
 ghost use Rattle.aps_levels.specs.Bits.{has};
+ghost use Rattle.aps_ready.specs.Ahead.{IsAhead};
 ghost use Rattle.aps_ready.specs.Entrant.{vacant};
 ghost use Rattle.aps_ready.specs.Gates.{AreGates};
 ghost use Rattle.aps_ready.specs.Index.{level_of};
 ghost use Rattle.aps_ready.specs.Ready.{contender_of, members, seat_of, without, IsFree, with_facts};
 ghost use Rattle.aps_ready.specs.Small.{IsSmall};
 
+use crate::ahead::{Ahead, ahead_at, highest};
 use crate::bracket::Bracket;
 use crate::contest::{wins, wins_first};
 use crate::entrant::{Entrant, entrant_of, seat_of, vacant};
@@ -193,6 +195,25 @@ impl Ready {
     {
         let best = self.greatest(gates, parts, free);
         known(&best)
+    }
+
+    /// What the greatest candidate is ahead by; none exactly where there is none. It looks at levels alone, and at no
+    /// partition: who is below the greatest candidate is known by these.
+    #[inline(always)]
+    pub fn ahead_by(&self, gates: Gates) -> Option<Ahead>
+        ensures { (parts : List PartFacts) (free : Free) → AreGates parts gates
+            → IsAhead free parts (greatest free parts (members self.now)) result }
+    {
+        let first = highest(&self.index, &self.aside, gates.first);
+        if first < 256 {
+            return Some(ahead_at(1, first));
+        }
+        let second = highest(&self.index, &self.aside, gates.second);
+        if second < 256 {
+            Some(ahead_at(0, second))
+        } else {
+            None
+        }
     }
 
     /// Takes the greatest candidate out, if there is one, and tells what is known of it. The gates of the partitions are kept, as

@@ -1,7 +1,7 @@
 use Rattle.std.proofs.Common.{sym, ◌∙◌, ap}
 use Rattle.aps_model.specs.declared.shape.Free.{Free}
 use Rattle.aps_ready.specs.Winner.{is_above}
-use Rattle.aps_ready.proofs.Ahead.{above_class, above_first, above_first_by_level, above_second_by_level, above_second_by_ratio}
+use Rattle.aps_ready.proofs.Above.{above_class, above_first, above_first_by_level, above_second_by_level, above_second_by_ratio}
 use Rattle.aps_ready.proofs.WinLaws.{class_of_first, class_of_second}
 use Rattle.aps_ready.proofs.contest.is_above.Goals as goal
 
