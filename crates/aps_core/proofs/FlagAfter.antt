@@ -25,6 +25,8 @@ use Rattle.aps_model.specs.Step.{chosen}
 use Rattle.aps_model.proofs.GreatestLaws.{IsUnbeaten, beats, greatest-is, greatest-unbeaten}
 use Rattle.aps_laws.proofs.PickSays.{chosen_shape}
 use Rattle.aps_ready.specs.Ready.{members, without}
+use Rattle.aps_ready.specs.declared.ahead.Ahead.{Ahead}
+use Rattle.aps_ready.specs.Ahead.{IsAhead, IsAheadOf}
 use Rattle.aps_ready.specs.Gates.{is_first}
 use Rattle.aps_core.specs.Lowest.{IsNoLess, IsRank, IsTold, height, height_or, limit, lowest, rank_now, ranked_at}
 use Rattle.aps_core.specs.Seats.{seats_of}
@@ -205,8 +207,19 @@ all_looked s h parts left c now (d ∷ ds) best =
 
 -- ---- the limit
 
+-- the priority of a candidate has its range, where it counts
+abbrev IsShort : Free → Bool → ℕ → Type 0
+IsShort Priority first priority = priority ≤ 255
+IsShort Ratio true priority = priority ≤ 255
+IsShort Ratio false priority = Unit {0}
+
+pub short_of : (free : Free) (first : Bool) (priority : ℕ) → priority ≤ 255 → IsShort free first priority
+short_of Priority first priority few = few
+short_of Ratio true priority few = few
+short_of Ratio false priority few = tt
+
 -- who is below a candidate stands below its limit
-below_limit : (free : Free) (r : Rank) (left : Merit) (first : Bool) → IsRank (Some r) → left.priority ≤ 255 → left.class ≡ cond first 1 0
+below_limit : (free : Free) (r : Rank) (left : Merit) (first : Bool) → IsRank (Some r) → IsShort free first left.priority → left.class ≡ cond first 1 0
     → is_lower free left r ≡ nat_lt (height r) (limit free first left.priority)
 below_limit Priority Idle left true is few class = sym (lt_true 0 (257 + left.priority) (omega arith))
 below_limit Priority Idle left false is few class = sym (lt_true 0 (1 + left.priority) (omega arith))
@@ -222,11 +235,15 @@ below_limit Ratio (Running zero priority) left false is few class = grind (arith
 below_limit Ratio (Running (suc zero) priority) left true is few class = grind (arith, nat_tests)
 below_limit Ratio (Running (suc zero) priority) left false is few class = grind (arith, nat_tests)
 
-limit_small : (free : Free) (first : Bool) (priority : ℕ) → priority ≤ 255 → limit free first priority ≤ 512
+limit_small : (free : Free) (first : Bool) (priority : ℕ) → IsShort free first priority → limit free first priority ≤ 512
 limit_small Priority true priority few = omega (arith, few)
 limit_small Priority false priority few = omega (arith, few)
 limit_small Ratio true priority few = omega (arith, few)
 limit_small Ratio false priority few = omega arith
+
+class_one : (first : Bool) → nat_eq (cond first 1 0) 1 ≡ first
+class_one true = refl
+class_one false = refl
 
 -- the class of a candidate
 class_is : (parts : List PartFacts) (left : Contender) → (merit_among parts left).class ≡ cond (is_first (part_at parts left.facts.partition) left.facts.critical) 1 0
@@ -236,6 +253,30 @@ class_is parts left = refl
 abbrev pub limit_among : Free → List PartFacts → Contender → ℕ
 limit_among free parts left = limit free (is_first (part_at parts left.facts.partition) left.facts.critical) left.facts.priority
 
+-- the same by what the candidate is ahead by
+pub limit_ahead : (free : Free) (parts : List PartFacts) (left : Contender) (ahead : Ahead) → IsAheadOf free parts left ahead
+    → limit free (nat_eq ahead.class 1) ahead.priority ≡ limit_among free parts left
+limit_ahead Priority parts left ahead is =
+    ap (λ n. limit Priority (nat_eq n 1) ahead.priority) is.class
+    ∙ ap (limit Priority (nat_eq (cond (is_first (part_at parts left.facts.partition) left.facts.critical) 1 0) 1)) (is.priority refl)
+    ∙ ap (λ t. limit Priority t left.facts.priority) (class_one (is_first (part_at parts left.facts.partition) left.facts.critical))
+limit_ahead Ratio parts left ahead is =
+    ap (λ n. limit Ratio (nat_eq n 1) ahead.priority) is.class ∙ by_first (is_first (part_at parts left.facts.partition) left.facts.critical) is.priority
+  where
+    by_first : (first : Bool) → ((nat_eq (cond first 1 0) 0 && nat_eq (cond first 1 0) 0) ≡ false → ahead.priority ≡ left.facts.priority)
+        → limit Ratio (nat_eq (cond first 1 0) 1) ahead.priority ≡ limit Ratio first left.facts.priority
+    by_first true priority = ap (limit Ratio true) (priority refl)
+    by_first false priority = refl
+
+pub short_ahead : (free : Free) (parts : List PartFacts) (left : Contender) (ahead : Ahead) → IsAheadOf free parts left ahead → ahead.priority ≤ 255
+    → IsShort free (is_first (part_at parts left.facts.partition) left.facts.critical) left.facts.priority
+short_ahead Priority parts left ahead is few = let same = is.priority refl in omega (arith, few, same)
+short_ahead Ratio parts left ahead is few = by_first (is_first (part_at parts left.facts.partition) left.facts.critical) is.priority
+  where
+    by_first : (first : Bool) → ((nat_eq (cond first 1 0) 0 && nat_eq (cond first 1 0) 0) ≡ false → ahead.priority ≡ left.facts.priority) → IsShort Ratio first left.facts.priority
+    by_first true priority = let same = priority refl in omega (arith, few, same)
+    by_first false priority = tt
+
 looked_all : (s : SchedulerState) (h : List Entry) (parts : List PartFacts) (c now : ℕ) (left : Contender)
     → flag_for s h parts c now (Some left) ≡ option_map (λ (best : ℕ × Rank). best.0) (best_if_lower s.shape.free (merit_among parts left) (lowest s h parts c now s.shape.cpus))
 looked_all s h parts c now left =
@@ -243,7 +284,7 @@ looked_all s h parts c now left =
 
 -- who stands below it is flagged
 pub told_flagged : (s : SchedulerState) (h : List Entry) (parts : List PartFacts) (c now at least : ℕ) (left : Contender)
-    → IsTold (lowest s h parts c now s.shape.cpus) at least → left.facts.priority ≤ 255 → least < limit_among s.shape.free parts left → flag_for s h parts c now (Some left) ≡ Some at
+    → IsTold (lowest s h parts c now s.shape.cpus) at least → IsShort s.shape.free (is_first (part_at parts left.facts.partition) left.facts.critical) left.facts.priority → least < limit_among s.shape.free parts left → flag_for s h parts c now (Some left) ≡ Some at
 told_flagged s h parts c now at least left told few low = looked_all s h parts c now left ∙ by_best (lowest s h parts c now s.shape.cpus) told
   where
     by_best : (best : Option (ℕ × Rank)) → IsTold best at least → option_map (λ (best : ℕ × Rank). best.0) (best_if_lower s.shape.free (merit_among parts left) best) ≡ Some at
@@ -259,23 +300,45 @@ told_flagged s h parts c now at least left told few low = looked_all s h parts c
 
 -- where the lowest doesn't stand below it nobody is
 not_lower : (s : SchedulerState) (h : List Entry) (parts : List PartFacts) (c now at least : ℕ) (left : Contender) (b : ℕ × Rank)
-    → IsTold (Some b) at least → left.facts.priority ≤ 255 → limit_among s.shape.free parts left ≤ least → is_lower s.shape.free (merit_among parts left) b.1 ≡ false
+    → IsTold (Some b) at least → IsShort s.shape.free (is_first (part_at parts left.facts.partition) left.facts.critical) left.facts.priority → limit_among s.shape.free parts left ≤ least → is_lower s.shape.free (merit_among parts left) b.1 ≡ false
 not_lower s h parts c now at least left b there few high =
     let same = there.1 in
     below_limit s.shape.free b.1 (merit_among parts left) (is_first (part_at parts left.facts.partition) left.facts.critical) there.2 few (class_is parts left)
     ∙ lt_false (height b.1) (limit_among s.shape.free parts left) (omega (arith, same, high))
 
 pub nobody_told : (s : SchedulerState) (h : List Entry) (parts : List PartFacts) (c now at least : ℕ) (left : Contender)
-    → IsTold (lowest s h parts c now s.shape.cpus) at least → left.facts.priority ≤ 255 → limit_among s.shape.free parts left ≤ least → flag_for s h parts c now (Some left) ≡ None
+    → IsTold (lowest s h parts c now s.shape.cpus) at least → IsShort s.shape.free (is_first (part_at parts left.facts.partition) left.facts.critical) left.facts.priority → limit_among s.shape.free parts left ≤ least → flag_for s h parts c now (Some left) ≡ None
 nobody_told s h parts c now at least left told few high = looked_all s h parts c now left ∙ by_best (lowest s h parts c now s.shape.cpus) told
   where
     by_best : (best : Option (ℕ × Rank)) → IsTold best at least → option_map (λ (best : ℕ × Rank). best.0) (best_if_lower s.shape.free (merit_among parts left) best) ≡ None
     by_best None there = refl
     by_best (Some b) there = ap (λ t. option_map (λ (best : ℕ × Rank). best.0) (cond t (Some b) None)) (not_lower s h parts c now at least left b there few high)
 
+-- who is flagged for the greatest of these, by what that is ahead by
+pub flagged_ahead : (s : SchedulerState) (h : List Entry) (parts : List PartFacts) (c now at least : ℕ) (o : Option Contender) (ahead : Ahead)
+    → IsTold (lowest s h parts c now s.shape.cpus) at least → IsAhead s.shape.free parts o (Some ahead) → ahead.priority ≤ 255
+    → least < limit s.shape.free (nat_eq ahead.class 1) ahead.priority → flag_for s h parts c now o ≡ Some at
+flagged_ahead s h parts c now at least None ahead told is few low = absurd is
+flagged_ahead s h parts c now at least (Some left) ahead told is few low =
+    let same = limit_ahead s.shape.free parts left ahead is in
+    told_flagged s h parts c now at least left told (short_ahead s.shape.free parts left ahead is few) (omega (arith, low, same))
+
+pub nobody_ahead : (s : SchedulerState) (h : List Entry) (parts : List PartFacts) (c now at least : ℕ) (o : Option Contender) (ahead : Ahead)
+    → IsTold (lowest s h parts c now s.shape.cpus) at least → IsAhead s.shape.free parts o (Some ahead) → ahead.priority ≤ 255
+    → limit s.shape.free (nat_eq ahead.class 1) ahead.priority ≤ least → flag_for s h parts c now o ≡ None
+nobody_ahead s h parts c now at least None ahead told is few high = refl
+nobody_ahead s h parts c now at least (Some left) ahead told is few high =
+    let same = limit_ahead s.shape.free parts left ahead is in
+    nobody_told s h parts c now at least left told (short_ahead s.shape.free parts left ahead is few) (omega (arith, high, same))
+
+-- and nobody where that tells nothing
+pub nobody_left : (s : SchedulerState) (h : List Entry) (parts : List PartFacts) (c now : ℕ) (o : Option Contender) → IsAhead s.shape.free parts o None → flag_for s h parts c now o ≡ None
+nobody_left s h parts c now None is = refl
+nobody_left s h parts c now (Some left) is = absurd is
+
 -- nor for the greatest of these, than which that one is no less
 pub nobody_flagged : (s : SchedulerState) (h : List Entry) (parts : List PartFacts) (c now at least : ℕ) (cs : List Contender) (picked : Contender)
-    → IsTold (lowest s h parts c now s.shape.cpus) at least → picked.facts.priority ≤ 255 → limit_among s.shape.free parts picked ≤ least → IsNoLess s.shape.free parts cs (Some picked)
+    → IsTold (lowest s h parts c now s.shape.cpus) at least → IsShort s.shape.free (is_first (part_at parts picked.facts.partition) picked.facts.critical) picked.facts.priority → limit_among s.shape.free parts picked ≤ least → IsNoLess s.shape.free parts cs (Some picked)
     → flag_for s h parts c now (greatest s.shape.free parts cs) ≡ None
 nobody_flagged s h parts c now at least cs picked told few high none_less = by_left (greatest s.shape.free parts cs) refl
   where

@@ -1,4 +1,4 @@
-ghost use Rattle.std.specs.Prelude.{◌≡◌, ◌+◌, ◌<◌, ◌≤◌, length, slice_index, All, IfSome, if◌then◌else◌};
+ghost use Rattle.std.specs.Prelude.{◌≡◌, ◌<◌, ◌≤◌, length, slice_index, IfSome, Some};
 ghost use Rattle.aps_model.specs.Flag.{flag_for, with_flag};
 ghost use Rattle.aps_model.specs.Budget.{part_at};
 ghost use Rattle.aps_model.specs.Pick.{contenders, greatest, merit_among};
@@ -7,8 +7,6 @@ ghost use Rattle.aps_core.specs.Classes.{AreClasses};
 ghost use Rattle.aps_core.specs.Lowest.{IsNoLess, IsRank, IsTold, height, height_of, height_or, limit, lowest, rank_now, ranked_at};
 ghost use Rattle.aps_core.specs.NextDues.{AreOthersDues};
 ghost use Rattle.aps_core.specs.Seats.{seats_of};
-ghost use Rattle.aps_core.specs.Small.{IsSmall};
-ghost use Rattle.std.specs.Prelude.{Some};
 
 use super::Machine;
 use crate::classes::Classes;
@@ -96,7 +94,8 @@ impl Machine {
     }
 
     /// The processor that is flagged for the greatest candidate left after this pick. That candidate is no greater than the
-    /// pick, so it is looked for only where some processor may be flagged for the pick itself.
+    /// pick, so the queues are asked only where some processor may be flagged for the pick itself, and then for its class and
+    /// priority alone.
     pub fn flag_after(
         &self,
         entries: &[Entry],
@@ -109,7 +108,6 @@ impl Machine {
         now: Nanos,
         picked: &Option<Contender>,
     ) -> Option<CpuId>
-        requires small { All IsSmall parts.now }
         requires gates { AreGates parts.now gates }
         requires classes { AreClasses parts.now classes }
         requires dues { AreOthersDues self.now entries.now c dues.now }
@@ -127,10 +125,10 @@ impl Machine {
         if limit_for(self.shape.free, &picked.facts, parts, classes) <= lowest.height {
             return None;
         }
-        let Some(left) = ready.greatest_by(gates, parts, self.shape.free) else {
+        let Some(ahead) = ready.ahead_by(gates) else {
             return None;
         };
-        if limit_for(self.shape.free, &left.facts, parts, classes) <= lowest.height {
+        if limit_of(self.shape.free, ahead.class == 1, ahead.priority) <= lowest.height {
             return None;
         }
         Some(lowest.cpu)
