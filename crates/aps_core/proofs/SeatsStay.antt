@@ -46,7 +46,7 @@ seat_by s t y facts thread =
 
 -- ---- own values of another thread
 
-follow_own : (own : List Facts) (all : List Triple) (tops : List (Option ℕ)) (x : ℕ) (v : Facts) (ts : List Triple) (y priority : ℕ) → IsNobodysClient ts x → y ≢ x
+pub follow_own : (own : List Facts) (all : List Triple) (tops : List (Option ℕ)) (x : ℕ) (v : Facts) (ts : List Triple) (y priority : ℕ) → IsNobodysClient ts x → y ≢ x
     → follow (record { own = set own x v; triples = all; tops = tops }) ts y priority ≡ follow (record { own = own; triples = all; tops = tops }) ts y priority
 follow_own own all tops x v [] y priority free ne = ap (raised priority) (get_or-set_other own x y v no_facts ne)
 follow_own own all tops x v (t ∷ older) y priority free ne =
@@ -90,7 +90,7 @@ alone_seat s t y before after same =
 
 -- ---- receivers
 
-tops_stay : (channels : List ChannelNow) (c : ℕ) (receivers : List ℕ)
+pub tops_stay : (channels : List ChannelNow) (c : ℕ) (receivers : List ℕ)
     → map (λ (d : ChannelNow). top_of d.messages) (set channels c (record (get_or channels c no_channel) { receivers = receivers })) ≡ map (λ (d : ChannelNow). top_of d.messages) channels
 tops_stay channels c receivers =
     map-set (λ (d : ChannelNow). top_of d.messages) channels c (record (get_or channels c no_channel) { receivers = receivers })

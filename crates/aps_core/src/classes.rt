@@ -56,7 +56,7 @@ impl Classes {
 
 /// The group of a thread of this partition, critical or not.
 #[inline(always)]
-fn group_of(p: PartitionId, critical: bool) -> usize
+pub fn group_of(p: PartitionId, critical: bool) -> usize
     ensures below { result < 64 }
     ensures partition { result % 32 ≡ p }
     ensures critical { nat_lt 31 result ≡ critical }

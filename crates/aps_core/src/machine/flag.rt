@@ -1,17 +1,20 @@
 ghost use Rattle.std.specs.Prelude.{◌≡◌, ◌<◌, ◌≤◌, length, slice_index, IfSome, Some};
 ghost use Rattle.aps_model.specs.Flag.{flag_for, with_flag};
 ghost use Rattle.aps_model.specs.Budget.{part_at};
+ghost use Rattle.aps_model.specs.SchedulerState.{cpu_at};
 ghost use Rattle.aps_model.specs.Pick.{contenders, greatest, merit_among};
 ghost use Rattle.aps_ready.specs.Gates.{AreGates, is_first};
 ghost use Rattle.aps_core.specs.Classes.{AreClasses};
 ghost use Rattle.aps_core.specs.Lowest.{IsNoLess, IsRank, IsTold, height, height_of, height_or, limit, lowest, rank_now, ranked_at};
 ghost use Rattle.aps_core.specs.NextDues.{AreOthersDues};
+ghost use Rattle.aps_core.specs.Posts.{ArePosts};
 ghost use Rattle.aps_core.specs.Seats.{seats_of};
 
 use super::Machine;
 use crate::classes::Classes;
 use crate::dues::Dues;
-use aps_model::{Contender, CpuId, CpuNow, Entry, Facts, Free, Nanos, PartFacts, Pick};
+use crate::posts::Posts;
+use aps_model::{Contender, CpuId, CpuNow, Entry, Facts, Free, Nanos, PartFacts};
 use aps_ready::{Gates, Ready};
 
 /// Past the heights of all processors.
@@ -25,17 +28,18 @@ struct Lowest {
 }
 
 impl Machine {
-    /// How high a processor stands that keeps this.
+    /// How high a processor stands.
     #[inline(always)]
-    fn height_now(&self, parts: &[PartFacts], classes: Classes, running: &Option<Pick>) -> u16
-        requires { AreClasses parts.now classes }
-        ensures same { result ≡ height (rank_now self.now parts.now running.now) }
-        ensures rank { IsRank (Some (rank_now self.now parts.now running.now)) }
+    fn height_now(&self, parts: &[PartFacts], posts: &Posts, classes: Classes, d: usize) -> u16
+        requires posts { ArePosts self.now posts.now }
+        requires classes { AreClasses parts.now classes }
+        requires d { d < length self.now.cpus }
+        ensures same { result ≡ height (rank_now self.now parts.now (cpu_at self.now d).running) }
+        ensures rank { IsRank (Some (rank_now self.now parts.now (cpu_at self.now d).running)) }
     {
-        match running {
-            None => 0,
-            Some(pick) => height_by(&self.facts_of(pick.thread), parts, classes),
-        }
+        // the check wants to see that there are 16 processors at most
+        let _count = self.cpus.len();
+        posts.at(d).height(classes)
     }
 
     /// How high another processor stands that isn't due yet. The own one is due no later than now.
@@ -45,11 +49,13 @@ impl Machine {
         entries: &[Entry],
         dues: &Dues,
         parts: &[PartFacts],
+        posts: &Posts,
         classes: Classes,
         c: CpuId,
         now: Nanos,
         d: usize,
     ) -> u16
+        requires posts { ArePosts self.now posts.now }
         requires classes { AreClasses parts.now classes }
         requires dues { AreOthersDues self.now entries.now c dues.now }
         requires own { slice_index dues.now c ≤ now }
@@ -57,7 +63,9 @@ impl Machine {
         ensures same { result ≡ height_or (ranked_at self.now entries.now parts.now c now d) }
         ensures rank { IsRank (ranked_at self.now entries.now parts.now c now d) }
     {
-        let height = self.height_now(parts, classes, &self.cpus[d].running);
+        // as in height_now
+        let _count = self.cpus.len();
+        let height = self.height_now(parts, posts, classes, d);
         if now < dues.at(d) { height } else { PAST_ALL }
     }
 
@@ -68,10 +76,12 @@ impl Machine {
         entries: &[Entry],
         dues: &Dues,
         parts: &[PartFacts],
+        posts: &Posts,
         classes: Classes,
         c: CpuId,
         now: Nanos,
     ) -> Lowest
+        requires posts { ArePosts self.now posts.now }
         requires classes { AreClasses parts.now classes }
         requires dues { AreOthersDues self.now entries.now c dues.now }
         requires own { slice_index dues.now c ≤ now }
@@ -81,7 +91,7 @@ impl Machine {
         let mut at = 0;
         let mut least = PAST_ALL;
         for d in 0..self.cpus.len() {
-            let height = self.height_at(entries, dues, parts, classes, c, now, d);
+            let height = self.height_at(entries, dues, parts, posts, classes, c, now, d);
             if height <= least {
                 at = d;
                 least = height;
@@ -101,6 +111,7 @@ impl Machine {
         entries: &[Entry],
         dues: &Dues,
         parts: &[PartFacts],
+        posts: &Posts,
         gates: Gates,
         classes: Classes,
         ready: &Ready,
@@ -108,6 +119,7 @@ impl Machine {
         now: Nanos,
         picked: &Option<Contender>,
     ) -> Option<CpuId>
+        requires posts { ArePosts self.now posts.now }
         requires gates { AreGates parts.now gates }
         requires classes { AreClasses parts.now classes }
         requires dues { AreOthersDues self.now entries.now c dues.now }
@@ -121,7 +133,7 @@ impl Machine {
         let Some(picked) = picked else {
             return None;
         };
-        let lowest = self.lowest(entries, dues, parts, classes, c, now);
+        let lowest = self.lowest(entries, dues, parts, posts, classes, c, now);
         if limit_for(self.shape.free, &picked.facts, parts, classes) <= lowest.height {
             return None;
         }
@@ -153,19 +165,6 @@ fn height_of(first: bool, priority: u8) -> u16
 {
     let base = if first { 257 } else { 1 };
     base + u16::from(priority)
-}
-
-/// Where a thread with these values stands.
-#[inline(always)]
-fn height_by(facts: &Facts, parts: &[PartFacts], classes: Classes) -> u16
-    requires { AreClasses parts.now classes }
-    ensures same { result ≡ height_of (is_first (part_at parts.now facts.now.partition) facts.now.critical) facts.now.priority }
-    ensures few { facts.now.priority ≤ 255 }
-{
-    height_of(
-        classes.is_first(facts.partition, facts.critical),
-        facts.priority,
-    )
 }
 
 /// What a processor has to stand below that is flagged for a candidate with these values.

@@ -1,7 +1,7 @@
 ghost use Rattle.std.specs.Prelude.{◌≡◌, ◌≢◌, ℕ, length, Some, None, true, false};
 ghost use Rattle.aps_model.specs.Inherit.{client_of};
 ghost use Rattle.aps_core.specs.Seats.{seats_of, IsRight, IsSeated};
-ghost use Rattle.aps_core.specs.Touched.{peer_of, is_at_channel, is_exit, woke, IsTouched};
+ghost use Rattle.aps_core.specs.Touched.{peer_of, is_alone, is_at_channel, is_exit, woke, IsTouched};
 ghost use Rattle.aps_laws.specs.Stamps.{IsStamped};
 
 use super::Machine;
@@ -172,7 +172,8 @@ pub fn peer_of(done: &Done) -> Option<ThreadId>
 }
 
 /// Whether the operation had to do with no other thread, nor with what waits at a channel.
-fn is_alone(done: &Done) -> bool
+pub fn is_alone(done: &Done) -> bool
+    ensures same { result ≡ is_alone done.now }
     ensures peer { result ≡ true → peer_of done.now ≡ None }
     ensures channel { result ≡ true → is_at_channel done.now ≡ false }
 {
@@ -181,6 +182,7 @@ fn is_alone(done: &Done) -> bool
         Done::SendTo(_) => false,
         Done::ReceiveGot(_) => false,
         Done::ReplyFreed(_) => false,
+        Done::Exit => false,
         _ => true,
     }
 }

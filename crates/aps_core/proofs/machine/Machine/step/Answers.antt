@@ -6,7 +6,7 @@ use Rattle.aps_model.specs.declared.state.Pick.{Pick}
 use Rattle.aps_model.specs.Bill.{bill_of}
 use Rattle.aps_model.specs.Due.{due}
 use Rattle.aps_model.specs.Messages.{Effect}
-use Rattle.aps_model.specs.SchedulerState.{SchedulerState, thread_at}
+use Rattle.aps_model.specs.SchedulerState.{SchedulerState, cpu_at, thread_at}
 use Rattle.aps_model.specs.Step.{Step}
 use Rattle.aps_laws.specs.Servers.{IsNobodysClient}
 use Rattle.aps_laws.specs.Stamps.{IsStamped}
@@ -22,6 +22,8 @@ use Rattle.aps_core.specs.Touched.{IsTouched, is_at_channel, peer_of}
 use Rattle.aps_core.proofs.Counting.{parts_are}
 use Rattle.aps_core.proofs.Frame.{kept_then, settled_kept}
 use Rattle.aps_core.proofs.Seats.{seats_count, who_seats}
+use Rattle.aps_core.proofs.FactsStay.{step_facts}
+use Rattle.aps_core.proofs.PostsStay.{posts_stay, runs_apart}
 use Rattle.aps_core.proofs.SeatsStay.{step_seat}
 use Rattle.aps_core.proofs.Asleep.{sleepers_count}
 use Rattle.aps_core.proofs.SleepersStay.{picked_sleepers, settled_timer, tested_timer}
@@ -466,3 +468,26 @@ time_done-requires-clause-tied c calm y own peer =
 pub returns-clause-timed : goal.returns-clause-timed
 returns-clause-timed c =
     c.time_done.ensures ∙ sym (picked_sleepers c.settle-done.new.self c.args.entries.now c.args.cpu _ _) ∙ ap (λ (out : Step). sleepers_of out.state) c.pick-entry.ensures.same
+
+-- ---- what each processor runs
+
+pub post_others-requires : goal.post_others-requires
+post_others-requires c idle alone =
+    let s = c.args.self.now in
+    let h = c.args.entries.now in
+    let b =
+    tested_by c.args.scenario.now s h c.args.cpu _ _ _ _ _ _ _ _ _
+    (c.of-now.ensures ∙ c.requires.dues c.args.cpu c.requires.ready.exists) c.last_end-from.ensures.same c.begin-running.ensures.running c.begin-running.ensures.same c.work_tick-commanded.ensures.same c.bill_of-e.ensures.same c.bill.ensures c.test-reboot.ensures in
+    let billed = billed_by c.args.scenario.now s h c.args.cpu _ _ _ _ _ b in
+    let before = settled_is c.args.scenario.now s h c.args.cpu c.of-now.result c.begin-running.result c.bill_of-e.result c.test-reboot.new.self c.test-reboot.result _ b c.settle-done.ensures in
+    posts_stay s c.settle-done.new.self c.args.cpu c.args.posts.now
+    (ap (λ (u : SchedulerState). length u.cpus) before ∙ c.requires.ready.counted)
+    (λ d ne. ap (λ (u : SchedulerState). cpu_at u d) before ∙ c.requires.ready.same_cpu d ne)
+    (λ d q ne other.
+    step_facts c.args.scenario.now s h c.args.cpu c.of-now.result q.thread _ c.begin-running.result c.bill_of-e.result _ _ _ _ c.test-reboot.result
+    (record { state = c.settle-done.new.self; done = c.settle-done.result })
+    c.begin-running.ensures.same (c.work_tick-commanded.ensures.facts idle q.thread) c.bill.ensures c.test-reboot.ensures c.settle-done.ensures
+    (λ p runs. subst (λ (u : SchedulerState). IsNobodysClient u.triples p.thread) (sym billed) (c.requires.ready.free_billed p (sym c.begin-running.ensures.running ∙ runs)))
+    (λ p runs. runs_apart s c.args.cpu d p q c.requires.ready.runs ne (sym c.begin-running.ensures.running ∙ runs) other)
+    alone)
+    (λ d inside ne. c.requires.posts d inside)

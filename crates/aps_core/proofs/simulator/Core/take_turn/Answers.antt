@@ -128,6 +128,7 @@ invariant_of-self c = record {
       c.go_on.ensures.whole c.self.invariant.nexts
       (c.due-due.ensures ∙ ap (λ h. due c.step-made.new.self h c.args.cpu) (c.entries-2.ensures.same ∙ ap (λ (k : History). k.entries) c.record.ensures))));
   stands = c.step-made.ensures.stands;
+  posted = c.step-made.ensures.posts;
   counts =
       let shape = c.step-made.new.self.shape in
       let h = c.self.inside.history.entries in
