@@ -2,7 +2,7 @@ ghost use Rattle.std.specs.Prelude.{◌≡◌, ◌+◌, ◌/◌, ◌<◌, ◌≤
 ghost use Rattle.std.specs.List.{list_any};
 ghost use Rattle.aps_model.specs.declared.entry.Entry.{Entry as EntryOf};
 ghost use Rattle.aps_model.specs.After.{stands_at};
-ghost use Rattle.aps_model.specs.Due.{next_boundary, due_at};
+ghost use Rattle.aps_model.specs.Due.{next_boundary, due_at, or_end};
 ghost use Rattle.aps_model.specs.Shape.{IsShape, horizon};
 ghost use Rattle.aps_core.specs.Rising.{IsRising};
 
@@ -73,10 +73,20 @@ pub fn due_at(
     if last == shape.horizon() {
         return boundary;
     }
-    match left {
-        None => boundary,
-        Some(left) => boundary.min(last.saturating_add(left)),
-    }
+    or_end(boundary, last, left)
+}
+
+/// The boundary, or the earlier moment at which the operation ends that had so much left at this moment.
+#[inline(always)]
+fn or_end(boundary: Nanos, moment: Nanos, left: Option<Nanos>) -> Nanos
+    requires { boundary ≤ 20000000000000 }
+    ensures { result ≡ or_end boundary moment left }
+{
+    let end = match left {
+        None => Nanos::MAX,
+        Some(left) => moment.saturating_add(left),
+    };
+    boundary.min(end)
 }
 
 /// Whether an entry ended at this moment. It is found from the end of the history, where it stands.

@@ -49,12 +49,9 @@ impl Post {
         requires more { self.more ≤ 256 }
         ensures { result ≡ (if has classes.first self.group then self.base + self.more else self.base) }
     {
-        let more = if classes.first.has(usize::from(self.group)) {
-            self.more
-        } else {
-            0
-        };
-        self.base + more
+        // a product, since a branch here would be foretold wrongly often
+        let first = u16::from(classes.first.has(usize::from(self.group)));
+        self.base + first * self.more
     }
 }
 

@@ -283,6 +283,7 @@ impl Core {
     }
 
     /// The step of a processor that has the turn, in a run that goes on.
+    #[inline(always)]
     fn take_turn(&mut self, cpu: CpuId) -> Entry
         requires goes_on { end_of_run self.old ≡ None }
         requires turn { HasTurnIn self.old cpu }
