@@ -37,20 +37,21 @@ pub fn tick_of(tick: u64, moment: Nanos, at_hand: u64) -> u64
     }
 }
 
-/// The first boundary after a moment. It costs no division where the moment lies in the tick at hand or the one before it.
-pub fn next_boundary(tick: u64, moment: Nanos, at_hand: u64) -> Nanos
+/// The first boundary after a moment, which lies in the tick at hand.
+#[inline(always)]
+fn next_boundary(tick: u64, moment: Nanos, at_hand: u64) -> Nanos
     requires some { 0 < tick }
     requires short { tick ≤ 10000000 }
-    requires at_hand { at_hand ≤ 100000000 }
+    requires at_hand { at_hand ≡ moment / tick }
     requires moment { moment ≤ 10000000000000 }
     ensures same { result ≡ next_boundary tick moment }
     ensures soon { result ≤ moment + tick }
 {
-    (tick_of(tick, moment, at_hand) + 1) * tick
+    (at_hand + 1) * tick
 }
 
 /// When a processor steps next, by its flag, the end of its last entry, and what is left of its operation. The tick at hand
-/// is best that of the end of its last entry.
+/// is that of the end of its last entry.
 pub fn due_at(
     shape: &Shape,
     at_hand: u64,
@@ -59,7 +60,7 @@ pub fn due_at(
     left: Option<Nanos>,
 ) -> Nanos
     requires shape { IsShape shape.now }
-    requires at_hand { at_hand ≤ 100000000 }
+    requires at_hand { IfSome last (λ to. at_hand ≡ to / shape.now.tick) }
     requires last { IfSome last (λ to. to ≤ 10000000000000) }
     ensures { result ≡ due_at shape.now.tick (horizon shape.now) flag last left }
 {

@@ -1,8 +1,8 @@
-ghost use Rattle.std.specs.Prelude.{◌≡◌, ◌-◌, ◌<◌, ◌≤◌, ◌/◌, ◌++◌, [], ◌∷◌, length, slice_index, All, None, false};
+ghost use Rattle.std.specs.Prelude.{◌≡◌, ◌-◌, ◌<◌, ◌≤◌, ◌/◌, ◌++◌, [], ◌∷◌, length, slice_index, All, IfSome, None, false};
 ghost use Rattle.std.specs.Option.{option_map};
 ghost use Rattle.aps_model.specs.After.{is_at_horizon};
 ghost use Rattle.aps_model.specs.Budget.{all_parts};
-ghost use Rattle.aps_model.specs.Due.{due, first_due};
+ghost use Rattle.aps_model.specs.Due.{due, first_due, last_to};
 ghost use Rattle.aps_model.specs.History.{IsEntry};
 ghost use Rattle.aps_model.specs.Shape.{horizon};
 ghost use Rattle.aps_model.specs.Step.{pick, step};
@@ -106,9 +106,9 @@ impl Model for Machine {
 }
 
 impl Machine {
-    /// When the processor steps next. The tick at hand is best that of the end of its last entry.
+    /// When the processor steps next. The tick at hand is that of the end of its last entry.
     pub fn due(&self, entries: &[Entry], ends: &Ends, at_hand: u32, cpu: CpuId) -> Nanos
-        requires at_hand { at_hand ≤ 100000000 }
+        requires at_hand { IfSome (last_to entries.now cpu) (λ to. at_hand ≡ to / self.now.shape.tick) }
         requires cpu { cpu < length self.now.cpus }
         requires entries { All IsEntry entries.now }
         requires ends { AreEnds entries.now ends.now }

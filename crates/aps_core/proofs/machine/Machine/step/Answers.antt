@@ -24,7 +24,7 @@ use Rattle.aps_core.proofs.Frame.{kept_then, settled_kept}
 use Rattle.aps_core.proofs.Seats.{seats_count, who_seats}
 use Rattle.aps_core.proofs.FactsStay.{step_facts}
 use Rattle.aps_core.proofs.PostsStay.{posts_stay, runs_apart}
-use Rattle.aps_core.proofs.SeatsStay.{step_seat}
+use Rattle.aps_core.proofs.SeatsStay.{running_out, step_seat}
 use Rattle.aps_core.proofs.Asleep.{sleepers_count}
 use Rattle.aps_core.proofs.SleepersStay.{picked_sleepers, settled_timer, tested_timer}
 use Rattle.aps_core.proofs.StandsStay.{calm_kept, neither, others_stand}
@@ -338,6 +338,14 @@ sync-requires-clause-tied c idle calm y apart =
     (λ p runs. subst (λ (s : SchedulerState). IsNobodysClient s.triples p.thread) (sym billed) (c.requires.ready.free_billed p (sym c.begin-running.ensures.running ∙ runs)))
     calm
     (subst (λ o. IsTouched c.work_tick-commanded.new.woken o (peer_of c.settle-done.result) (is_at_channel c.settle-done.result) c.settle-done.new.self.triples y → ⊥) own apart))
+
+pub sync-requires-clause-out : goal.sync-requires-clause-out
+sync-requires-clause-out c y own =
+    let who : c.bill_of-e.result.ran ≡ option_map (λ (p : Pick). p.thread) c.begin-running.result =
+    ap (λ (e : Entry). e.ran) c.bill_of-e.ensures.same ∙ ran c.args.cpu c.last_end-from.result c.of-now.result c.begin-running.result in
+    ap (λ (l : List (Option Contender)). who_at l y) c.requires.seats
+    ∙ who_seats c.args.self.now y
+    ∙ running_out c.args.self.now c.args.cpu y c.begin-running.result c.requires.ready.runs (sym c.begin-running.ensures.running) (sym who ∙ own)
 
 -- ---- how the partitions stand, and what a calm step leaves
 
