@@ -193,6 +193,7 @@ ready scenario order h c valid legal short run turn =
       in_tick = subst (λ z. due s h c ≤ next_boundary s.shape.tick z) d.from (let l = n.short in omega (arith, l, d.to));
       counted = omega (arith, counted.cpus, b.settled'.cpus);
       same_cpu = let m = (sound scenario order valid h legal).grounded in cpu_before scenario s h c (names_channels scenario valid) m.plain m.kept;
+      runs_billed = b.runs_billed;
       runs = (sound scenario order valid h legal).grounded.kept.runs;
       others = let m = (sound scenario order valid h legal).grounded in due_before scenario s h c (names_channels scenario valid) m.plain m.kept;
       bills_fit = bills_fit scenario order h c valid legal run turn counted.sizes.tick;

@@ -42,4 +42,5 @@ pub record IsReady (scenario : Scenario) (s : SchedulerState) (h : List Entry) (
   pub others : (d : ℕ) → d ≢ c → due (before_pick scenario s h c) h d ≡ due s h d
   pub same_cpu : (d : ℕ) → d ≢ c → cpu_at (before_pick scenario s h c) d ≡ cpu_at s d
   pub runs : (d : ℕ) (p : Pick) → (cpu_at s d).running ≡ Some p → (thread_at s p.thread).state ≡ Running d
+  pub runs_billed : (p : Pick) → (cpu_at s c).running ≡ Some p → (thread_at (after_bill scenario s h c) p.thread).state ≡ Running c
   pub counted : length (before_pick scenario s h c).cpus ≡ length s.cpus

@@ -25,7 +25,7 @@ use Rattle.aps_core.proofs.Seats.{seats_count, who_seats}
 use Rattle.aps_core.proofs.FactsStay.{step_facts}
 use Rattle.aps_core.proofs.PostsStay.{posts_stay, runs_apart}
 use Rattle.aps_core.proofs.SeatsStay.{running_out, step_seat}
-use Rattle.aps_core.proofs.Asleep.{sleepers_count}
+use Rattle.aps_core.proofs.Asleep.{running_awake, sleepers_count}
 use Rattle.aps_core.proofs.SleepersStay.{picked_sleepers, settled_timer, tested_timer}
 use Rattle.aps_core.proofs.StandsStay.{calm_kept, neither, others_stand}
 use Rattle.aps_core.proofs.StepCounts.{IsBilling, counts_begun, counts_left, done_bill, entry_of, own_bill, picked_bill, room_to_bill, settled_shape, spent_shape, tested_shape}
@@ -462,6 +462,21 @@ time_done-requires-clause-count c =
     tested_timer c.work_tick-commanded.new.self c.bill.new.self c.test-reboot.new.self c.args.entries.now c.bill_of-e.result c.begin-running.result c.test-reboot.result c.work_tick-commanded.new.timer
     c.work_tick-commanded.ensures.timed c.bill.ensures c.test-reboot.ensures in
     ap length timed ∙ sleepers_count c.test-reboot.new.self ∙ sym settled.threads
+
+pub time_done-requires-clause-out : goal.time_done-requires-clause-out
+time_done-requires-clause-out c y own =
+    let b =
+    tested_by c.args.scenario.now c.args.self.now c.args.entries.now c.args.cpu _ _ _ _ _ _ _ _ _
+    (c.of-now.ensures ∙ c.requires.dues c.args.cpu c.requires.ready.exists) c.last_end-from.ensures.same c.begin-running.ensures.running c.begin-running.ensures.same c.work_tick-commanded.ensures.same c.bill_of-e.ensures.same c.bill.ensures c.test-reboot.ensures in
+    let billed = billed_by c.args.scenario.now c.args.self.now c.args.entries.now c.args.cpu _ _ _ _ _ b in
+    let who : c.bill_of-e.result.ran ≡ option_map (λ (p : Pick). p.thread) c.begin-running.result =
+    ap (λ (e : Entry). e.ran) c.bill_of-e.ensures.same ∙ ran c.args.cpu c.last_end-from.result c.of-now.result c.begin-running.result in
+    let timed =
+    tested_timer c.work_tick-commanded.new.self c.bill.new.self c.test-reboot.new.self c.args.entries.now c.bill_of-e.result c.begin-running.result c.test-reboot.result c.work_tick-commanded.new.timer
+    c.work_tick-commanded.ensures.timed c.bill.ensures c.test-reboot.ensures in
+    running_awake c.test-reboot.new.self c.args.cpu y c.work_tick-commanded.new.timer c.begin-running.result timed
+    (λ p runs. ap (λ (s : SchedulerState). (thread_at s p.thread).state) billed ∙ c.requires.ready.runs_billed p (sym c.begin-running.ensures.running ∙ runs))
+    (sym who ∙ own)
 
 pub time_done-requires-clause-tied : goal.time_done-requires-clause-tied
 time_done-requires-clause-tied c calm y own peer =

@@ -1,7 +1,7 @@
-use Rattle.std.proofs.Common.{◌≡◌, ◌∙◌, ℕ, Some, inl, inr, subst, sym}
+use Rattle.std.proofs.Common.{◌∙◌, inl, inr, subst, sym}
 use Rattle.aps_core.specs.Seats.{IsRight}
 use Rattle.aps_core.proofs.Seats.{seats_by}
-use Rattle.aps_core.proofs.Touched.{is_or_not}
+use Rattle.aps_core.proofs.Touched.{is_or_not, some_number}
 use Rattle.aps_core.proofs.machine.Machine.sync_own.Goals as goal
 
 pub enter_anew-requires-clause-seated : goal.enter_anew-requires-clause-seated
@@ -9,9 +9,6 @@ enter_anew-requires-clause-seated c y = elim (is_or_not c.args.own.now y) [
   | inl is_own ↦ inl (c.requires.out y is_own)
   | inr apart ↦ inr (c.requires.tied y apart)
 ]
-
-some_number : (x y : ℕ) → Some x ≡ Some y → x ≡ y
-some_number x y e = cc
 
 pub returns-in-Some : goal.returns-in-Some
 returns-in-Some c =
