@@ -1,12 +1,15 @@
 -- Who sleeps in the timer, and who should.
-use Rattle.std.proofs.Common.{◌≡◌, ◌≢◌, inl, inr, ℕ, ◌+◌, ◌<◌, ◌≤◌, ◌++◌, Bool, true, false, ◌||◌, nat_eq, List, [], ◌∷◌, drop, length, get_or, set, Option, None, refl, sym, ◌∙◌, ap, subst, arith, length-set, get_or-set_same, get_or-set_other}
+use Rattle.std.proofs.Common.{◌≡◌, ◌≢◌, inl, inr, ℕ, ◌+◌, ◌<◌, ◌≤◌, ◌++◌, Bool, true, false, ◌||◌, nat_eq, List, [], ◌∷◌, drop, length, get_or, set, Option, None, refl, sym, ◌∙◌, ap, subst, arith, length-set, get_or-set_same, get_or-set_other, Some}
+use Rattle.aps_model.specs.declared.state.State.TheVariants.{Running}
+use Rattle.aps_model.specs.declared.state.Pick.{Pick}
+use Rattle.std.specs.Option.{option_map}
 use Rattle.std.proofs.lemmas.Bool.{cases_eq, cases_lt}
 use Rattle.std.proofs.lemmas.List.{drop_more, ext_get_or, get_or_past, length-map, map-set, set-get_or}
 use Rattle.std.proofs.Math.ListN.{get_or-map}
 use Rattle.aps_model.specs.declared.state.ThreadNow.{ThreadNow}
 use Rattle.aps_model.specs.Operation.{go_on}
 use Rattle.aps_model.specs.Scenario.{Scenario}
-use Rattle.aps_model.specs.SchedulerState.{SchedulerState, no_thread, with_thread}
+use Rattle.aps_model.specs.SchedulerState.{SchedulerState, no_thread, with_thread, thread_at}
 use Rattle.aps_model.specs.TickWork.{waking}
 use Rattle.aps_laws.proofs.Walk.{go_on_other}
 use Rattle.aps_laws.proofs.WaitFacts.{test_eq, test_ne}
@@ -15,6 +18,7 @@ use Rattle.aps_timer.specs.Waking.{sleeps_until}
 use Rattle.aps_timer.proofs.Wakes.{wakes}
 use Rattle.aps_core.specs.Sleepers.{IsTimed, sleepers_of, until_at}
 use Rattle.aps_core.specs.Touched.{woke}
+use Rattle.aps_core.proofs.Touched.{none_some, some_number}
 
 -- ---- the sleepers of a state
 
@@ -91,3 +95,12 @@ woke_after woken i y below other absent =
 -- a thread that doesn't go on sleeps as before
 pub others_sleep : (scenario : Scenario) (s : SchedulerState) (timer : List (Option ℕ)) (x now y : ℕ) → y ≢ x → IsTimed s timer y → IsTimed (go_on scenario s x now) timer y
 others_sleep scenario s timer x now y other right = right ∙ ap (λ (t : ThreadNow). sleeps_until t.state) (sym (go_on_other scenario s x now y other))
+
+-- ---- who runs
+
+-- whoever a processor runs doesn't sleep
+pub running_awake : (s : SchedulerState) (c y : ℕ) (timer : List (Option ℕ)) (o : Option Pick) → timer ≡ sleepers_of s → ((p : Pick) → o ≡ Some p → (thread_at s p.thread).state ≡ Running c)
+    → option_map (λ (p : Pick). p.thread) o ≡ Some y → get_or timer y None ≡ None
+running_awake s c y timer None are runs own = absurd (none_some y own)
+running_awake s c y timer (Some p) are runs own =
+    timed_each s timer are y ∙ ap sleeps_until (ap (λ x. (thread_at s x).state) (sym (some_number p.thread y own)) ∙ runs p refl)

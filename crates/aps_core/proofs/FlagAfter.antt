@@ -1,5 +1,6 @@
--- Who may be flagged for the greatest candidate left: nobody where nobody may be flagged for the pick itself, than which it is no greater.
-use Rattle.std.proofs.Common.{◌≡◌, ℕ, zero, suc, ◌+◌, ◌<◌, ◌≤◌, List, [], ◌∷◌, set, refl, sym, ◌∙◌, ap, subst, Bool, true, false, cond, not, ◌&&◌, nat_eq, nat_lt, Option, Some, None, IfSome, arith}
+-- Who is flagged for the greatest candidate left: the lowest of all processors, where that stands below the candidate; and nobody where it doesn't stand below
+-- the pick itself, than which the candidate is no greater.
+use Rattle.std.proofs.Common.{◌≡◌, ℕ, zero, suc, ◌+◌, ◌<◌, ◌≤◌, List, [], ◌∷◌, set, refl, sym, ◌∙◌, ap, subst, Bool, true, false, cond, not, ◌&&◌, nat_eq, nat_le, nat_lt, Option, Some, None, arith}
 use Rattle.std.specs.List.{AllByRecursion, filter, fold, range_with_len}
 use Rattle.std.specs.Option.{option_map}
 use Rattle.std.proofs.lemmas.Bool.Decides.{nat_tests}
@@ -16,7 +17,7 @@ use Rattle.aps_model.specs.declared.shape.Shape.{Shape}
 use Rattle.aps_model.specs.declared.state.Pick.{Pick}
 use Rattle.aps_model.specs.Budget.{part_at}
 use Rattle.aps_model.specs.Due.{due}
-use Rattle.aps_model.specs.Flag.{flag_for, looked_at, lower_ranked, merit_now, rank_of}
+use Rattle.aps_model.specs.Flag.{at_most, flag_for, looked_at, lower_ranked, merit_now, rank_of}
 use Rattle.aps_model.specs.Merit.{is_below, is_candidate, is_greater}
 use Rattle.aps_model.specs.Pick.{candidates, contenders, greatest, merit_among}
 use Rattle.aps_model.specs.SchedulerState.{SchedulerState, cpu_at}
@@ -24,69 +25,333 @@ use Rattle.aps_model.specs.Step.{chosen}
 use Rattle.aps_model.proofs.GreatestLaws.{IsUnbeaten, beats, greatest-is, greatest-unbeaten}
 use Rattle.aps_laws.proofs.PickSays.{chosen_shape}
 use Rattle.aps_ready.specs.Ready.{members, without}
-use Rattle.aps_core.specs.Lowest.{IsNoLess, NobodyRanks}
+use Rattle.aps_ready.specs.declared.ahead.Ahead.{Ahead}
+use Rattle.aps_ready.specs.Ahead.{IsAhead, IsAheadOf}
+use Rattle.aps_ready.specs.Gates.{is_first}
+use Rattle.aps_core.specs.Lowest.{IsNoLess, IsRank, IsTold, height, height_or, limit, lowest, rank_now, ranked_at}
 use Rattle.aps_core.specs.Seats.{seats_of}
 use Rattle.aps_core.proofs.Seats.{missing_in}
 
--- ---- one processor
+-- ---- tests
 
--- who isn't below the greater of two isn't below the other
+lt_true : (a b : ℕ) → a < b → nat_lt a b ≡ true
+lt_true a b less = grind (arith, nat_tests)
+
+lt_false : (a b : ℕ) → b ≤ a → nat_lt a b ≡ false
+lt_false a b most = grind (arith, nat_tests)
+
+le_true : (a b : ℕ) → a ≤ b → nat_le a b ≡ true
+le_true a b most = grind (arith, nat_tests)
+
+le_false : (a b : ℕ) → b < a → nat_le a b ≡ false
+le_false a b less = grind (arith, nat_tests)
+
+-- ---- heights
+
+height_small : (r : Rank) → IsRank (Some r) → height r ≤ 512
+height_small Idle is = omega arith
+height_small (Running zero priority) is = let few = is.1 in omega (arith, few)
+height_small (Running (suc zero) priority) is = let few = is.1 in omega (arith, few)
+height_small (Running (suc (suc class)) priority) is = let few = is.0 in absurd (omega (arith, few))
+
+-- who stands no higher is the lower one, or they are equal
+height_lower : (a b : Rank) → IsRank (Some a) → IsRank (Some b) → height a ≤ height b → at_most a b ≡ true
+height_lower Idle b is_a is_b least = refl
+height_lower (Running zero priority) Idle is_a is_b least = absurd (omega (arith, least))
+height_lower (Running (suc zero) priority) Idle is_a is_b least = absurd (omega (arith, least))
+height_lower (Running (suc (suc class)) priority) b is_a is_b least = let few = is_a.0 in absurd (omega (arith, few))
+height_lower (Running zero priority) (Running zero other) is_a is_b least = le_true priority other (omega (arith, least))
+height_lower (Running zero priority) (Running (suc zero) other) is_a is_b least = refl
+height_lower (Running (suc zero) priority) (Running zero other) is_a is_b least = let few = is_b.1 in absurd (omega (arith, least, few))
+height_lower (Running (suc zero) priority) (Running (suc zero) other) is_a is_b least = le_true priority other (omega (arith, least))
+height_lower (Running class priority) (Running (suc (suc other_class)) other) is_a is_b least = let few = is_b.0 in absurd (omega (arith, few))
+
+-- and who stands higher is not
+height_higher : (a b : Rank) → IsRank (Some a) → IsRank (Some b) → height b < height a → at_most a b ≡ false
+height_higher Idle Idle is_a is_b more = absurd (omega (arith, more))
+height_higher Idle (Running zero priority) is_a is_b more = absurd (omega (arith, more))
+height_higher Idle (Running (suc zero) priority) is_a is_b more = absurd (omega (arith, more))
+height_higher a (Running (suc (suc class)) priority) is_a is_b more = let few = is_b.0 in absurd (omega (arith, few))
+height_higher (Running (suc (suc class)) priority) b is_a is_b more = let few = is_a.0 in absurd (omega (arith, few))
+height_higher (Running class priority) Idle is_a is_b more = refl
+height_higher (Running zero priority) (Running zero other) is_a is_b more = le_false priority other (omega (arith, more))
+height_higher (Running zero priority) (Running (suc zero) other) is_a is_b more = let few = is_a.1 in absurd (omega (arith, more, few))
+height_higher (Running (suc zero) priority) (Running zero other) is_a is_b more = refl
+height_higher (Running (suc zero) priority) (Running (suc zero) other) is_a is_b more = le_false priority other (omega (arith, more))
+
+-- ---- the scan
+
+-- one more processor stands no higher than the lowest so far
+pub told_lower : (d : ℕ) (o : Option Rank) (best : Option (ℕ × Rank)) (at least number : ℕ) → IsTold best at least → IsRank o → number ≡ height_or o → number ≤ least
+    → IsTold (lower_ranked d o best) d number
+told_lower d None None at least number told rank is low = is
+told_lower d None (Some b) at least number told rank is low =
+    let small = height_small b.1 told.2 in
+    let there = told.1 in
+    absurd (omega (arith, small, there, is, low))
+told_lower d (Some r) None at least number told rank is low = (refl, is, rank)
+told_lower d (Some r) (Some b) at least number told rank is low =
+    let there = told.1 in
+    subst (λ t. IsTold (cond t (Some (d, r)) (Some b)) d number) (sym (height_lower r b.1 rank told.2 (omega (arith, there, is, low)))) (refl, is, rank)
+
+-- or higher
+pub told_stays : (d : ℕ) (o : Option Rank) (best : Option (ℕ × Rank)) (at least number : ℕ) → IsTold best at least → IsRank o → number ≡ height_or o → least < number
+    → IsTold (lower_ranked d o best) at least
+told_stays d None best at least number told rank is high = told
+told_stays d (Some r) None at least number told rank is high =
+    let small = height_small r rank in
+    absurd (omega (arith, small, told, is, high))
+told_stays d (Some r) (Some b) at least number told rank is high =
+    let there = told.1 in
+    subst (λ t. IsTold (cond t (Some (d, r)) (Some b)) at least) (sym (height_higher r b.1 rank told.2 (omega (arith, there, is, high)))) told
+
+-- ---- who is below a candidate
+
+-- a processor of this rank is below a candidate
+abbrev is_lower : Free → Merit → Rank → Bool
+is_lower free left Idle = true
+is_lower free left (Running class priority) = is_below free (record { class = class; priority = priority; used = 0; budget = 0; stamp = 0 }) left
+
+below_same : (free : Free) (running left : Merit) → is_below free running left ≡ is_lower free left (Running running.class running.priority)
+below_same Priority running left = refl
+below_same Ratio running left = refl
+
+-- who is below one that is no greater is below the other
 below_less : (free : Free) (running left picked : Merit) → is_greater free left picked ≡ false → is_below free running picked ≡ false → is_below free running left ≡ false
 below_less Priority running left picked least none = grind (arith, nat_tests)
 below_less Ratio running left picked least none = grind (arith, nat_tests)
 
-some_none : {X : Type 0} (x : X) → Some x ≡ None → ⊥
-some_none x e = cc
-
-rank_less : (s : SchedulerState) (parts : List PartFacts) (left picked : Merit) (o : Option Pick) → is_greater s.shape.free left picked ≡ false
-    → rank_of s parts picked o ≡ None → rank_of s parts left o ≡ None
-rank_less s parts left picked None least none = absurd (some_none Idle none)
-rank_less s parts left picked (Some p) least none = by_test (is_below s.shape.free (merit_now s parts p.thread) picked) refl none
+lower_less : (free : Free) (left picked : Merit) (r : Rank) → is_greater free left picked ≡ false → is_lower free picked r ≡ false → is_lower free left r ≡ false
+lower_less free left picked Idle least none = absurd (clash none)
   where
-    ranked : Rank
-    ranked = Running (merit_now s parts p.thread).class (merit_now s parts p.thread).priority
+    clash : true ≡ false → ⊥
+    clash e = cc
+lower_less free left picked (Running class priority) least none = below_less free (record { class = class; priority = priority; used = 0; budget = 0; stamp = 0 }) left picked least none
 
-    by_test : (t : Bool) → is_below s.shape.free (merit_now s parts p.thread) picked ≡ t → cond t (Some ranked) None ≡ None → rank_of s parts left (Some p) ≡ None
-    by_test true same e = absurd (some_none ranked e)
-    by_test false same e = ap (λ t. cond t (Some ranked) None) (below_less s.shape.free (merit_now s parts p.thread) left picked least same)
-
-looked_less : (s : SchedulerState) (h : List Entry) (parts : List PartFacts) (left picked : Merit) (c now d : ℕ) → is_greater s.shape.free left picked ≡ false
-    → looked_at s h parts picked c now d ≡ None → looked_at s h parts left c now d ≡ None
-looked_less s h parts left picked c now d least none = by_test (not (nat_eq d c) && nat_lt now (due s h d)) none
+-- that is so for each lower rank too
+lower_then : (free : Free) (left : Merit) (a b : Rank) → at_most a b ≡ true → is_lower free left b ≡ true → is_lower free left a ≡ true
+lower_then free left Idle b most below = refl
+lower_then free left (Running class priority) Idle most below = absurd (clash most)
   where
-    by_test : (t : Bool) → cond t (rank_of s parts picked (cpu_at s d).running) None ≡ None → cond t (rank_of s parts left (cpu_at s d).running) None ≡ None
-    by_test true e = rank_less s parts left picked (cpu_at s d).running least e
-    by_test false e = refl
+    clash : false ≡ true → ⊥
+    clash e = cc
+lower_then Priority left (Running class priority) (Running other_class other) most below = grind (arith, nat_tests)
+lower_then Ratio left (Running class priority) (Running other_class other) most below = grind (arith, nat_tests)
 
--- ---- all of them
+higher_then : (free : Free) (left : Merit) (a b : Rank) → at_most a b ≡ false → is_lower free left a ≡ true → is_lower free left b ≡ true
+higher_then free left a Idle most below = refl
+higher_then free left Idle (Running other_class other) most below = absurd (clash most)
+  where
+    clash : true ≡ false → ⊥
+    clash e = cc
+higher_then Priority left (Running class priority) (Running other_class other) most below = grind (arith, nat_tests)
+higher_then Ratio left (Running class priority) (Running other_class other) most below = grind (arith, nat_tests)
 
-pub scan_none : (look : ℕ → Option Rank) (a n : ℕ) → ((d : ℕ) → a ≤ d → d < a + n → look d ≡ None)
-    → fold (λ best d. lower_ranked d (look d) best) None (range_with_len a n) ≡ None
-scan_none look a zero none = refl
-scan_none look a (suc n) none =
-    ap (λ o. fold (λ best d. lower_ranked d (look d) best) (lower_ranked a o None) (range_with_len (a + 1) n)) (none a (omega arith) (omega arith))
-    ∙ scan_none look (a + 1) n (λ d low high. none d (omega (arith, low)) (omega (arith, high)))
+-- a rank, and a processor with its rank, where it is below the candidate
+abbrev if_lower : Free → Merit → Option Rank → Option Rank
+if_lower free left None = None
+if_lower free left (Some r) = cond (is_lower free left r) (Some r) None
 
--- nobody is flagged for the greatest of these, where nobody may be flagged for one that is no less
-pub nobody_flagged : (s : SchedulerState) (h : List Entry) (parts : List PartFacts) (c now : ℕ) (cs : List Contender) (picked : Contender)
-    → NobodyRanks s h parts (merit_among parts picked) c now s.shape.cpus → IsNoLess s.shape.free parts cs (Some picked)
+abbrev best_if_lower : Free → Merit → Option (ℕ × Rank) → Option (ℕ × Rank)
+best_if_lower free left None = None
+best_if_lower free left (Some b) = cond (is_lower free left b.1) (Some b) None
+
+looked_if_lower : (s : SchedulerState) (h : List Entry) (parts : List PartFacts) (left : Merit) (c now d : ℕ)
+    → looked_at s h parts left c now d ≡ if_lower s.shape.free left (ranked_at s h parts c now d)
+looked_if_lower s h parts left c now d = by_test (not (nat_eq d c) && nat_lt now (due s h d))
+  where
+    by_running : (o : Option Pick) → rank_of s parts left o ≡ if_lower s.shape.free left (Some (rank_now s parts o))
+    by_running None = refl
+    by_running (Some p) =
+        ap (λ t. cond t (Some (Running (merit_now s parts p.thread).class (merit_now s parts p.thread).priority)) None) (below_same s.shape.free (merit_now s parts p.thread) left)
+
+    by_test : (t : Bool) → cond t (rank_of s parts left (cpu_at s d).running) None ≡ if_lower s.shape.free left (cond t (Some (rank_now s parts (cpu_at s d).running)) None)
+    by_test true = by_running (cpu_at s d).running
+    by_test false = refl
+
+-- the lowest of those below the candidate is the lowest of all, where that is below it
+one_more : (free : Free) (left : Merit) (d : ℕ) (o : Option Rank) (best : Option (ℕ × Rank))
+    → lower_ranked d (if_lower free left o) (best_if_lower free left best) ≡ best_if_lower free left (lower_ranked d o best)
+one_more free left d None best = refl
+one_more free left d (Some r) None = by_test (is_lower free left r)
+  where
+    by_test : (t : Bool) → lower_ranked d (cond t (Some r) None) None ≡ cond t (Some (d, r)) None
+    by_test true = refl
+    by_test false = refl
+one_more free left d (Some r) (Some b) =
+    by_tests (is_lower free left r) (is_lower free left b.1) (at_most r b.1) refl refl refl
+  where
+    clash : true ≡ false → ⊥
+    clash e = cc
+
+    by_tests : (t u m : Bool) → is_lower free left r ≡ t → is_lower free left b.1 ≡ u → at_most r b.1 ≡ m
+        → lower_ranked d (cond (is_lower free left r) (Some r) None) (cond (is_lower free left b.1) (Some b) None)
+        ≡ best_if_lower free left (cond (at_most r b.1) (Some (d, r)) (Some b))
+    by_tests true true true is_r is_b is_m = rw (is_r, is_b, is_m, is_r) refl
+    by_tests true true false is_r is_b is_m = rw (is_r, is_b, is_m, is_b) refl
+    by_tests true false true is_r is_b is_m = rw (is_r, is_b, is_m, is_r) refl
+    by_tests true false false is_r is_b is_m = absurd (clash (sym (higher_then free left r b.1 is_m is_r) ∙ is_b))
+    by_tests false true true is_r is_b is_m = absurd (clash (sym (lower_then free left r b.1 is_m is_b) ∙ is_r))
+    by_tests false true false is_r is_b is_m = rw (is_r, is_b, is_m, is_b) refl
+    by_tests false false true is_r is_b is_m = rw (is_r, is_b, is_m, is_r) refl
+    by_tests false false false is_r is_b is_m = rw (is_r, is_b, is_m, is_b) refl
+
+all_looked : (s : SchedulerState) (h : List Entry) (parts : List PartFacts) (left : Merit) (c now : ℕ) (ds : List ℕ) (best : Option (ℕ × Rank))
+    → fold (λ best d. lower_ranked d (looked_at s h parts left c now d) best) (best_if_lower s.shape.free left best) ds
+    ≡ best_if_lower s.shape.free left (fold (λ best d. lower_ranked d (ranked_at s h parts c now d) best) best ds)
+all_looked s h parts left c now [] best = refl
+all_looked s h parts left c now (d ∷ ds) best =
+    ap (λ (z : Option (ℕ × Rank)). fold (λ best d. lower_ranked d (looked_at s h parts left c now d) best) z ds)
+    (ap (λ o. lower_ranked d o (best_if_lower s.shape.free left best)) (looked_if_lower s h parts left c now d) ∙ one_more s.shape.free left d (ranked_at s h parts c now d) best)
+    ∙ all_looked s h parts left c now ds (lower_ranked d (ranked_at s h parts c now d) best)
+
+-- ---- the limit
+
+-- the priority of a candidate has its range, where it counts
+abbrev IsShort : Free → Bool → ℕ → Type 0
+IsShort Priority first priority = priority ≤ 255
+IsShort Ratio true priority = priority ≤ 255
+IsShort Ratio false priority = Unit {0}
+
+pub short_of : (free : Free) (first : Bool) (priority : ℕ) → priority ≤ 255 → IsShort free first priority
+short_of Priority first priority few = few
+short_of Ratio true priority few = few
+short_of Ratio false priority few = tt
+
+-- who is below a candidate stands below its limit
+below_limit : (free : Free) (r : Rank) (left : Merit) (first : Bool) → IsRank (Some r) → IsShort free first left.priority → left.class ≡ cond first 1 0
+    → is_lower free left r ≡ nat_lt (height r) (limit free first left.priority)
+below_limit Priority Idle left true is few class = sym (lt_true 0 (257 + left.priority) (omega arith))
+below_limit Priority Idle left false is few class = sym (lt_true 0 (1 + left.priority) (omega arith))
+below_limit Ratio Idle left true is few class = sym (lt_true 0 (257 + left.priority) (omega arith))
+below_limit Ratio Idle left false is few class = refl
+below_limit free (Running (suc (suc class)) priority) left first is few same = let small = is.0 in absurd (omega (arith, small))
+below_limit Priority (Running zero priority) left true is few class = let small = is.1 in grind (arith, nat_tests)
+below_limit Priority (Running zero priority) left false is few class = grind (arith, nat_tests)
+below_limit Priority (Running (suc zero) priority) left true is few class = grind (arith, nat_tests)
+below_limit Priority (Running (suc zero) priority) left false is few class = grind (arith, nat_tests)
+below_limit Ratio (Running zero priority) left true is few class = let small = is.1 in grind (arith, nat_tests)
+below_limit Ratio (Running zero priority) left false is few class = grind (arith, nat_tests)
+below_limit Ratio (Running (suc zero) priority) left true is few class = grind (arith, nat_tests)
+below_limit Ratio (Running (suc zero) priority) left false is few class = grind (arith, nat_tests)
+
+limit_small : (free : Free) (first : Bool) (priority : ℕ) → IsShort free first priority → limit free first priority ≤ 512
+limit_small Priority true priority few = omega (arith, few)
+limit_small Priority false priority few = omega (arith, few)
+limit_small Ratio true priority few = omega (arith, few)
+limit_small Ratio false priority few = omega arith
+
+class_one : (first : Bool) → nat_eq (cond first 1 0) 1 ≡ first
+class_one true = refl
+class_one false = refl
+
+-- the class of a candidate
+class_is : (parts : List PartFacts) (left : Contender) → (merit_among parts left).class ≡ cond (is_first (part_at parts left.facts.partition) left.facts.critical) 1 0
+class_is parts left = refl
+
+-- what a processor has to stand below that is flagged for this candidate
+abbrev pub limit_among : Free → List PartFacts → Contender → ℕ
+limit_among free parts left = limit free (is_first (part_at parts left.facts.partition) left.facts.critical) left.facts.priority
+
+-- the same by what the candidate is ahead by
+pub limit_ahead : (free : Free) (parts : List PartFacts) (left : Contender) (ahead : Ahead) → IsAheadOf free parts left ahead
+    → limit free (nat_eq ahead.class 1) ahead.priority ≡ limit_among free parts left
+limit_ahead Priority parts left ahead is =
+    ap (λ n. limit Priority (nat_eq n 1) ahead.priority) is.class
+    ∙ ap (limit Priority (nat_eq (cond (is_first (part_at parts left.facts.partition) left.facts.critical) 1 0) 1)) (is.priority refl)
+    ∙ ap (λ t. limit Priority t left.facts.priority) (class_one (is_first (part_at parts left.facts.partition) left.facts.critical))
+limit_ahead Ratio parts left ahead is =
+    ap (λ n. limit Ratio (nat_eq n 1) ahead.priority) is.class ∙ by_first (is_first (part_at parts left.facts.partition) left.facts.critical) is.priority
+  where
+    by_first : (first : Bool) → ((nat_eq (cond first 1 0) 0 && nat_eq (cond first 1 0) 0) ≡ false → ahead.priority ≡ left.facts.priority)
+        → limit Ratio (nat_eq (cond first 1 0) 1) ahead.priority ≡ limit Ratio first left.facts.priority
+    by_first true priority = ap (limit Ratio true) (priority refl)
+    by_first false priority = refl
+
+pub short_ahead : (free : Free) (parts : List PartFacts) (left : Contender) (ahead : Ahead) → IsAheadOf free parts left ahead → ahead.priority ≤ 255
+    → IsShort free (is_first (part_at parts left.facts.partition) left.facts.critical) left.facts.priority
+short_ahead Priority parts left ahead is few = let same = is.priority refl in omega (arith, few, same)
+short_ahead Ratio parts left ahead is few = by_first (is_first (part_at parts left.facts.partition) left.facts.critical) is.priority
+  where
+    by_first : (first : Bool) → ((nat_eq (cond first 1 0) 0 && nat_eq (cond first 1 0) 0) ≡ false → ahead.priority ≡ left.facts.priority) → IsShort Ratio first left.facts.priority
+    by_first true priority = let same = priority refl in omega (arith, few, same)
+    by_first false priority = tt
+
+looked_all : (s : SchedulerState) (h : List Entry) (parts : List PartFacts) (c now : ℕ) (left : Contender)
+    → flag_for s h parts c now (Some left) ≡ option_map (λ (best : ℕ × Rank). best.0) (best_if_lower s.shape.free (merit_among parts left) (lowest s h parts c now s.shape.cpus))
+looked_all s h parts c now left =
+    ap (option_map (λ (best : ℕ × Rank). best.0)) (all_looked s h parts (merit_among parts left) c now (range_with_len 0 s.shape.cpus) None)
+
+-- who stands below it is flagged
+pub told_flagged : (s : SchedulerState) (h : List Entry) (parts : List PartFacts) (c now at least : ℕ) (left : Contender)
+    → IsTold (lowest s h parts c now s.shape.cpus) at least → IsShort s.shape.free (is_first (part_at parts left.facts.partition) left.facts.critical) left.facts.priority → least < limit_among s.shape.free parts left → flag_for s h parts c now (Some left) ≡ Some at
+told_flagged s h parts c now at least left told few low = looked_all s h parts c now left ∙ by_best (lowest s h parts c now s.shape.cpus) told
+  where
+    by_best : (best : Option (ℕ × Rank)) → IsTold best at least → option_map (λ (best : ℕ × Rank). best.0) (best_if_lower s.shape.free (merit_among parts left) best) ≡ Some at
+    by_best None there =
+        let most = limit_small s.shape.free (is_first (part_at parts left.facts.partition) left.facts.critical) left.facts.priority few in
+        absurd (omega (arith, there, low, most))
+    by_best (Some b) there =
+        let same = there.1 in
+        ap (λ t. option_map (λ (best : ℕ × Rank). best.0) (cond t (Some b) None))
+        (below_limit s.shape.free b.1 (merit_among parts left) (is_first (part_at parts left.facts.partition) left.facts.critical) there.2 few (class_is parts left)
+        ∙ lt_true (height b.1) (limit_among s.shape.free parts left) (omega (arith, same, low)))
+        ∙ ap (λ d. Some d) there.0
+
+-- where the lowest doesn't stand below it nobody is
+not_lower : (s : SchedulerState) (h : List Entry) (parts : List PartFacts) (c now at least : ℕ) (left : Contender) (b : ℕ × Rank)
+    → IsTold (Some b) at least → IsShort s.shape.free (is_first (part_at parts left.facts.partition) left.facts.critical) left.facts.priority → limit_among s.shape.free parts left ≤ least → is_lower s.shape.free (merit_among parts left) b.1 ≡ false
+not_lower s h parts c now at least left b there few high =
+    let same = there.1 in
+    below_limit s.shape.free b.1 (merit_among parts left) (is_first (part_at parts left.facts.partition) left.facts.critical) there.2 few (class_is parts left)
+    ∙ lt_false (height b.1) (limit_among s.shape.free parts left) (omega (arith, same, high))
+
+pub nobody_told : (s : SchedulerState) (h : List Entry) (parts : List PartFacts) (c now at least : ℕ) (left : Contender)
+    → IsTold (lowest s h parts c now s.shape.cpus) at least → IsShort s.shape.free (is_first (part_at parts left.facts.partition) left.facts.critical) left.facts.priority → limit_among s.shape.free parts left ≤ least → flag_for s h parts c now (Some left) ≡ None
+nobody_told s h parts c now at least left told few high = looked_all s h parts c now left ∙ by_best (lowest s h parts c now s.shape.cpus) told
+  where
+    by_best : (best : Option (ℕ × Rank)) → IsTold best at least → option_map (λ (best : ℕ × Rank). best.0) (best_if_lower s.shape.free (merit_among parts left) best) ≡ None
+    by_best None there = refl
+    by_best (Some b) there = ap (λ t. option_map (λ (best : ℕ × Rank). best.0) (cond t (Some b) None)) (not_lower s h parts c now at least left b there few high)
+
+-- who is flagged for the greatest of these, by what that is ahead by
+pub flagged_ahead : (s : SchedulerState) (h : List Entry) (parts : List PartFacts) (c now at least : ℕ) (o : Option Contender) (ahead : Ahead)
+    → IsTold (lowest s h parts c now s.shape.cpus) at least → IsAhead s.shape.free parts o (Some ahead) → ahead.priority ≤ 255
+    → least < limit s.shape.free (nat_eq ahead.class 1) ahead.priority → flag_for s h parts c now o ≡ Some at
+flagged_ahead s h parts c now at least None ahead told is few low = absurd is
+flagged_ahead s h parts c now at least (Some left) ahead told is few low =
+    let same = limit_ahead s.shape.free parts left ahead is in
+    told_flagged s h parts c now at least left told (short_ahead s.shape.free parts left ahead is few) (omega (arith, low, same))
+
+pub nobody_ahead : (s : SchedulerState) (h : List Entry) (parts : List PartFacts) (c now at least : ℕ) (o : Option Contender) (ahead : Ahead)
+    → IsTold (lowest s h parts c now s.shape.cpus) at least → IsAhead s.shape.free parts o (Some ahead) → ahead.priority ≤ 255
+    → limit s.shape.free (nat_eq ahead.class 1) ahead.priority ≤ least → flag_for s h parts c now o ≡ None
+nobody_ahead s h parts c now at least None ahead told is few high = refl
+nobody_ahead s h parts c now at least (Some left) ahead told is few high =
+    let same = limit_ahead s.shape.free parts left ahead is in
+    nobody_told s h parts c now at least left told (short_ahead s.shape.free parts left ahead is few) (omega (arith, high, same))
+
+-- and nobody where that tells nothing
+pub nobody_left : (s : SchedulerState) (h : List Entry) (parts : List PartFacts) (c now : ℕ) (o : Option Contender) → IsAhead s.shape.free parts o None → flag_for s h parts c now o ≡ None
+nobody_left s h parts c now None is = refl
+nobody_left s h parts c now (Some left) is = absurd is
+
+-- nor for the greatest of these, than which that one is no less
+pub nobody_flagged : (s : SchedulerState) (h : List Entry) (parts : List PartFacts) (c now at least : ℕ) (cs : List Contender) (picked : Contender)
+    → IsTold (lowest s h parts c now s.shape.cpus) at least → IsShort s.shape.free (is_first (part_at parts picked.facts.partition) picked.facts.critical) picked.facts.priority → limit_among s.shape.free parts picked ≤ least → IsNoLess s.shape.free parts cs (Some picked)
     → flag_for s h parts c now (greatest s.shape.free parts cs) ≡ None
-nobody_flagged s h parts c now cs picked none least = by_left (greatest s.shape.free parts cs) refl
+nobody_flagged s h parts c now at least cs picked told few high none_less = by_left (greatest s.shape.free parts cs) refl
   where
+    by_best : (left : Contender) → greatest s.shape.free parts cs ≡ Some left → (best : Option (ℕ × Rank)) → IsTold best at least
+        → option_map (λ (best : ℕ × Rank). best.0) (best_if_lower s.shape.free (merit_among parts left) best) ≡ None
+    by_best left is None there = refl
+    by_best left is (Some b) there =
+        ap (λ t. option_map (λ (best : ℕ × Rank). best.0) (cond t (Some b) None))
+        (lower_less s.shape.free (merit_among parts left) (merit_among parts picked) b.1 (none_less left is) (not_lower s h parts c now at least picked b there few high))
+
     by_left : (left : Option Contender) → greatest s.shape.free parts cs ≡ left → flag_for s h parts c now left ≡ None
     by_left None is = refl
-    by_left (Some left) is =
-        ap (option_map (λ (best : ℕ × Rank). best.0))
-        (scan_none (looked_at s h parts (merit_among parts left) c now) 0 s.shape.cpus
-        (λ d low high. looked_less s h parts (merit_among parts left) (merit_among parts picked) c now d (least left is) (none d (omega (arith, high)))))
-
--- who may not be flagged for one that is no less may not be flagged for the greatest of these
-pub nobody_less : (s : SchedulerState) (h : List Entry) (parts : List PartFacts) (c now n : ℕ) (cs : List Contender) (picked : Contender) (left : Option Contender)
-    → NobodyRanks s h parts (merit_among parts picked) c now n → IsNoLess s.shape.free parts cs (Some picked) → greatest s.shape.free parts cs ≡ left
-    → IfSome left (λ l. NobodyRanks s h parts (merit_among parts l) c now n)
-nobody_less s h parts c now n cs picked None none least is = tt
-nobody_less s h parts c now n cs picked (Some l) none least is =
-    λ d high. looked_less s h parts (merit_among parts l) (merit_among parts picked) c now d (least l is) (none d high)
+    by_left (Some left) is = looked_all s h parts c now left ∙ by_best left is (lowest s h parts c now s.shape.cpus) told
 
 -- ---- who is left is no greater than who was picked
 

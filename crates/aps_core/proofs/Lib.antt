@@ -33,3 +33,6 @@ pub mod Recorded
 pub mod Pending
 pub mod Scan
 pub mod FlagAfter
+mod FactsStay
+mod Heights
+mod PostsStay

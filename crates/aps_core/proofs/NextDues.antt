@@ -46,11 +46,11 @@ chosen_left s parts c best None = refl
 chosen_left s parts c None (Some p) = refl
 chosen_left s parts c (Some b) (Some p) = left_set s.threads b.thread p.thread (record (thread_at s b.thread) { state = Running c }) refl
 
-chosen_cpu : (s : SchedulerState) (parts : List PartFacts) (c : ℕ) (best : Option Contender) (d : ℕ) → d ≢ c → cpu_at (chosen s parts c best) d ≡ cpu_at s d
+pub chosen_cpu : (s : SchedulerState) (parts : List PartFacts) (c : ℕ) (best : Option Contender) (d : ℕ) → d ≢ c → cpu_at (chosen s parts c best) d ≡ cpu_at s d
 chosen_cpu s parts c None d ne = cpu_other s.cpus c d _ ne
 chosen_cpu s parts c (Some b) d ne = cpu_other s.cpus c d _ ne
 
-chosen_count : (s : SchedulerState) (parts : List PartFacts) (c : ℕ) (best : Option Contender) → length (chosen s parts c best).cpus ≡ length s.cpus
+pub chosen_count : (s : SchedulerState) (parts : List PartFacts) (c : ℕ) (best : Option Contender) → length (chosen s parts c best).cpus ≡ length s.cpus
 chosen_count s parts c None = length-set s.cpus c _
 chosen_count s parts c (Some b) = length-set s.cpus c _
 
@@ -71,6 +71,15 @@ others_chosen s q parts c best h dues others is =
     (λ d inside ne. others d (omega (arith, inside, chosen_count s parts c best)) ne ∙ sym (due_chosen s parts c best h d ne))
 
 -- ---- before the pick they are due as at the beginning
+
+pub cpu_before : (scenario : Scenario) (s : SchedulerState) (h : List Entry) (c : ℕ) → NamesChannels scenario → IsPlain scenario s → IsKept s
+    → (d : ℕ) → d ≢ c → cpu_at (settled scenario (tested_at scenario s h c).state (due s h c) (cpu_at s c).running).state d ≡ cpu_at s d
+cpu_before scenario s h c names plain k d ne =
+    let now = due s h c in
+    let running = (cpu_at s c).running in
+    let r = (settled scenario (tested_at scenario s h c).state now running).state in
+    let mid = (back_mid scenario s (tested_at scenario s h c).state c now running names k refl (test_mid scenario s h c now (bill_at s h c) running plain k refl)).mid in
+    mid_cpu scenario s c r mid d ne
 
 pub due_before : (scenario : Scenario) (s : SchedulerState) (h : List Entry) (c : ℕ) → NamesChannels scenario → IsPlain scenario s → IsKept s
     → (d : ℕ) → d ≢ c → due (settled scenario (tested_at scenario s h c).state (due s h c) (cpu_at s c).running).state h d ≡ due s h d

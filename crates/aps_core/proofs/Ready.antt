@@ -33,7 +33,7 @@ use Rattle.aps_laws.proofs.Servers.{runs_free}
 use Rattle.aps_laws.proofs.SmallNumbers.{usage_in_hand}
 use Rattle.aps_laws.proofs.Sound.{next_law, sound}
 use Rattle.aps_laws.proofs.Channels.{names_channels}
-use Rattle.aps_core.proofs.NextDues.{due_before}
+use Rattle.aps_core.proofs.NextDues.{cpu_before, due_before}
 use Rattle.aps_laws.proofs.StampCounts.{few_stamps}
 use Rattle.aps_laws.proofs.StepOf.{horizon_same}
 use Rattle.aps_laws.proofs.ThreadFacts.{running_within}
@@ -192,6 +192,9 @@ ready scenario order h c valid legal short run turn =
       rises = let l = n.rises in omega (arith, l, d.to);
       in_tick = subst (λ z. due s h c ≤ next_boundary s.shape.tick z) d.from (let l = n.short in omega (arith, l, d.to));
       counted = omega (arith, counted.cpus, b.settled'.cpus);
+      same_cpu = let m = (sound scenario order valid h legal).grounded in cpu_before scenario s h c (names_channels scenario valid) m.plain m.kept;
+      runs_billed = b.runs_billed;
+      runs = (sound scenario order valid h legal).grounded.kept.runs;
       others = let m = (sound scenario order valid h legal).grounded in due_before scenario s h c (names_channels scenario valid) m.plain m.kept;
       bills_fit = bills_fit scenario order h c valid legal run turn counted.sizes.tick;
     }

@@ -60,7 +60,7 @@ own_stays threads x t same =
     ∙ ap (set (map (λ (u : ThreadNow). u.own) threads) x) (same ∙ sym (own_at threads x))
     ∙ set-get_or (map (λ (u : ThreadNow). u.own) threads) x no_facts
 
-facts_stay : (s : SchedulerState) (x y : ℕ) (t : ThreadNow) → t.own ≡ (thread_at s x).own → facts_of (with_thread s x t) y ≡ facts_of s y
+pub facts_stay : (s : SchedulerState) (x y : ℕ) (t : ThreadNow) → t.own ≡ (thread_at s x).own → facts_of (with_thread s x t) y ≡ facts_of s y
 facts_stay s x y t same =
     ap (λ (own : List Facts). inherited (record { own = own; triples = (inheritance_of s).triples; tops = (inheritance_of s).tops }) y) (own_stays s.threads x t same)
 

@@ -20,9 +20,9 @@ use Rattle.aps_model.specs.Inherit.{client_of, facts_of, follow, inherited, inhe
 use Rattle.aps_model.specs.Messages.{Effect, first_message, received, received_message, replied, sent}
 use Rattle.aps_model.specs.Operation.{go_on, is_slice_over, with_stamped}
 use Rattle.aps_model.specs.Partition.{partition_named}
-use Rattle.aps_model.specs.Pick.{is_ready}
+use Rattle.aps_model.specs.Pick.{contender_of, is_ready}
 use Rattle.aps_model.specs.Scenario.{Scenario, op_at, thread_row}
-use Rattle.aps_model.specs.SchedulerState.{ChannelNow, Message, SchedulerState, Triple, channel_at, no_channel, no_facts, thread_at, with_channel, with_cpu, with_state, with_thread, with_triple}
+use Rattle.aps_model.specs.SchedulerState.{ChannelNow, Message, SchedulerState, Triple, channel_at, cpu_at, no_channel, no_facts, thread_at, with_channel, with_cpu, with_state, with_thread, with_triple}
 use Rattle.aps_model.specs.Step.{billed, enter_next, finish_op, give_back, settled, tested}
 use Rattle.aps_model.specs.TickWork.{wake_all, waking}
 use Rattle.aps_laws.specs.Servers.{IsNobodysClient}
@@ -35,6 +35,7 @@ use Rattle.aps_core.specs.Seats.{seat_at}
 use Rattle.aps_core.specs.Sleepers.{numbers_of}
 use Rattle.aps_core.specs.Touched.{IsTouched, is_at_channel, is_exit, peer_of, woke}
 use Rattle.aps_core.proofs.Seats.{seat_stays}
+use Rattle.aps_core.proofs.Touched.{none_some, some_number}
 
 -- the seat of a thread with these values
 abbrev seat_from : ℕ → Facts → ThreadNow → Option Contender
@@ -46,7 +47,7 @@ seat_by s t y facts thread =
 
 -- ---- own values of another thread
 
-follow_own : (own : List Facts) (all : List Triple) (tops : List (Option ℕ)) (x : ℕ) (v : Facts) (ts : List Triple) (y priority : ℕ) → IsNobodysClient ts x → y ≢ x
+pub follow_own : (own : List Facts) (all : List Triple) (tops : List (Option ℕ)) (x : ℕ) (v : Facts) (ts : List Triple) (y priority : ℕ) → IsNobodysClient ts x → y ≢ x
     → follow (record { own = set own x v; triples = all; tops = tops }) ts y priority ≡ follow (record { own = own; triples = all; tops = tops }) ts y priority
 follow_own own all tops x v [] y priority free ne = ap (raised priority) (get_or-set_other own x y v no_facts ne)
 follow_own own all tops x v (t ∷ older) y priority free ne =
@@ -90,7 +91,7 @@ alone_seat s t y before after same =
 
 -- ---- receivers
 
-tops_stay : (channels : List ChannelNow) (c : ℕ) (receivers : List ℕ)
+pub tops_stay : (channels : List ChannelNow) (c : ℕ) (receivers : List ℕ)
     → map (λ (d : ChannelNow). top_of d.messages) (set channels c (record (get_or channels c no_channel) { receivers = receivers })) ≡ map (λ (d : ChannelNow). top_of d.messages) channels
 tops_stay channels c receivers =
     map-set (λ (d : ChannelNow). top_of d.messages) channels c (record (get_or channels c no_channel) { receivers = receivers })
@@ -317,3 +318,12 @@ step_seat scenario s h c now y cpu running e s1 s2 t0 t reboot did woken e1 e2 e
         let touched : IsTouched woken (Some p.thread) (peer_of did.done) (is_at_channel did.done) did.state.triples y → ⊥ =
         subst (λ (o : Option Pick). IsTouched woken (option_map (λ (q : Pick). q.thread) o) (peer_of did.done) (is_at_channel did.done) did.state.triples y → ⊥) is apart in
         subst (λ (z : Effect). StaysIn t p.thread y z) same (settled_seat scenario t p.thread now y p refl (free p is)) calm (apart_of woken p.thread did.done did.state.triples y touched)
+
+-- ---- who runs
+
+-- whoever a processor runs isn't in the queues
+pub running_out : (s : SchedulerState) (c y : ℕ) (o : Option Pick) → ((d : ℕ) (p : Pick) → (cpu_at s d).running ≡ Some p → (thread_at s p.thread).state ≡ Running d)
+    → (cpu_at s c).running ≡ o → option_map (λ (p : Pick). p.thread) o ≡ Some y → seat_at s y ≡ None
+running_out s c y None runs is own = absurd (none_some y own)
+running_out s c y (Some p) runs is own =
+    ap (λ (st : State). cond (is_ready st) (Some (contender_of s y)) None) (ap (λ x. (thread_at s x).state) (sym (some_number p.thread y own)) ∙ runs c p is)

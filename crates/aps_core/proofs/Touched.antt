@@ -5,8 +5,11 @@ use Rattle.aps_model.specs.Inherit.{client_of}
 use Rattle.aps_model.specs.SchedulerState.{Triple}
 use Rattle.aps_core.specs.Touched.{IsTouched, woke}
 
-some_number : (a b : ℕ) → Some a ≡ Some b → a ≡ b
+pub some_number : (a b : ℕ) → Some a ≡ Some b → a ≡ b
 some_number a b e = cc
+
+pub none_some : (b : ℕ) → None ≡ Some b → ⊥
+none_some b e = cc
 
 pub is_or_not : (o : Option ℕ) (x : ℕ) → (o ≡ Some x) ⊎ (o ≡ Some x → ⊥)
 is_or_not None x = inr (λ e. cc)

@@ -13,6 +13,8 @@ use Rattle.aps_core.specs.Counts.{Counts, parts_in}
 use Rattle.aps_core.specs.LastEnds.{AreEnds}
 use Rattle.aps_core.specs.NextDues.{AreDues}
 use Rattle.aps_core.specs.Pending.{IsPending}
+use Rattle.aps_core.specs.declared.posts.Post.{Post}
+use Rattle.aps_core.specs.Posts.{ArePosts}
 use Rattle.aps_core.specs.Run.{Run, Setup, history_of, state_of}
 use Rattle.aps_core.specs.Seats.{seats_of}
 use Rattle.aps_core.specs.Sleepers.{sleepers_of}
@@ -37,9 +39,9 @@ pub record IsCore (run : Run) (kept : History) (state : SchedulerState) : Type 0
   pub machine : state ≡ state_of run
 
 -- what each core keeps: its parts stand for its run, the commands are still to come whose ticks no entry has begun, in the
--- queues are the ready threads and in the timer the sleeping ones, the ends and the dues that it keeps are those of its entries, its window has counted
+-- queues are the ready threads and in the timer the sleeping ones, what each processor runs is kept, the ends and the dues that it keeps are those of its entries, its window has counted
 -- these up to the tick of the last one's end, and its partitions stand by their rows and that window
-pub record IsCoreWith (run : Run) (kept : History) (state : SchedulerState) (parts : List PartFacts) (ready : List (Option Contender)) (timer : List (Option ℕ)) (commands : List (ℕ × CommandRow)) (ends : List (Option ℕ)) (dues : List ℕ) (window : Window) : Type 0 where
+pub record IsCoreWith (run : Run) (kept : History) (state : SchedulerState) (parts : List PartFacts) (ready : List (Option Contender)) (timer : List (Option ℕ)) (commands : List (ℕ × CommandRow)) (ends : List (Option ℕ)) (dues : List ℕ) (posts : List Post) (window : Window) : Type 0 where
   pub core : IsCore run kept state
   pub pending : IsPending run.setup.scenario run.setup.scenario.shape.tick run.entries commands
   pub seats : ready ≡ seats_of state
@@ -47,4 +49,5 @@ pub record IsCoreWith (run : Run) (kept : History) (state : SchedulerState) (par
   pub lasts : AreEnds run.entries ends
   pub counts : Counts state.shape run.entries (moment run.entries / state.shape.tick) window
   pub nexts : AreDues state run.entries dues
+  pub posted : ArePosts state posts
   pub stands : parts ≡ parts_in state.shape state.rows window

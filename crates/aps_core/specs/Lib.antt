@@ -3,6 +3,7 @@ pub mod Classes
 pub mod Kept
 pub mod LastEnds
 pub mod NextDues
+pub mod Posts
 pub mod Short
 pub mod Room
 pub mod Ready

@@ -1,24 +1,64 @@
 -- Who may be flagged.
-use Rattle.std.specs.Prelude.{◌≡◌, ℕ, ◌<◌, List, Option, Some, None, false}
+use Rattle.std.specs.Prelude.{◌≡◌, ℕ, ◌+◌, ◌≤◌, ◌&&◌, not, nat_eq, nat_lt, ⊤, List, Bool, false, if◌then◌else◌, Option, Some, None}
 use Rattle.std.specs.List.{fold, range_with_len}
 use Rattle.aps_model.specs.declared.entry.Entry.{Entry}
 use Rattle.aps_model.specs.declared.merit.Contender.{Contender}
-use Rattle.aps_model.specs.declared.merit.Merit.{Merit}
 use Rattle.aps_model.specs.declared.merit.PartFacts.{PartFacts}
 use Rattle.aps_model.specs.declared.merit.Rank.{Rank}
+use Rattle.aps_model.specs.declared.merit.Rank.TheVariants.{Idle, Running}
 use Rattle.aps_model.specs.declared.shape.Free.{Free}
-use Rattle.aps_model.specs.Flag.{looked_at, lower_ranked}
+use Rattle.aps_model.specs.declared.shape.Free.TheVariants.{Priority, Ratio}
+use Rattle.aps_model.specs.declared.state.Pick.{Pick}
+use Rattle.aps_model.specs.Due.{due}
+use Rattle.aps_model.specs.Flag.{lower_ranked, merit_now}
 use Rattle.aps_model.specs.Merit.{is_greater}
 use Rattle.aps_model.specs.Pick.{greatest, merit_among}
-use Rattle.aps_model.specs.SchedulerState.{SchedulerState}
+use Rattle.aps_model.specs.SchedulerState.{SchedulerState, cpu_at}
 
--- of the first processors the one of least rank that may be flagged for a candidate of this merit, the later of equal ones
-abbrev pub lowest : SchedulerState → List Entry → List PartFacts → Merit → ℕ → ℕ → ℕ → Option (ℕ × Rank)
-lowest s h parts left c now count = fold (λ best d. lower_ranked d (looked_at s h parts left c now d) best) None (range_with_len 0 count)
+-- the rank of a processor that runs this, for whomever it may be flagged
+abbrev pub rank_now : SchedulerState → List PartFacts → Option Pick → Rank
+rank_now s parts None = Idle
+rank_now s parts (Some pick) = Running (merit_now s parts pick.thread).class (merit_now s parts pick.thread).priority
 
--- none of the first processors may be flagged for a candidate of this merit
-abbrev pub NobodyRanks : SchedulerState → List Entry → List PartFacts → Merit → ℕ → ℕ → ℕ → Type 0
-NobodyRanks s h parts merit c now count = (d : ℕ) → d < count → looked_at s h parts merit c now d ≡ None
+-- the same of another processor that isn't due yet
+abbrev pub ranked_at : SchedulerState → List Entry → List PartFacts → ℕ → ℕ → ℕ → Option Rank
+ranked_at s h parts c now d =
+    if not (nat_eq d c) && nat_lt now (due s h d) then Some (rank_now s parts (cpu_at s d).running) else None
+
+-- of the first processors the one of least rank, the later of equal ones
+abbrev pub lowest : SchedulerState → List Entry → List PartFacts → ℕ → ℕ → ℕ → Option (ℕ × Rank)
+lowest s h parts c now count = fold (λ best d. lower_ranked d (ranked_at s h parts c now d) best) None (range_with_len 0 count)
+
+-- where threads of this class and priority stand: the class counts first
+abbrev pub height_of : Bool → ℕ → ℕ
+height_of first priority = (if first then 257 else 1) + priority
+
+-- where a processor of this rank stands: an idle one stands lowest
+abbrev pub height : Rank → ℕ
+height Idle = 0
+height (Running class priority) = height_of (nat_eq class 1) priority
+
+-- the same, and past all ranks where there is none
+abbrev pub height_or : Option Rank → ℕ
+height_or None = 1000
+height_or (Some rank) = height rank
+
+-- the class and the priority of a rank have their ranges
+abbrev pub IsRank : Option Rank → Type 0
+IsRank None = ⊤
+IsRank (Some Idle) = ⊤
+IsRank (Some (Running class priority)) = (class ≤ 1) × (priority ≤ 255)
+
+-- the processor and the height are those of this one, if there is one; else the height is past all ranks
+abbrev pub IsTold : Option (ℕ × Rank) → ℕ → ℕ → Type 0
+IsTold None d least = least ≡ 1000
+IsTold (Some best) d least = (best.0 ≡ d) × (least ≡ height best.1) × IsRank (Some best.1)
+
+-- a processor is flagged for a candidate of this class and priority where it stands lower than this; under the policy by ratio
+-- only an idle one is for a candidate of class 0
+abbrev pub limit : Free → Bool → ℕ → ℕ
+limit Priority first priority = height_of first priority
+limit Ratio first priority = if first then height_of first priority else 1
 
 -- the greatest candidate among these is not greater than this one; and there is none where this is nobody
 abbrev pub IsNoLess : Free → List PartFacts → List Contender → Option Contender → Type 0

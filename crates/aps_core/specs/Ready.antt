@@ -1,6 +1,7 @@
 use Rattle.std.specs.Prelude.{◌≡◌, ◌≢◌, ℕ, ◌+◌, ◌-◌, ◌<◌, ◌≤◌, ◌++◌, List, [], ◌∷◌, length, Some}
 use Rattle.aps_model.specs.declared.entry.Entry.{Entry}
 use Rattle.aps_model.specs.declared.state.Pick.{Pick}
+use Rattle.aps_model.specs.declared.state.State.TheVariants.{Running}
 use Rattle.aps_model.specs.Due.{due, last_end, next_boundary}
 use Rattle.aps_model.specs.Scenario.{Scenario}
 use Rattle.aps_model.specs.SchedulerState.{SchedulerState, cpu_at, thread_at}
@@ -13,7 +14,7 @@ use Rattle.aps_laws.specs.Stamps.{IsStamped}
 use Rattle.aps_core.specs.Room.{HasRoom, HasRoomToWake, changes_of_a_run, last_place, stamps_before}
 
 -- what a step of processor c rests on: the processor exists, its moments fit, so does what its parts make greater,
--- its thread is nobody's client, and stamps differ
+-- its thread is nobody's client and runs on no other one, and stamps differ
 pub record IsReady (scenario : Scenario) (s : SchedulerState) (h : List Entry) (c : ℕ) : Type 0 where
   pub exists : c < length s.cpus
   pub forward : last_end h c ≤ due s h c
@@ -39,4 +40,7 @@ pub record IsReady (scenario : Scenario) (s : SchedulerState) (h : List Entry) (
   pub in_tick : due s h c ≤ next_boundary s.shape.tick (last_end h c)
   pub bills_fit : (p k : ℕ) → used s.shape.tick (h ++ bill_in s h c ∷ []) p k (k + 1) ≤ 160000000
   pub others : (d : ℕ) → d ≢ c → due (before_pick scenario s h c) h d ≡ due s h d
+  pub same_cpu : (d : ℕ) → d ≢ c → cpu_at (before_pick scenario s h c) d ≡ cpu_at s d
+  pub runs : (d : ℕ) (p : Pick) → (cpu_at s d).running ≡ Some p → (thread_at s p.thread).state ≡ Running d
+  pub runs_billed : (p : Pick) → (cpu_at s c).running ≡ Some p → (thread_at (after_bill scenario s h c) p.thread).state ≡ Running c
   pub counted : length (before_pick scenario s h c).cpus ≡ length s.cpus

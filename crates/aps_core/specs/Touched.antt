@@ -23,6 +23,15 @@ abbrev pub is_exit : Done → Bool
 is_exit Exit = true
 is_exit done = false
 
+-- the operation had to do with no other thread, nor with what waits at a channel
+abbrev pub is_alone : Done → Bool
+is_alone SendBlocked = false
+is_alone (SendTo y) = false
+is_alone (ReceiveGot y) = false
+is_alone (ReplyFreed y) = false
+is_alone Exit = false
+is_alone done = true
+
 -- the thread is one of those who woke
 abbrev pub woke : List ℕ → ℕ → Bool
 woke [] x = false

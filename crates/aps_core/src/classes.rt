@@ -1,6 +1,6 @@
 //! Which threads are of class 1, kept beside the gates: these tell of ready threads, and a processor's look at the others is at
 //! those that run.
-ghost use Rattle.std.specs.Prelude.{◌≡◌, ◌<◌, ◌%◌, ◌++◌, [], ◌∷◌, List, length, nat_lt, slice_set, if◌then◌else◌};
+ghost use Rattle.std.specs.Prelude.{◌≡◌, ◌<◌, ◌%◌, ◌++◌, [], ◌∷◌, List, length, nat_lt, slice_set};
 ghost use Rattle.aps_model.specs.Budget.{part_at};
 ghost use Rattle.aps_model.specs.declared.merit.PartFacts.{PartFacts as PartFactsOf};
 ghost use Rattle.aps_ready.specs.Gates.{is_first};
@@ -45,24 +45,18 @@ impl Classes {
         self.first = plain.put(place + PARTITIONS, is_first(part, true));
     }
 
-    /// The class of a thread of this partition, critical or not.
+    /// Whether the threads of this partition, critical or not, are of class 1.
     #[inline(always)]
-    pub fn class_of(self, p: PartitionId, critical: bool) -> u8
-        ensures { (parts : List PartFactsOf)
-            → AreClasses parts self
-            → result ≡ (if is_first (part_at parts p) critical then 1 else 0) }
+    pub fn is_first(self, p: PartitionId, critical: bool) -> bool
+        ensures { (parts : List PartFactsOf) → AreClasses parts self → result ≡ is_first (part_at parts p) critical }
     {
-        if self.first.has(group_of(p, critical)) {
-            1
-        } else {
-            0
-        }
+        self.first.has(group_of(p, critical))
     }
 }
 
 /// The group of a thread of this partition, critical or not.
 #[inline(always)]
-fn group_of(p: PartitionId, critical: bool) -> usize
+pub fn group_of(p: PartitionId, critical: bool) -> usize
     ensures below { result < 64 }
     ensures partition { result % 32 ≡ p }
     ensures critical { nat_lt 31 result ≡ critical }

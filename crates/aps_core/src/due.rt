@@ -2,7 +2,7 @@ ghost use Rattle.std.specs.Prelude.{◌≡◌, ◌+◌, ◌/◌, ◌<◌, ◌≤
 ghost use Rattle.std.specs.List.{list_any};
 ghost use Rattle.aps_model.specs.declared.entry.Entry.{Entry as EntryOf};
 ghost use Rattle.aps_model.specs.After.{stands_at};
-ghost use Rattle.aps_model.specs.Due.{next_boundary, due_at};
+ghost use Rattle.aps_model.specs.Due.{next_boundary, due_at, or_end};
 ghost use Rattle.aps_model.specs.Shape.{IsShape, horizon};
 ghost use Rattle.aps_core.specs.Rising.{IsRising};
 
@@ -37,20 +37,21 @@ pub fn tick_of(tick: u64, moment: Nanos, at_hand: u64) -> u64
     }
 }
 
-/// The first boundary after a moment. It costs no division where the moment lies in the tick at hand or the one before it.
-pub fn next_boundary(tick: u64, moment: Nanos, at_hand: u64) -> Nanos
+/// The first boundary after a moment, which lies in the tick at hand.
+#[inline(always)]
+fn next_boundary(tick: u64, moment: Nanos, at_hand: u64) -> Nanos
     requires some { 0 < tick }
     requires short { tick ≤ 10000000 }
-    requires at_hand { at_hand ≤ 100000000 }
+    requires at_hand { at_hand ≡ moment / tick }
     requires moment { moment ≤ 10000000000000 }
     ensures same { result ≡ next_boundary tick moment }
     ensures soon { result ≤ moment + tick }
 {
-    (tick_of(tick, moment, at_hand) + 1) * tick
+    (at_hand + 1) * tick
 }
 
 /// When a processor steps next, by its flag, the end of its last entry, and what is left of its operation. The tick at hand
-/// is best that of the end of its last entry.
+/// is that of the end of its last entry.
 pub fn due_at(
     shape: &Shape,
     at_hand: u64,
@@ -59,7 +60,7 @@ pub fn due_at(
     left: Option<Nanos>,
 ) -> Nanos
     requires shape { IsShape shape.now }
-    requires at_hand { at_hand ≤ 100000000 }
+    requires at_hand { IfSome last (λ to. at_hand ≡ to / shape.now.tick) }
     requires last { IfSome last (λ to. to ≤ 10000000000000) }
     ensures { result ≡ due_at shape.now.tick (horizon shape.now) flag last left }
 {
@@ -73,10 +74,20 @@ pub fn due_at(
     if last == shape.horizon() {
         return boundary;
     }
-    match left {
-        None => boundary,
-        Some(left) => boundary.min(last.saturating_add(left)),
-    }
+    or_end(boundary, last, left)
+}
+
+/// The boundary, or the earlier moment at which the operation ends that had so much left at this moment.
+#[inline(always)]
+fn or_end(boundary: Nanos, moment: Nanos, left: Option<Nanos>) -> Nanos
+    requires { boundary ≤ 20000000000000 }
+    ensures { result ≡ or_end boundary moment left }
+{
+    let end = match left {
+        None => Nanos::MAX,
+        Some(left) => moment.saturating_add(left),
+    };
+    boundary.min(end)
 }
 
 /// Whether an entry ended at this moment. It is found from the end of the history, where it stands.

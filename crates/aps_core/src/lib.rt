@@ -9,6 +9,7 @@ mod dues;
 mod ends;
 mod machine;
 mod merit;
+mod posts;
 mod recording;
 mod rooms;
 mod simulator;

@@ -1,8 +1,8 @@
-ghost use Rattle.std.specs.Prelude.{◌≡◌, ◌-◌, ◌<◌, ◌≤◌, ◌/◌, ◌++◌, [], ◌∷◌, length, slice_index, All, None, false};
+ghost use Rattle.std.specs.Prelude.{◌≡◌, ◌-◌, ◌<◌, ◌≤◌, ◌/◌, ◌++◌, [], ◌∷◌, length, slice_index, All, IfSome, None, false};
 ghost use Rattle.std.specs.Option.{option_map};
 ghost use Rattle.aps_model.specs.After.{is_at_horizon};
 ghost use Rattle.aps_model.specs.Budget.{all_parts};
-ghost use Rattle.aps_model.specs.Due.{due, first_due};
+ghost use Rattle.aps_model.specs.Due.{due, first_due, last_to};
 ghost use Rattle.aps_model.specs.History.{IsEntry};
 ghost use Rattle.aps_model.specs.Shape.{horizon};
 ghost use Rattle.aps_model.specs.Step.{pick, step};
@@ -13,6 +13,7 @@ ghost use Rattle.aps_core.specs.LastEnds.{AreEnds};
 ghost use Rattle.aps_core.specs.Kept.{IsKept};
 ghost use Rattle.aps_core.specs.NextDues.{AreDues, AreOthersDues};
 ghost use Rattle.aps_core.specs.Pending.{IsPending};
+ghost use Rattle.aps_core.specs.Posts.{AreOthersPosts, ArePosts};
 ghost use Rattle.aps_core.specs.Ready.{IsReady};
 ghost use Rattle.aps_core.specs.Rising.{IsRising};
 ghost use Rattle.aps_core.specs.Seats.{seats_of};
@@ -29,6 +30,7 @@ mod inherit;
 mod messages;
 mod operation;
 mod pick;
+mod posts;
 mod reading;
 mod seats;
 mod settle;
@@ -41,12 +43,13 @@ pub mod wake;
 
 use crate::dues::Dues;
 use crate::ends::Ends;
+use crate::posts::Posts;
 use crate::standing::Standing;
 use crate::{due, usage};
 use aps_ctl::Ctl;
 use aps_model::{
-    Change, Contender, CpuId, CpuNow, Entry, Nanos, PartitionId, PartitionRow, Reply, Scenario,
-    Shape, ThreadId, ThreadNow,
+    Change, Contender, CpuId, CpuNow, Entry, Facts, Nanos, PartitionId, PartitionRow, Reply,
+    Scenario, Shape, ThreadId, ThreadNow,
 };
 use aps_ready::Ready;
 use aps_timer::Timer;
@@ -103,9 +106,9 @@ impl Model for Machine {
 }
 
 impl Machine {
-    /// When the processor steps next. The tick at hand is best that of the end of its last entry.
+    /// When the processor steps next. The tick at hand is that of the end of its last entry.
     pub fn due(&self, entries: &[Entry], ends: &Ends, at_hand: u32, cpu: CpuId) -> Nanos
-        requires at_hand { at_hand ≤ 100000000 }
+        requires at_hand { IfSome (last_to entries.now cpu) (λ to. at_hand ≡ to / self.now.shape.tick) }
         requires cpu { cpu < length self.now.cpus }
         requires entries { All IsEntry entries.now }
         requires ends { AreEnds entries.now ends.now }
@@ -160,6 +163,7 @@ impl Machine {
         &mut self,
         entries: &[Entry],
         dues: &Dues,
+        posts: &mut Posts,
         standing: &Standing,
         ready: &mut Ready,
         cpu: CpuId,
@@ -170,9 +174,11 @@ impl Machine {
         requires seats { ready.old ≡ seats_of self.old }
         requires dues { AreOthersDues self.old entries.now cpu dues.now }
         requires own { slice_index dues.now cpu ≤ e.to }
+        requires posts { AreOthersPosts self.old cpu posts.old }
         ensures same { pick self.old entries.now cpu e.to e ≡ record { entry = result; state = self.new; reboot = None } }
         ensures kept { IsKept self.old self.new }
         ensures seats { ready.new ≡ seats_of self.new }
+        ensures posts { ArePosts self.new posts.new }
     {
         let now = e.to;
         let parts = standing.parts();
@@ -182,7 +188,10 @@ impl Machine {
         let best = ready.take_greatest(gates, parts, self.shape.free);
         let picked = thread_of(&best);
         self.choose(parts, cpu, best);
-        let flagged = self.flag_after(entries, dues, parts, gates, classes, ready, cpu, now, &best);
+        posts.set(cpu, facts_of(&best));
+        let flagged = self.flag_after(
+            entries, dues, parts, posts, gates, classes, ready, cpu, now, &best,
+        );
         self.flag(now, &flagged);
         Entry {
             picked,
@@ -217,6 +226,7 @@ impl Machine {
         entries: &[Entry],
         ends: &Ends,
         dues: &Dues,
+        posts: &mut Posts,
         window: &mut Window,
         standing: &mut Standing,
         ready: &mut Ready,
@@ -234,6 +244,7 @@ impl Machine {
         requires entries { All IsEntry entries.now }
         requires ends { AreEnds entries.now ends.now }
         requires dues { AreDues self.old entries.now dues.now }
+        requires posts { ArePosts self.old posts.old }
         requires rising { IsRising entries.now }
         requires counts { Counts self.old.shape entries.now (moment entries.now / self.old.shape.tick) window.old }
         ensures same { step scenario.now self.old entries.now cpu
@@ -244,6 +255,7 @@ impl Machine {
         ensures kept { result.is_changed ≡ false → IsKept self.old self.new }
         ensures seats { ready.new ≡ seats_of self.new }
         ensures timed { timer.new ≡ sleepers_of self.new }
+        ensures posts { ArePosts self.new posts.new }
     {
         let now = dues.of(cpu);
         let from = ends.last_end(entries, cpu);
@@ -259,6 +271,7 @@ impl Machine {
         self.stand_by(window, standing, is_later | is_changed, &e.billed);
         if reboot.is_some() {
             self.sync_all(ready);
+            self.post_all(posts);
             return Stepped {
                 entry: e,
                 reboot,
@@ -267,6 +280,7 @@ impl Machine {
         }
         if now == self.horizon() {
             self.sync_all(ready);
+            self.post_all(posts);
             return Stepped {
                 entry: e,
                 reboot: None,
@@ -276,8 +290,9 @@ impl Machine {
         let done = self.settle(scenario, now, &running);
         self.sync(ready, commanded, woken, &e.ran, &done);
         self.time_done(timer, &e.ran, &done);
+        self.post_others(posts, cpu, commanded, &done);
         let e = Entry { done, ..e };
-        let entry = self.pick(entries, dues, standing, ready, cpu, e);
+        let entry = self.pick(entries, dues, posts, standing, ready, cpu, e);
         Stepped {
             entry,
             reboot: None,
@@ -330,5 +345,16 @@ fn thread_of(best: &Option<Contender>) -> Option<ThreadId>
     match best {
         None => None,
         Some(b) => Some(b.thread),
+    }
+}
+
+/// The inherited values of a contender.
+#[inline(always)]
+fn facts_of(best: &Option<Contender>) -> Option<Facts>
+    ensures { result ≡ option_map (λ b. b.facts) best.now }
+{
+    match best {
+        None => None,
+        Some(b) => Some(b.facts),
     }
 }

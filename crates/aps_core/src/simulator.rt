@@ -23,6 +23,7 @@ use crate::dues::Dues;
 use crate::ends::Ends;
 use crate::machine::Machine;
 use crate::machine::wake::Woken;
+use crate::posts::Posts;
 use crate::recording;
 use crate::rooms::Room;
 use crate::standing::Standing;
@@ -45,6 +46,7 @@ pub struct Core {
     machine: Machine,
     ends: Ends,
     dues: Dues,
+    posts: Posts,
     window: Window,
     standing: Standing,
     ready: Ready,
@@ -63,6 +65,7 @@ impl Drop for Core {
             machine: _,
             ends: _,
             dues: _,
+            posts: _,
             window: _,
             standing: _,
             ready: _,
@@ -107,6 +110,7 @@ impl Core {
         let history = History::begin(alloc, scenario, limit, replies, changes)?;
         let ends = Ends::new();
         let dues = Dues::new();
+        let posts = machine.start_posts();
         Ok(Core {
             history,
             order,
@@ -114,6 +118,7 @@ impl Core {
             machine,
             ends,
             dues,
+            posts,
             window,
             standing,
             ready,
@@ -184,6 +189,7 @@ impl Core {
             machine: _,
             ends: _,
             dues: _,
+            posts: _,
             window: _,
             standing: _,
             ready: _,
@@ -277,6 +283,7 @@ impl Core {
     }
 
     /// The step of a processor that has the turn, in a run that goes on.
+    #[inline(always)]
     fn take_turn(&mut self, cpu: CpuId) -> Entry
         requires goes_on { end_of_run self.old ≡ None }
         requires turn { HasTurnIn self.old cpu }
@@ -291,6 +298,7 @@ impl Core {
             self.history.entries(),
             &self.ends,
             &self.dues,
+            &mut self.posts,
             &mut self.window,
             &mut self.standing,
             &mut self.ready,

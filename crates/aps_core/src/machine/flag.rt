@@ -1,145 +1,117 @@
-ghost use Rattle.std.specs.Prelude.{◌≡◌, ℕ, ◌<◌, ◌≤◌, length, slice_index, All, IfSome};
-ghost use Rattle.std.specs.Option.{option_map};
-ghost use Rattle.aps_model.specs.Flag.{rank_of, looked_at, flag_for, with_flag};
+ghost use Rattle.std.specs.Prelude.{◌≡◌, ◌<◌, ◌≤◌, length, slice_index, IfSome, Some};
+ghost use Rattle.aps_model.specs.Flag.{flag_for, with_flag};
 ghost use Rattle.aps_model.specs.Budget.{part_at};
-ghost use Rattle.aps_model.specs.Merit.{merit_of};
+ghost use Rattle.aps_model.specs.SchedulerState.{cpu_at};
 ghost use Rattle.aps_model.specs.Pick.{contenders, greatest, merit_among};
-ghost use Rattle.aps_ready.specs.Gates.{AreGates};
+ghost use Rattle.aps_ready.specs.Gates.{AreGates, is_first};
 ghost use Rattle.aps_core.specs.Classes.{AreClasses};
-ghost use Rattle.aps_core.specs.Lowest.{lowest, IsNoLess, NobodyRanks};
+ghost use Rattle.aps_core.specs.Lowest.{IsNoLess, IsRank, IsTold, height, height_of, height_or, limit, lowest, rank_now, ranked_at};
 ghost use Rattle.aps_core.specs.NextDues.{AreOthersDues};
+ghost use Rattle.aps_core.specs.Posts.{ArePosts};
 ghost use Rattle.aps_core.specs.Seats.{seats_of};
-ghost use Rattle.aps_core.specs.Small.{IsSmall};
 
 use super::Machine;
 use crate::classes::Classes;
 use crate::dues::Dues;
-use crate::merit;
-use aps_merit::is_below;
-use aps_model::{Contender, CpuId, CpuNow, Entry, Facts, Merit, Nanos, PartFacts, Pick, Rank};
+use crate::posts::Posts;
+use aps_model::{Contender, CpuId, CpuNow, Entry, Facts, Free, Nanos, PartFacts};
 use aps_ready::{Gates, Ready};
 
+/// Past the heights of all processors.
+const PAST_ALL: u16 = 1000;
+
+/// Of the other processors that aren't due yet the one of least rank, and how high that stands.
+#[derive(Clone, Copy, Debug, PartialEq, Eq)]
+struct Lowest {
+    cpu: CpuId,
+    height: u16,
+}
+
 impl Machine {
-    /// The rank of a processor that keeps this, if it is idle or its thread is below a candidate of this merit.
+    /// How high a processor stands.
     #[inline(always)]
-    fn rank_of(
-        &self,
-        parts: &[PartFacts],
-        classes: Classes,
-        left: &Merit,
-        running: &Option<Pick>,
-    ) -> Option<Rank>
-        requires { AreClasses parts.now classes }
-        ensures { result ≡ rank_of self.now parts.now left.now running.now }
+    fn height_now(&self, parts: &[PartFacts], posts: &Posts, classes: Classes, d: usize) -> u16
+        requires posts { ArePosts self.now posts.now }
+        requires classes { AreClasses parts.now classes }
+        requires d { d < length self.now.cpus }
+        ensures same { result ≡ height (rank_now self.now parts.now (cpu_at self.now d).running) }
+        ensures rank { IsRank (Some (rank_now self.now parts.now (cpu_at self.now d).running)) }
     {
-        let Some(pick) = running else {
-            return Some(Rank::Idle);
-        };
-        let facts = self.facts_of(pick.thread);
-        let stamp = self.thread(pick.thread).stamp;
-        let merit = running_merit(&facts, stamp, parts, classes);
-        if is_below(&merit, left, self.shape.free) {
-            Some(Rank::Running {
-                class: merit.class,
-                priority: merit.priority,
-            })
-        } else {
-            None
-        }
+        // the check wants to see that there are 16 processors at most
+        let _count = self.cpus.len();
+        posts.at(d).height(classes)
     }
 
-    /// The rank of another processor that isn't due yet. The own one is due no later than now.
+    /// How high another processor stands that isn't due yet. The own one is due no later than now.
     #[inline(always)]
-    fn looked_at(
+    fn height_at(
         &self,
         entries: &[Entry],
         dues: &Dues,
         parts: &[PartFacts],
+        posts: &Posts,
         classes: Classes,
-        left: &Merit,
         c: CpuId,
         now: Nanos,
         d: usize,
-    ) -> Option<Rank>
+    ) -> u16
+        requires posts { ArePosts self.now posts.now }
         requires classes { AreClasses parts.now classes }
         requires dues { AreOthersDues self.now entries.now c dues.now }
         requires own { slice_index dues.now c ≤ now }
         requires d { d < length self.now.cpus }
-        ensures { result ≡ looked_at self.now entries.now parts.now left.now c now d }
+        ensures same { result ≡ height_or (ranked_at self.now entries.now parts.now c now d) }
+        ensures rank { IsRank (ranked_at self.now entries.now parts.now c now d) }
     {
-        let running = &self.cpus[d].running;
-        if now < dues.at(d) {
-            self.rank_of(parts, classes, left, running)
-        } else {
-            None
-        }
+        // as in height_now
+        let _count = self.cpus.len();
+        let height = self.height_now(parts, posts, classes, d);
+        if now < dues.at(d) { height } else { PAST_ALL }
     }
 
-    /// Of the other processors that aren't due yet and may be flagged for a candidate of this merit, the one of least rank.
-    /// Before the first of these numbers there is none.
+    /// Of the other processors that aren't due yet the one of least rank, and of equal ranks the last.
+    #[inline(always)]
     fn lowest(
         &self,
         entries: &[Entry],
         dues: &Dues,
         parts: &[PartFacts],
+        posts: &Posts,
         classes: Classes,
         c: CpuId,
         now: Nanos,
-        first: usize,
-        left: &Merit,
-    ) -> Option<(CpuId, Rank)>
+    ) -> Lowest
+        requires posts { ArePosts self.now posts.now }
         requires classes { AreClasses parts.now classes }
         requires dues { AreOthersDues self.now entries.now c dues.now }
         requires own { slice_index dues.now c ≤ now }
-        requires inside { first ≤ length self.now.cpus }
-        requires before { NobodyRanks self.now entries.now parts.now left.now c now first }
-        ensures same { result ≡ lowest self.now entries.now parts.now left.now c now self.now.shape.cpus }
-        ensures within { IfSome result (λ best. best.0 < length self.now.cpus) }
+        ensures same { IsTold (lowest self.now entries.now parts.now c now self.now.shape.cpus) result.cpu result.height }
+        ensures within { result.cpu < length self.now.cpus }
     {
-        let mut best = None;
-        for d in first..self.cpus.len() {
-            let rank = self.looked_at(entries, dues, parts, classes, left, c, now, d);
-            best = merit::lower_ranked(CpuId::at(d), rank, best);
-        }
-        best
-    }
-
-    /// The first of the other processors that aren't due yet which may be flagged for a candidate of this merit; past the
-    /// last one where none may.
-    #[inline(always)]
-    fn first_below(
-        &self,
-        entries: &[Entry],
-        dues: &Dues,
-        parts: &[PartFacts],
-        classes: Classes,
-        c: CpuId,
-        now: Nanos,
-        merit: &Merit,
-    ) -> usize
-        requires classes { AreClasses parts.now classes }
-        requires dues { AreOthersDues self.now entries.now c dues.now }
-        requires own { slice_index dues.now c ≤ now }
-        ensures inside { result ≤ length self.now.cpus }
-        ensures before { NobodyRanks self.now entries.now parts.now merit.now c now result }
-    {
-        let count = self.cpus.len();
-        for d in 0..count {
-            let rank = self.looked_at(entries, dues, parts, classes, merit, c, now, d);
-            if rank.is_some() {
-                return d;
+        let mut at = 0;
+        let mut least = PAST_ALL;
+        for d in 0..self.cpus.len() {
+            let height = self.height_at(entries, dues, parts, posts, classes, c, now, d);
+            if height <= least {
+                at = d;
+                least = height;
             }
         }
-        count
+        Lowest {
+            cpu: CpuId::at(at),
+            height: least,
+        }
     }
 
     /// The processor that is flagged for the greatest candidate left after this pick. That candidate is no greater than the
-    /// pick, so it is looked for only where some processor may be flagged for the pick itself.
+    /// pick, so the queues are asked only where some processor may be flagged for the pick itself, and then for its class and
+    /// priority alone.
     pub fn flag_after(
         &self,
         entries: &[Entry],
         dues: &Dues,
         parts: &[PartFacts],
+        posts: &Posts,
         gates: Gates,
         classes: Classes,
         ready: &Ready,
@@ -147,7 +119,7 @@ impl Machine {
         now: Nanos,
         picked: &Option<Contender>,
     ) -> Option<CpuId>
-        requires small { All IsSmall parts.now }
+        requires posts { ArePosts self.now posts.now }
         requires gates { AreGates parts.now gates }
         requires classes { AreClasses parts.now classes }
         requires dues { AreOthersDues self.now entries.now c dues.now }
@@ -161,41 +133,17 @@ impl Machine {
         let Some(picked) = picked else {
             return None;
         };
-        let merit = merit::merit_among(parts, picked);
-        let first = self.first_below(entries, dues, parts, classes, c, now, &merit);
-        if first == self.cpus.len() {
+        let lowest = self.lowest(entries, dues, parts, posts, classes, c, now);
+        if limit_for(self.shape.free, &picked.facts, parts, classes) <= lowest.height {
             return None;
         }
-        let left = ready.greatest_by(gates, parts, self.shape.free);
-        self.flag_for(entries, dues, parts, classes, c, now, first, &left)
-    }
-
-    /// The processor that is flagged for the greatest candidate left. Before the first of these numbers none may be.
-    fn flag_for(
-        &self,
-        entries: &[Entry],
-        dues: &Dues,
-        parts: &[PartFacts],
-        classes: Classes,
-        c: CpuId,
-        now: Nanos,
-        first: usize,
-        left: &Option<Contender>,
-    ) -> Option<CpuId>
-        requires small { All IsSmall parts.now }
-        requires classes { AreClasses parts.now classes }
-        requires dues { AreOthersDues self.now entries.now c dues.now }
-        requires own { slice_index dues.now c ≤ now }
-        requires inside { first ≤ length self.now.cpus }
-        requires before { IfSome left.now (λ l. NobodyRanks self.now entries.now parts.now (merit_among parts.now l) c now first) }
-        ensures same { result ≡ flag_for self.now entries.now parts.now c now left.now }
-        ensures within { IfSome result (λ d. d < length self.now.cpus) }
-    {
-        let Some(left) = left else {
+        let Some(ahead) = ready.ahead_by(gates) else {
             return None;
         };
-        let merit = merit::merit_among(parts, left);
-        cpu_of(self.lowest(entries, dues, parts, classes, c, now, first, &merit))
+        if limit_of(self.shape.free, ahead.class == 1, ahead.priority) <= lowest.height {
+            return None;
+        }
+        Some(lowest.cpu)
     }
 
     /// The processor, if there is one, is flagged at this moment.
@@ -204,39 +152,41 @@ impl Machine {
         ensures { self.new ≡ with_flag self.old now other.now }
     {
         if let Some(d) = other {
-            let cpu = self.cpus[d.index()];
-            self.cpus[d.index()] = CpuNow {
-                flag: Some(now),
-                ..cpu
-            };
+            self.cpus[d.index()].flag = Some(now);
         }
     }
 }
 
-/// The merit of a thread with these values, whose class is kept.
+/// Where threads of this class and priority stand: the class counts first.
 #[inline(always)]
-fn running_merit(facts: &Facts, stamp: u64, parts: &[PartFacts], classes: Classes) -> Merit
-    requires { AreClasses parts.now classes }
-    ensures { result ≡ merit_of facts.now stamp (part_at parts.now facts.now.partition) }
+fn height_of(first: bool, priority: u8) -> u16
+    ensures same { result ≡ height_of first priority }
+    ensures few { priority ≤ 255 }
 {
-    let partition = facts.partition;
-    let part = merit::part_at(parts, partition);
-    Merit {
-        class: classes.class_of(partition, facts.critical),
-        priority: facts.priority,
-        used: part.used,
-        budget: part.budget,
-        stamp,
-    }
+    let base = if first { 257 } else { 1 };
+    base + u16::from(priority)
 }
 
-/// The processor of a rank.
-fn cpu_of(lowest: Option<(CpuId, Rank)>) -> Option<CpuId>
-    ensures same { result ≡ option_map (λ best. best.0) lowest }
-    ensures kept { (n : ℕ) → IfSome lowest (λ best. best.0 < n) → IfSome result (λ d. d < n) }
+/// What a processor has to stand below that is flagged for a candidate with these values.
+#[inline(always)]
+fn limit_for(free: Free, facts: &Facts, parts: &[PartFacts], classes: Classes) -> u16
+    requires { AreClasses parts.now classes }
+    ensures same { result ≡ limit free (is_first (part_at parts.now facts.now.partition) facts.now.critical) facts.now.priority }
+    ensures few { facts.now.priority ≤ 255 }
 {
-    match lowest {
-        Some((d, _)) => Some(d),
-        None => None,
+    let first = classes.is_first(facts.partition, facts.critical);
+    limit_of(free, first, facts.priority)
+}
+
+/// The same for a candidate of this class and priority.
+#[inline(always)]
+fn limit_of(free: Free, first: bool, priority: u8) -> u16
+    ensures same { result ≡ limit free first priority }
+    ensures few { priority ≤ 255 }
+{
+    match free {
+        Free::Priority => height_of(first, priority),
+        Free::Ratio if first => height_of(first, priority),
+        Free::Ratio => 1,
     }
 }

@@ -1,4 +1,4 @@
-ghost use Rattle.std.specs.Prelude.{◌≡◌, ◌≢◌, ℕ, length, IfOk, Some, true, false};
+ghost use Rattle.std.specs.Prelude.{◌≡◌, ◌≢◌, ℕ, length, IfOk, Some, None, true, false};
 ghost use Rattle.aps_core.specs.Seats.{seat_at, seats_of, who_at, IsRight, IsSeated};
 ghost use Rattle.aps_laws.specs.Stamps.{IsStamped};
 
@@ -98,6 +98,21 @@ impl Machine {
         if ready.at(x).is_some() {
             return;
         }
+        self.enter_anew(ready, x);
+    }
+
+    /// The thread, which isn't in, is in, if it should be.
+    #[inline(always)]
+    pub fn enter_anew(&self, ready: &mut Ready, x: ThreadId)
+        requires out { who_at ready.old x ≡ None }
+        requires count { length ready.old ≡ length self.now.threads }
+        requires stamped { IsStamped self.now.threads self.now.stamps }
+        requires seated { (y : ℕ) → IsSeated self.now ready.old y }
+        ensures own { IsRight self.now ready.new x }
+        ensures seated { (y : ℕ) → IsSeated self.now ready.new y }
+        ensures right { (y : ℕ) → IsRight self.now ready.old y → IsRight self.now ready.new y }
+        ensures count { length ready.new ≡ length ready.old }
+    {
         if let Some(seat) = self.seat_at(x) {
             ready.put(x, seat.facts, seat.stamp);
         }

@@ -1,7 +1,7 @@
 ghost use Rattle.std.specs.Prelude.{◌≡◌, ◌≢◌, ℕ, length, Some, None, true, false};
 ghost use Rattle.aps_model.specs.Inherit.{client_of};
-ghost use Rattle.aps_core.specs.Seats.{seats_of, IsRight, IsSeated};
-ghost use Rattle.aps_core.specs.Touched.{peer_of, is_at_channel, is_exit, woke, IsTouched};
+ghost use Rattle.aps_core.specs.Seats.{seats_of, who_at, IsRight, IsSeated};
+ghost use Rattle.aps_core.specs.Touched.{peer_of, is_alone, is_at_channel, is_exit, woke, IsTouched};
 ghost use Rattle.aps_laws.specs.Stamps.{IsStamped};
 
 use super::Machine;
@@ -11,7 +11,7 @@ use aps_ready::Ready;
 
 impl Machine {
     /// The queues have the ready threads after sleepers woke and this thread, if it is one, did its operation, where
-    /// they had all whose seat that doesn't touch; or where anything can have changed.
+    /// they had all whose seat that doesn't touch, and not this thread; or where anything can have changed.
     pub fn sync(
         &self,
         ready: &mut Ready,
@@ -25,6 +25,7 @@ impl Machine {
         requires tied { is_any ≡ false → is_exit done.now ≡ false → (y : ℕ)
             → (IsTouched woken.now own.now (peer_of done.now) (is_at_channel done.now) self.now.triples y → ⊥)
             → IsRight self.now ready.old y }
+        requires out { (y : ℕ) → own.now ≡ Some y → who_at ready.old y ≡ None }
         ensures { ready.new ≡ seats_of self.now }
     {
         if is_any || is_exit(done) {
@@ -37,16 +38,18 @@ impl Machine {
         }
     }
 
-    /// The queues have the ready threads, where they had them but for this one, if there is one.
+    /// The queues have the ready threads, where they had them but for this one, if there is one, which isn't in.
     #[inline(always)]
     fn sync_own(&self, ready: &mut Ready, own: &Option<ThreadId>)
         requires count { length ready.old ≡ length self.now.threads }
         requires stamped { IsStamped self.now.threads self.now.stamps }
         requires tied { (y : ℕ) → own.now ≢ Some y → IsRight self.now ready.old y }
+        requires out { (y : ℕ) → own.now ≡ Some y → who_at ready.old y ≡ None }
         ensures { ready.new ≡ seats_of self.now }
     {
-        self.leave_one(ready, own);
-        self.enter_one(ready, own);
+        if let Some(x) = own {
+            self.enter_anew(ready, *x);
+        }
     }
 
     /// The queues have the ready threads, where they had them but for those who woke, the two threads, and the servers if
@@ -172,7 +175,8 @@ pub fn peer_of(done: &Done) -> Option<ThreadId>
 }
 
 /// Whether the operation had to do with no other thread, nor with what waits at a channel.
-fn is_alone(done: &Done) -> bool
+pub fn is_alone(done: &Done) -> bool
+    ensures same { result ≡ is_alone done.now }
     ensures peer { result ≡ true → peer_of done.now ≡ None }
     ensures channel { result ≡ true → is_at_channel done.now ≡ false }
 {
@@ -181,6 +185,7 @@ fn is_alone(done: &Done) -> bool
         Done::SendTo(_) => false,
         Done::ReceiveGot(_) => false,
         Done::ReplyFreed(_) => false,
+        Done::Exit => false,
         _ => true,
     }
 }

@@ -1,5 +1,5 @@
 //! The sleeping threads, kept in a timer from step to step.
-ghost use Rattle.std.specs.Prelude.{◌≡◌, ◌≢◌, ℕ, length, IfOk, Some, None, false};
+ghost use Rattle.std.specs.Prelude.{◌≡◌, ◌≢◌, ℕ, length, slice_index_or, IfOk, Some, None, false};
 ghost use Rattle.aps_core.specs.Sleepers.{sleepers_of, until_at, IsTimed};
 ghost use Rattle.aps_core.specs.Touched.{peer_of, is_exit};
 
@@ -65,17 +65,34 @@ impl Machine {
         }
     }
 
+    /// The same of the thread, if there is one, where the timer hasn't it: one that doesn't sleep now needs no more.
+    #[inline(always)]
+    fn time_own(&self, timer: &mut Timer, own: &Option<ThreadId>)
+        requires count { length timer.old ≡ length self.now.threads }
+        requires out { (x : ℕ) → own.now ≡ Some x → slice_index_or timer.old x None ≡ None }
+        ensures own { (x : ℕ) → own.now ≡ Some x → IsTimed self.now timer.new x }
+        ensures others { (y : ℕ) → IsTimed self.now timer.old y → IsTimed self.now timer.new y }
+        ensures count { length timer.new ≡ length timer.old }
+    {
+        if let Some(x) = own {
+            if let Some(_) = self.until_at(*x) {
+                self.time(timer, *x);
+            }
+        }
+    }
+
     /// The timer has the sleeping threads after this thread, if it is one, did its operation, where it had all others with
-    /// which that has nothing to do.
+    /// which that has nothing to do, and not this one.
     pub fn time_done(&self, timer: &mut Timer, own: &Option<ThreadId>, done: &Done)
         requires count { length timer.old ≡ length self.now.threads }
+        requires out { (x : ℕ) → own.now ≡ Some x → slice_index_or timer.old x None ≡ None }
         requires tied { is_exit done.now ≡ false → (y : ℕ) → own.now ≢ Some y → peer_of done.now ≢ Some y → IsTimed self.now timer.old y }
         ensures { timer.new ≡ sleepers_of self.now }
     {
         if is_exit(done) {
             self.time_all(timer);
         } else {
-            self.time_one(timer, own);
+            self.time_own(timer, own);
             self.time_one(timer, &peer_of(done));
         }
     }

@@ -2,6 +2,7 @@ ghost use Rattle.std.specs.Prelude.{◌≡◌, ℕ, ◌+◌, ◌/◌, ◌%◌, �
 ghost use Rattle.std.specs.Prelude.{nat_eq};
 ghost use Rattle.std.specs.List.{list_any};
 ghost use Rattle.aps_model.specs.declared.entry.Entry.{Entry as EntryOf};
+ghost use Rattle.aps_model.specs.Inherit.{facts_of};
 ghost use Rattle.aps_model.specs.Valid.{IsScenario};
 ghost use Rattle.aps_core.specs.Pending.{IsPending};
 ghost use Rattle.aps_model.specs.TickWork.{has_tick_work, tick_work, wake_all, waking};
@@ -178,6 +179,7 @@ impl Machine {
         ensures timed { timer.new ≡ sleepers_of self.new }
         ensures idle { result ≡ false → (x : ℕ) → woke woken.new x ≡ false → seat_at self.new x ≡ seat_at self.old x }
         ensures kept { result ≡ false → IsKept self.old self.new }
+        ensures facts { result ≡ false → (x : ℕ) → facts_of self.new x ≡ facts_of self.old x }
         ensures window { result ≡ false → window.new ≡ window.old }
         ensures counts { Counts self.new.shape entries.now (now / self.old.shape.tick) window.new }
         ensures pending { (e : EntryOf) → e.to ≡ now → IsPending scenario.now self.old.shape.tick (entries.now ++ e ∷ []) ctl.new }

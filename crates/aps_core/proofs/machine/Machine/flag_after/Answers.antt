@@ -1,44 +1,73 @@
-use Rattle.std.proofs.Common.{◌≡◌, ap, subst, sym, ◌∙◌, arith}
-use Rattle.aps_model.specs.declared.merit.Merit.{Merit}
-use Rattle.aps_model.specs.Flag.{flag_for}
-use Rattle.aps_model.specs.Pick.{contenders, greatest, merit_among}
+use Rattle.std.proofs.Common.{◌≡◌, ◌≤◌, ◌<◌, ap, subst, sym, List, nat_eq, Option}
+use Rattle.aps_model.specs.declared.merit.Contender.{Contender}
+use Rattle.aps_model.specs.declared.merit.PartFacts.{PartFacts}
+use Rattle.aps_model.specs.declared.shape.Free.{Free}
+use Rattle.aps_model.specs.Pick.{contenders, greatest}
 use Rattle.aps_model.specs.SchedulerState.{SchedulerState}
+use Rattle.aps_ready.specs.declared.ahead.Ahead.{Ahead}
+use Rattle.aps_ready.specs.Ahead.{IsAhead}
 use Rattle.aps_ready.specs.Ready.{members}
-use Rattle.aps_core.specs.Lowest.{IsNoLess, NobodyRanks}
-use Rattle.aps_core.proofs.FlagAfter.{nobody_flagged, nobody_less}
+use Rattle.aps_core.specs.Lowest.{IsNoLess, limit}
+use Rattle.aps_core.specs.Seats.{seats_of}
 use Rattle.aps_core.proofs.Seats.{missing_in}
+use Rattle.aps_core.proofs.FlagAfter.{flagged_ahead, limit_among, nobody_ahead, nobody_flagged, nobody_left, short_of}
 use Rattle.aps_core.proofs.machine.Machine.flag_after.Goals as goal
 
-pub returns-then-first-len-clause-same : goal.returns-then-first-len-clause-same
-returns-then-first-len-clause-same c =
+pub returns-then-limit_for-lowest-clause-same : goal.returns-then-limit_for-lowest-clause-same
+returns-then-limit_for-lowest-clause-same c =
     let s = c.args.self.now in
-    let all : c.first_below-first.result ≡ s.shape.cpus =
-    omega (arith, c.if-first-len.true, c.len.ensures, c.self.invariant.cpus, ap (λ (t : SchedulerState). t.shape.cpus) c.self.view_is) in
+    let parts = c.args.parts.now in
+    let low = c.lowest-lowest.result in
+    let free = ap (λ (t : SchedulerState). t.shape.free) c.self.view_is in
+    let high : limit_among s.shape.free parts c.in-Some.picked ≤ low.height =
+    subst (λ (f : Free). limit_among f parts c.in-Some.picked ≤ low.height) free (subst (λ n. n ≤ low.height) c.limit_for.ensures.same c.if-limit_for-lowest.true) in
     sym
-    (nobody_flagged s c.args.entries.now c.args.parts.now c.args.c c.args.now (contenders s) c.in-Some.picked
-    (subst (λ n. NobodyRanks s c.args.entries.now c.args.parts.now (merit_among c.args.parts.now c.in-Some.picked) c.args.c c.args.now n) all
-    (subst (λ (m : Merit). NobodyRanks s c.args.entries.now c.args.parts.now m c.args.c c.args.now c.first_below-first.result) c.merit_among-merit.ensures.same
-    c.first_below-first.ensures.before))
-    (subst (IsNoLess s.shape.free c.args.parts.now (contenders s)) c.in-Some.is c.requires.picked))
+    (nobody_flagged s c.args.entries.now parts c.args.c c.args.now low.cpu low.height (contenders s) c.in-Some.picked
+    c.lowest-lowest.ensures.same (short_of s.shape.free _ _ c.limit_for.ensures.few) high (subst (IsNoLess s.shape.free parts (contenders s)) c.in-Some.is c.requires.picked))
 
-pub flag_for-requires-clause-before : goal.flag_for-requires-clause-before
-flag_for-requires-clause-before c =
+-- what the queues tell is of the greatest of those who are ready
+ahead_of : (s : SchedulerState) (parts : List PartFacts) (seats : List (Option Contender)) (ahead : Option Ahead) → seats ≡ seats_of s
+    → IsAhead s.shape.free parts (greatest s.shape.free parts (members seats)) ahead → IsAhead s.shape.free parts (greatest s.shape.free parts (contenders s)) ahead
+ahead_of s parts seats ahead are is = subst (λ cs. IsAhead s.shape.free parts (greatest s.shape.free parts cs) ahead) (missing_in s seats are) is
+
+pub returns-in_default-ahead_by-clause-same : goal.returns-in_default-ahead_by-clause-same
+returns-in_default-ahead_by-clause-same c =
     let s = c.args.self.now in
-    let left : greatest s.shape.free c.args.parts.now (contenders s) ≡ c.greatest_by-left.result =
+    let parts = c.args.parts.now in
+    let cs = greatest s.shape.free parts (contenders s) in
     sym
-    (c.greatest_by-left.ensures
-    ∙ ap (λ (t : SchedulerState). greatest t.shape.free c.args.parts.now (members c.args.ready.now)) c.self.view_is
-    ∙ ap (greatest s.shape.free c.args.parts.now) (missing_in s c.args.ready.now c.requires.seats)) in
-    nobody_less s c.args.entries.now c.args.parts.now c.args.c c.args.now c.first_below-first.result (contenders s) c.in-Some.picked c.greatest_by-left.result
-    (subst (λ (m : Merit). NobodyRanks s c.args.entries.now c.args.parts.now m c.args.c c.args.now c.first_below-first.result) c.merit_among-merit.ensures.same
-    c.first_below-first.ensures.before)
-    (subst (IsNoLess s.shape.free c.args.parts.now (contenders s)) c.in-Some.is c.requires.picked) left
+    (nobody_left s c.args.entries.now parts c.args.c c.args.now cs
+    (subst (IsAhead s.shape.free parts cs) c.in_default-ahead_by.is
+    (ahead_of s parts c.args.ready.now c.ahead_by.result c.requires.seats (c.ahead_by.ensures parts s.shape.free c.requires.gates))))
+
+pub returns-then-limit_of-lowest-clause-same : goal.returns-then-limit_of-lowest-clause-same
+returns-then-limit_of-lowest-clause-same c =
+    let s = c.args.self.now in
+    let parts = c.args.parts.now in
+    let cs = greatest s.shape.free parts (contenders s) in
+    let low = c.lowest-lowest.result in
+    let ahead = c.in-Some-ahead_by.ahead in
+    let free = ap (λ (t : SchedulerState). t.shape.free) c.self.view_is in
+    let high : limit s.shape.free (nat_eq ahead.class 1) ahead.priority ≤ low.height =
+    subst (λ (f : Free). limit f (nat_eq ahead.class 1) ahead.priority ≤ low.height) free (subst (λ n. n ≤ low.height) c.limit_of.ensures.same c.if-limit_of-lowest.true) in
+    sym
+    (nobody_ahead s c.args.entries.now parts c.args.c c.args.now low.cpu low.height cs ahead c.lowest-lowest.ensures.same
+    (subst (IsAhead s.shape.free parts cs) c.in-Some-ahead_by.is
+    (ahead_of s parts c.args.ready.now c.ahead_by.result c.requires.seats (c.ahead_by.ensures parts s.shape.free c.requires.gates)))
+    c.limit_of.ensures.few high)
 
 pub returns-clause-same : goal.returns-clause-same
 returns-clause-same c =
     let s = c.args.self.now in
-    c.flag_for.ensures.same
-    ∙ ap (flag_for s c.args.entries.now c.args.parts.now c.args.c c.args.now)
-    (c.greatest_by-left.ensures
-    ∙ ap (λ (t : SchedulerState). greatest t.shape.free c.args.parts.now (members c.args.ready.now)) c.self.view_is
-    ∙ ap (greatest s.shape.free c.args.parts.now) (missing_in s c.args.ready.now c.requires.seats))
+    let parts = c.args.parts.now in
+    let cs = greatest s.shape.free parts (contenders s) in
+    let low = c.lowest-lowest.result in
+    let ahead = c.in-Some-ahead_by.ahead in
+    let free = ap (λ (t : SchedulerState). t.shape.free) c.self.view_is in
+    let below : low.height < limit s.shape.free (nat_eq ahead.class 1) ahead.priority =
+    subst (λ (f : Free). low.height < limit f (nat_eq ahead.class 1) ahead.priority) free (subst (λ n. low.height < n) c.limit_of.ensures.same c.if-limit_of-lowest.false) in
+    sym
+    (flagged_ahead s c.args.entries.now parts c.args.c c.args.now low.cpu low.height cs ahead c.lowest-lowest.ensures.same
+    (subst (IsAhead s.shape.free parts cs) c.in-Some-ahead_by.is
+    (ahead_of s parts c.args.ready.now c.ahead_by.result c.requires.seats (c.ahead_by.ensures parts s.shape.free c.requires.gates)))
+    c.limit_of.ensures.few below)

@@ -1,9 +1,9 @@
-use Rattle.std.proofs.Common.{◌≡◌, ◌<◌, IfSome, length}
-use Rattle.aps_core.specs.Lowest.{lowest}
+use Rattle.std.proofs.Common.{◌<◌, length}
+use Rattle.aps_core.specs.Lowest.{IsTold, lowest}
 use Rattle.aps_core.proofs.machine.Machine.lowest.Given as goal
 
 abbrev pub invariant-loop-d : goal.invariant-loop-d
 invariant-loop-d l = record {
-  same : l.best ≡ lowest l.self l.entries l.parts l.left l.c l.now l.d;
-  within : IfSome l.best (λ b. b.0 < length l.self.cpus);
+  told : IsTold (lowest l.self l.entries l.parts l.c l.now l.d) l.at l.least;
+  within : l.at < length l.self.cpus;
 }

@@ -9,7 +9,10 @@ use Rattle.aps_ready.specs.Ready.{members}
 use Rattle.aps_core.specs.Seats.{seats_of}
 use Rattle.aps_core.proofs.FlagAfter.{picked_no_less}
 use Rattle.aps_core.proofs.NextDues.{others_chosen}
+use Rattle.aps_core.specs.Kept.{IsKept}
 use Rattle.aps_core.proofs.PickStep.{pick_by_parts}
+use Rattle.aps_core.proofs.Frame.{chosen_kept, flagged_kept, kept_then}
+use Rattle.aps_core.proofs.PostsStay.{posts_flagged, posts_picked}
 use Rattle.aps_core.proofs.Seats.{flagged_seats, missing_in, taken_seats}
 use Rattle.aps_core.proofs.machine.Machine.pick.Goals as goal
 
@@ -54,3 +57,21 @@ flag_after-flagged-requires-clause-picked c =
     (ap (λ (t : SchedulerState). t.shape.free) c.self.view_is) c.take_greatest-best.ensures.picked c.take_greatest-best.ensures.out
     (taken_seats c.args.self.now c.choose.new.self c.parts-parts.result.now c.args.cpu c.take_greatest-best.result c.args.ready.now c.take_greatest-best.new.self c.requires.seats c.take_greatest-best.ensures.out c.choose.ensures)
     c.choose.ensures
+
+pub flag_after-flagged-requires-clause-posts : goal.flag_after-flagged-requires-clause-posts
+flag_after-flagged-requires-clause-posts c =
+    posts_picked c.args.self.now c.choose.new.self c.self.inside.shape.free c.parts-parts.result.now c.args.cpu c.take_greatest-best.result c.facts_of.result c.args.ready.now c.args.posts.now c.set.new.self
+    (ap (λ (t : SchedulerState). t.shape.free) c.self.view_is) c.take_greatest-best.ensures.picked c.requires.seats c.choose.ensures c.requires.cpu c.facts_of.ensures c.requires.posts c.set.ensures.here c.set.ensures.others
+
+pub returns-clause-posts : goal.returns-clause-posts
+returns-clause-posts c =
+    posts_flagged c.choose.new.self c.flag.new.self c.args.e.to c.flag_after-flagged.result c.set.new.self c.flag.ensures
+    (posts_picked c.args.self.now c.choose.new.self c.self.inside.shape.free c.parts-parts.result.now c.args.cpu c.take_greatest-best.result c.facts_of.result c.args.ready.now c.args.posts.now c.set.new.self
+    (ap (λ (t : SchedulerState). t.shape.free) c.self.view_is) c.take_greatest-best.ensures.picked c.requires.seats c.choose.ensures c.requires.cpu c.facts_of.ensures c.requires.posts c.set.ensures.here c.set.ensures.others)
+
+pub returns-clause-kept : goal.returns-clause-kept
+returns-clause-kept c =
+    subst (IsKept c.args.self.now) (sym c.flag.ensures)
+    (kept_then
+    (subst (IsKept c.args.self.now) (sym c.choose.ensures) (chosen_kept c.args.self.now c.parts-parts.result.now c.args.cpu c.take_greatest-best.result))
+    (flagged_kept c.choose.new.self c.args.e.to c.flag_after-flagged.result))

@@ -6,7 +6,7 @@ use Rattle.aps_model.specs.declared.state.Pick.{Pick}
 use Rattle.aps_model.specs.Bill.{bill_of}
 use Rattle.aps_model.specs.Due.{due}
 use Rattle.aps_model.specs.Messages.{Effect}
-use Rattle.aps_model.specs.SchedulerState.{SchedulerState, thread_at}
+use Rattle.aps_model.specs.SchedulerState.{SchedulerState, cpu_at, thread_at}
 use Rattle.aps_model.specs.Step.{Step}
 use Rattle.aps_laws.specs.Servers.{IsNobodysClient}
 use Rattle.aps_laws.specs.Stamps.{IsStamped}
@@ -22,8 +22,10 @@ use Rattle.aps_core.specs.Touched.{IsTouched, is_at_channel, peer_of}
 use Rattle.aps_core.proofs.Counting.{parts_are}
 use Rattle.aps_core.proofs.Frame.{kept_then, settled_kept}
 use Rattle.aps_core.proofs.Seats.{seats_count, who_seats}
-use Rattle.aps_core.proofs.SeatsStay.{step_seat}
-use Rattle.aps_core.proofs.Asleep.{sleepers_count}
+use Rattle.aps_core.proofs.FactsStay.{step_facts}
+use Rattle.aps_core.proofs.PostsStay.{posts_stay, runs_apart}
+use Rattle.aps_core.proofs.SeatsStay.{running_out, step_seat}
+use Rattle.aps_core.proofs.Asleep.{running_awake, sleepers_count}
 use Rattle.aps_core.proofs.SleepersStay.{picked_sleepers, settled_timer, tested_timer}
 use Rattle.aps_core.proofs.StandsStay.{calm_kept, neither, others_stand}
 use Rattle.aps_core.proofs.StepCounts.{IsBilling, counts_begun, counts_left, done_bill, entry_of, own_bill, picked_bill, room_to_bill, settled_shape, spent_shape, tested_shape}
@@ -337,6 +339,14 @@ sync-requires-clause-tied c idle calm y apart =
     calm
     (subst (λ o. IsTouched c.work_tick-commanded.new.woken o (peer_of c.settle-done.result) (is_at_channel c.settle-done.result) c.settle-done.new.self.triples y → ⊥) own apart))
 
+pub sync-requires-clause-out : goal.sync-requires-clause-out
+sync-requires-clause-out c y own =
+    let who : c.bill_of-e.result.ran ≡ option_map (λ (p : Pick). p.thread) c.begin-running.result =
+    ap (λ (e : Entry). e.ran) c.bill_of-e.ensures.same ∙ ran c.args.cpu c.last_end-from.result c.of-now.result c.begin-running.result in
+    ap (λ (l : List (Option Contender)). who_at l y) c.requires.seats
+    ∙ who_seats c.args.self.now y
+    ∙ running_out c.args.self.now c.args.cpu y c.begin-running.result c.requires.ready.runs (sym c.begin-running.ensures.running) (sym who ∙ own)
+
 -- ---- how the partitions stand, and what a calm step leaves
 
 pub stand_by-requires : goal.stand_by-requires
@@ -453,6 +463,21 @@ time_done-requires-clause-count c =
     c.work_tick-commanded.ensures.timed c.bill.ensures c.test-reboot.ensures in
     ap length timed ∙ sleepers_count c.test-reboot.new.self ∙ sym settled.threads
 
+pub time_done-requires-clause-out : goal.time_done-requires-clause-out
+time_done-requires-clause-out c y own =
+    let b =
+    tested_by c.args.scenario.now c.args.self.now c.args.entries.now c.args.cpu _ _ _ _ _ _ _ _ _
+    (c.of-now.ensures ∙ c.requires.dues c.args.cpu c.requires.ready.exists) c.last_end-from.ensures.same c.begin-running.ensures.running c.begin-running.ensures.same c.work_tick-commanded.ensures.same c.bill_of-e.ensures.same c.bill.ensures c.test-reboot.ensures in
+    let billed = billed_by c.args.scenario.now c.args.self.now c.args.entries.now c.args.cpu _ _ _ _ _ b in
+    let who : c.bill_of-e.result.ran ≡ option_map (λ (p : Pick). p.thread) c.begin-running.result =
+    ap (λ (e : Entry). e.ran) c.bill_of-e.ensures.same ∙ ran c.args.cpu c.last_end-from.result c.of-now.result c.begin-running.result in
+    let timed =
+    tested_timer c.work_tick-commanded.new.self c.bill.new.self c.test-reboot.new.self c.args.entries.now c.bill_of-e.result c.begin-running.result c.test-reboot.result c.work_tick-commanded.new.timer
+    c.work_tick-commanded.ensures.timed c.bill.ensures c.test-reboot.ensures in
+    running_awake c.test-reboot.new.self c.args.cpu y c.work_tick-commanded.new.timer c.begin-running.result timed
+    (λ p runs. ap (λ (s : SchedulerState). (thread_at s p.thread).state) billed ∙ c.requires.ready.runs_billed p (sym c.begin-running.ensures.running ∙ runs))
+    (sym who ∙ own)
+
 pub time_done-requires-clause-tied : goal.time_done-requires-clause-tied
 time_done-requires-clause-tied c calm y own peer =
     let who : c.bill_of-e.result.ran ≡ option_map (λ (p : Pick). p.thread) c.begin-running.result =
@@ -466,3 +491,26 @@ time_done-requires-clause-tied c calm y own peer =
 pub returns-clause-timed : goal.returns-clause-timed
 returns-clause-timed c =
     c.time_done.ensures ∙ sym (picked_sleepers c.settle-done.new.self c.args.entries.now c.args.cpu _ _) ∙ ap (λ (out : Step). sleepers_of out.state) c.pick-entry.ensures.same
+
+-- ---- what each processor runs
+
+pub post_others-requires : goal.post_others-requires
+post_others-requires c idle alone =
+    let s = c.args.self.now in
+    let h = c.args.entries.now in
+    let b =
+    tested_by c.args.scenario.now s h c.args.cpu _ _ _ _ _ _ _ _ _
+    (c.of-now.ensures ∙ c.requires.dues c.args.cpu c.requires.ready.exists) c.last_end-from.ensures.same c.begin-running.ensures.running c.begin-running.ensures.same c.work_tick-commanded.ensures.same c.bill_of-e.ensures.same c.bill.ensures c.test-reboot.ensures in
+    let billed = billed_by c.args.scenario.now s h c.args.cpu _ _ _ _ _ b in
+    let before = settled_is c.args.scenario.now s h c.args.cpu c.of-now.result c.begin-running.result c.bill_of-e.result c.test-reboot.new.self c.test-reboot.result _ b c.settle-done.ensures in
+    posts_stay s c.settle-done.new.self c.args.cpu c.args.posts.now
+    (ap (λ (u : SchedulerState). length u.cpus) before ∙ c.requires.ready.counted)
+    (λ d ne. ap (λ (u : SchedulerState). cpu_at u d) before ∙ c.requires.ready.same_cpu d ne)
+    (λ d q ne other.
+    step_facts c.args.scenario.now s h c.args.cpu c.of-now.result q.thread _ c.begin-running.result c.bill_of-e.result _ _ _ _ c.test-reboot.result
+    (record { state = c.settle-done.new.self; done = c.settle-done.result })
+    c.begin-running.ensures.same (c.work_tick-commanded.ensures.facts idle q.thread) c.bill.ensures c.test-reboot.ensures c.settle-done.ensures
+    (λ p runs. subst (λ (u : SchedulerState). IsNobodysClient u.triples p.thread) (sym billed) (c.requires.ready.free_billed p (sym c.begin-running.ensures.running ∙ runs)))
+    (λ p runs. runs_apart s c.args.cpu d p q c.requires.ready.runs ne (sym c.begin-running.ensures.running ∙ runs) other)
+    alone)
+    (λ d inside ne. c.requires.posts d inside)

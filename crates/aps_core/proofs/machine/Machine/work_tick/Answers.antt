@@ -1,4 +1,5 @@
 use Rattle.std.proofs.Common.{ℕ, length, ◌∙◌, sym, ap, subst, arith}
+use Rattle.aps_model.specs.Inherit.{facts_of}
 use Rattle.aps_model.specs.SchedulerState.{SchedulerState}
 use Rattle.aps_ctl.specs.Pending.{all_at}
 use Rattle.aps_model.specs.TickWork.{wake_all}
@@ -8,6 +9,7 @@ use Rattle.aps_core.specs.Seats.{seat_at}
 use Rattle.aps_core.specs.Sleepers.{sleepers_of}
 use Rattle.aps_core.proofs.Commands.{commands_room}
 use Rattle.aps_core.proofs.Counting.{counts_like}
+use Rattle.aps_core.proofs.FactsStay.{wakes_facts}
 use Rattle.aps_core.proofs.Frame.{ticked_lists, wake_kept}
 use Rattle.aps_core.proofs.Pending.{pending_begun, tick_started}
 use Rattle.aps_core.proofs.SeatsStay.{wakes_seats}
@@ -51,6 +53,11 @@ returns-then-has_tick_work-clause-idle c quiet x asleep =
     let same = (c.do_commands-commanded.ensures.idle quiet).0 in
     wakes_seats c.args.scenario.now c.args.now x c.wake_all.new.woken c.do_commands-commanded.new.self c.wake_all.new.self c.wake_all.ensures.same c.wake_all.ensures.woken asleep
     ∙ ap (λ (s : SchedulerState). seat_at s x) same
+
+pub returns-then-has_tick_work-clause-facts : goal.returns-then-has_tick_work-clause-facts
+returns-then-has_tick_work-clause-facts c quiet x =
+    wakes_facts c.args.scenario.now c.args.now x c.do_commands-commanded.new.self c.wake_all.new.self c.wake_all.ensures.same
+    ∙ ap (λ (s : SchedulerState). facts_of s x) (c.do_commands-commanded.ensures.idle quiet).0
 
 pub returns-then-has_tick_work-clause-pending : goal.returns-then-has_tick_work-clause-pending
 returns-then-has_tick_work-clause-pending c e to =

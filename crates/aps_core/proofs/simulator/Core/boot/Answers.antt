@@ -29,6 +29,7 @@ invariant_of-result c =
       timed = c.in_ok-ready.ensures.timer;
       lasts = c.new-ends.ensures;
       stands = c.in_ok-window.ensures.standing;
+      posted = c.start_posts-posts.ensures;
       nexts = dues_none c.in_ok-machine.machine _ c.new-dues.ensures;
       counts = counts_begin c.args.scenario c.in_ok-machine.machine _ c.in_ok-window.window c.commands.ensures.valid.shape c.in_ok-machine.ensures refl c.in_ok-window.ensures.window;
     })

@@ -1,10 +1,10 @@
-use Rattle.std.proofs.Common.{◌≡◌, ◌/◌, ◌∙◌, refl, [], ◌∷◌, ◌++◌, ap, None, subst, sym}
-use Rattle.aps_model.specs.Due.{due}
+use Rattle.std.proofs.Common.{◌≡◌, ◌/◌, ◌∙◌, refl, [], ◌∷◌, ◌++◌, ap, IfSome, None, subst, sym}
+use Rattle.aps_model.specs.Due.{due, last_to}
 use Rattle.aps_model.specs.History.{History}
 use Rattle.aps_model.specs.Scenario.{Scenario}
 use Rattle.aps_model.specs.Valid.{IsScenario}
 use Rattle.aps_laws.specs.Moments.{moment}
-use Rattle.aps_laws.proofs.MomentLaws.{moment-append}
+use Rattle.aps_laws.proofs.MomentLaws.{last_own, moment-append}
 use Rattle.aps_core.specs.Counts.{Counts}
 use Rattle.aps_core.specs.CoreView.{run_of}
 use Rattle.aps_core.specs.LastEnds.{AreEnds}
@@ -87,6 +87,20 @@ due-due-requires-clause-ends c =
     subst (λ h. AreEnds h c.add.new.self) (sym (c.entries-2.ensures.same ∙ ap (λ (k : History). k.entries) c.record.ensures))
     (c.add.ensures c.self.inside.history.entries c.self.invariant.lasts)
 
+pub due-due-requires-clause-at_hand : goal.due-due-requires-clause-at_hand
+due-due-requires-clause-at_hand c =
+    let h = c.self.inside.history.entries in
+    let e = c.step-made.result.entry in
+    let n = c.step-made.new.self.shape.tick in
+    let own : e.cpu ≡ c.args.cpu =
+    own_entry (run_of c.self.inside) c.self.inside.history c.self.inside.machine c.args.cpu e (record { state = c.step-made.new.self; reboot = c.step-made.result.reboot }) c.self.invariant.core
+    (subst (λ run. end_of_run run ≡ None) (sym c.self.view_is) c.requires.goes_on)
+    (subst (λ run. HasTurnIn run c.args.cpu) (sym c.self.view_is) c.requires.turn)
+    (step_read _ _ c.self.inside.machine _ _ c.args.cpu _ c.scenario.ensures c.entries.ensures.same c.step-made.ensures.same) in
+    let more : c.entries-2.result.now ≡ h ++ e ∷ [] = c.entries-2.ensures.same ∙ ap (λ (k : History). k.entries) c.record.ensures in
+    subst (λ l. IfSome (last_to l c.args.cpu) (λ to. c.tick-tick.result ≡ to / n)) (sym more)
+    (subst (λ o. IfSome o (λ to. c.tick-tick.result ≡ to / n)) (sym (last_own h e c.args.cpu own)) (c.tick-tick.ensures.same ∙ c.step-made.ensures.counts.tick))
+
 pub step-made-requires-clause-counts : goal.step-made-requires-clause-counts
 step-made-requires-clause-counts c =
     let shape = c.self.inside.machine.shape in
@@ -128,6 +142,7 @@ invariant_of-self c = record {
       c.go_on.ensures.whole c.self.invariant.nexts
       (c.due-due.ensures ∙ ap (λ h. due c.step-made.new.self h c.args.cpu) (c.entries-2.ensures.same ∙ ap (λ (k : History). k.entries) c.record.ensures))));
   stands = c.step-made.ensures.stands;
+  posted = c.step-made.ensures.posts;
   counts =
       let shape = c.step-made.new.self.shape in
       let h = c.self.inside.history.entries in

@@ -1,0 +1,45 @@
+-- What each processor runs, as far as its rank goes by it, kept from step to step.
+use Rattle.std.specs.Prelude.{◌≡◌, ◌≢◌, ℕ, ◌+◌, ◌<◌, ◌≤◌, ◌%◌, nat_lt, List, length, slice_index_or, Option, Some, None}
+use Rattle.aps_model.specs.declared.state.Facts.{Facts}
+use Rattle.aps_model.specs.declared.state.Pick.{Pick}
+use Rattle.aps_model.specs.Inherit.{facts_of}
+use Rattle.aps_model.specs.SchedulerState.{SchedulerState, cpu_at}
+use Rattle.aps_core.specs.declared.posts.Post.{Post}
+
+-- the values now of the thread that a processor runs, if it runs one
+abbrev pub facts_now : SchedulerState → Option Pick → Option Facts
+facts_now s None = None
+facts_now s (Some p) = Some (facts_of s p.thread)
+
+-- this is kept of a thread with these values: its group, and where it stands if the group is of class 0
+pub record IsPostOf (facts : Facts) (post : Post) : Type 0 where
+  pub below : post.group < 64
+  pub partition : post.group % 32 ≡ facts.partition
+  pub critical : nat_lt 31 post.group ≡ facts.critical
+  pub base : post.base ≡ 1 + facts.priority
+  pub more : post.more ≡ 256
+  pub few : facts.priority ≤ 255
+
+-- and this where there is none
+pub record IsIdlePost (post : Post) : Type 0 where
+  pub group : post.group ≡ 0
+  pub base : post.base ≡ 0
+  pub more : post.more ≡ 0
+
+abbrev pub IsPost : Option Facts → Post → Type 0
+IsPost None post = IsIdlePost post
+IsPost (Some facts) post = IsPostOf facts post
+
+abbrev pub no_post : Post
+no_post = record { group = 0; base = 0; more = 0 }
+
+abbrev pub post_at : List Post → ℕ → Post
+post_at posts d = slice_index_or posts d no_post
+
+-- that of each processor is kept
+abbrev pub ArePosts : SchedulerState → List Post → Type 0
+ArePosts s posts = (d : ℕ) → d < length s.cpus → IsPost (facts_now s (cpu_at s d).running) (post_at posts d)
+
+-- that of each but one
+abbrev pub AreOthersPosts : SchedulerState → ℕ → List Post → Type 0
+AreOthersPosts s c posts = (d : ℕ) → d < length s.cpus → d ≢ c → IsPost (facts_now s (cpu_at s d).running) (post_at posts d)
