@@ -121,10 +121,9 @@ fn solo_of(alloc: Global, words: &[String]) -> Result<Command, WordsRefusal>
     ensures same { spec.Says result (spec.with_options spec.solo_options spec.solo (drop 1 (map string_bytes words.now))) }
     ensures ranges { IfOk result spec.HasRanges }
 {
-    let matches = matches_in(solo_options(alloc)?, words)?;
-    match solo_from(&matches) {
-        Some(command) => Ok(command),
-        None => Err(WordsRefusal::Words),
+    match matches_in(solo_options(alloc)?, words) {
+        Ok(matches) => said(solo_from(&matches)),
+        Err(refusal) => Err(refusal),
     }
 }
 
@@ -134,10 +133,9 @@ fn run_of(alloc: Global, words: &[String]) -> Result<Command, WordsRefusal>
     ensures same { spec.Says result (spec.with_options spec.run_options spec.run (drop 1 (map string_bytes words.now))) }
     ensures ranges { IfOk result spec.HasRanges }
 {
-    let matches = matches_in(run_options(alloc)?, words)?;
-    match run_from(&matches) {
-        Some(command) => Ok(command),
-        None => Err(WordsRefusal::Words),
+    match matches_in(run_options(alloc)?, words) {
+        Ok(matches) => said(run_from(&matches)),
+        Err(refusal) => Err(refusal),
     }
 }
 
@@ -147,10 +145,9 @@ fn gen_of(alloc: Global, words: &[String]) -> Result<Command, WordsRefusal>
     ensures same { spec.Says result (spec.with_options spec.gen_options spec.gen (drop 1 (map string_bytes words.now))) }
     ensures ranges { IfOk result spec.HasRanges }
 {
-    let matches = matches_in(gen_options(alloc)?, words)?;
-    match gen_from(&matches) {
-        Some(command) => Ok(command),
-        None => Err(WordsRefusal::Words),
+    match matches_in(gen_options(alloc)?, words) {
+        Ok(matches) => said(gen_from(&matches)),
+        Err(refusal) => Err(refusal),
     }
 }
 
@@ -160,8 +157,19 @@ fn check_of(alloc: Global, words: &[String]) -> Result<Command, WordsRefusal>
     ensures same { spec.Says result (spec.with_options spec.check_options spec.check (drop 1 (map string_bytes words.now))) }
     ensures ranges { IfOk result spec.HasRanges }
 {
-    let matches = matches_in(check_options(alloc)?, words)?;
-    match check_from(&matches) {
+    match matches_in(check_options(alloc)?, words) {
+        Ok(matches) => said(check_from(&matches)),
+        Err(refusal) => Err(refusal),
+    }
+}
+
+/// The command that the options say, where they say one.
+fn said(command: Option<Command>) -> Result<Command, WordsRefusal>
+    requires { IfSome command spec.HasRanges }
+    ensures same { spec.Says result command }
+    ensures ranges { IfOk result spec.HasRanges }
+{
+    match command {
         Some(command) => Ok(command),
         None => Err(WordsRefusal::Words),
     }
