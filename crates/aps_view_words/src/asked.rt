@@ -115,10 +115,9 @@ fn limited(alloc: Global, words: &[String], report: Report) -> Result<Asked, Wor
     ensures same { Says result (with_unhyphened spec.limit_options (spec.limited report) (drop 1 (map string_bytes words.now))) }
     ensures ranges { IfOk result spec.HasRanges }
 {
-    let matches = matches_in(limit_options(alloc)?, words)?;
-    match limited_from(&matches, report) {
-        Some(asked) => Ok(asked),
-        None => Err(WordsRefusal::Words),
+    match matches_in(limit_options(alloc)?, words) {
+        Ok(matches) => said(limited_from(&matches, report)),
+        Err(refusal) => Err(refusal),
     }
 }
 
@@ -128,10 +127,9 @@ fn csv_of(alloc: Global, words: &[String]) -> Result<Asked, WordsRefusal>
     ensures same { Says result (with_unhyphened spec.ticks_options spec.csv (drop 1 (map string_bytes words.now))) }
     ensures ranges { IfOk result spec.HasRanges }
 {
-    let matches = matches_in(ticks_options(alloc)?, words)?;
-    match csv_from(&matches) {
-        Some(asked) => Ok(asked),
-        None => Err(WordsRefusal::Words),
+    match matches_in(ticks_options(alloc)?, words) {
+        Ok(matches) => said(csv_from(&matches)),
+        Err(refusal) => Err(refusal),
     }
 }
 
@@ -141,10 +139,9 @@ fn picture_of(alloc: Global, words: &[String], picture: Picture) -> Result<Asked
     ensures same { Says result (with_unhyphened spec.ticks_options (spec.picture picture) (drop 1 (map string_bytes words.now))) }
     ensures ranges { IfOk result spec.HasRanges }
 {
-    let matches = matches_in(ticks_options(alloc)?, words)?;
-    match picture_from(&matches, picture) {
-        Some(asked) => Ok(asked),
-        None => Err(WordsRefusal::Words),
+    match matches_in(ticks_options(alloc)?, words) {
+        Ok(matches) => said(picture_from(&matches, picture)),
+        Err(refusal) => Err(refusal),
     }
 }
 
@@ -161,8 +158,19 @@ fn explain_of(alloc: Global, words: &[String]) -> Result<Asked, WordsRefusal>
     ensures same { Says result (with_unhyphened spec.thread_options spec.explain (drop 1 (map string_bytes words.now))) }
     ensures ranges { IfOk result spec.HasRanges }
 {
-    let matches = matches_in(thread_options(alloc)?, words)?;
-    match explain_from(&matches) {
+    match matches_in(thread_options(alloc)?, words) {
+        Ok(matches) => said(explain_from(&matches)),
+        Err(refusal) => Err(refusal),
+    }
+}
+
+/// What the options ask for, where they ask for something.
+fn said(asked: Option<Asked>) -> Result<Asked, WordsRefusal>
+    requires { IfSome asked spec.HasRanges }
+    ensures same { Says result asked }
+    ensures ranges { IfOk result spec.HasRanges }
+{
+    match asked {
         Some(asked) => Ok(asked),
         None => Err(WordsRefusal::Words),
     }
