@@ -1,5 +1,5 @@
 //! The command that a list of words is.
-ghost use Rattle.std.specs.Prelude.{◌≡◌, ◌≤◌, [], drop, map, string_bytes, true, IfOk, IfSome};
+ghost use Rattle.std.specs.Prelude.{◌≡◌, ◌≤◌, [], ◌∷◌, drop, map, string_bytes, true, IfOk, IfSome};
 ghost use Rattle.clap.specs.Words.{first_value, found_of};
 ghost use Rattle.aps_words.specs.Command as spec;
 ghost use Rattle.aps_words.specs.Plain.{is_plain};
@@ -92,7 +92,22 @@ pub fn command_of(alloc: Global, words: &[String]) -> Result<Command, WordsRefus
     if !is_plain(alloc, options)? {
         return Err(WordsRefusal::Words);
     }
-    match word.as_str() {
+    plain_command(alloc, word.as_str(), options, words)
+}
+
+/// The command that this word and these options behind it are, which are the words.
+fn plain_command(
+    alloc: Global,
+    word: &str,
+    options: &[String],
+    words: &[String],
+) -> Result<Command, WordsRefusal>
+    requires plain { is_plain [] (drop 1 (map string_bytes words.now)) ≡ true }
+    requires options { map string_bytes options.now ≡ drop 1 (map string_bytes words.now) }
+    ensures same { spec.Says result (spec.command (word.now ∷ drop 1 (map string_bytes words.now))) }
+    ensures ranges { IfOk result spec.HasRanges }
+{
+    match word {
         "solo" => solo_of(alloc, words),
         "run" => run_of(alloc, words),
         "gen" => gen_of(alloc, words),
