@@ -1,5 +1,5 @@
 //! The report that a list of words asks for.
-ghost use Rattle.std.specs.Prelude.{◌≡◌, [], drop, map, string_bytes, true, IfOk, IfSome};
+ghost use Rattle.std.specs.Prelude.{◌≡◌, [], ◌∷◌, drop, map, string_bytes, true, IfOk, IfSome};
 ghost use Rattle.clap.specs.Words.{first_value, found_of};
 ghost use Rattle.aps_words.specs.Command.{Says};
 ghost use Rattle.aps_words.specs.Plain.{is_plain};
@@ -92,7 +92,16 @@ pub fn asked_of(alloc: Global, words: &[String]) -> Result<Asked, WordsRefusal>
     if !is_plain(alloc, options)? {
         return Err(WordsRefusal::Words);
     }
-    match word.as_str() {
+    plainly_asked(alloc, word.as_str(), words)
+}
+
+/// What this word asks for, which is the first of the words, with the options behind it.
+fn plainly_asked(alloc: Global, word: &str, words: &[String]) -> Result<Asked, WordsRefusal>
+    requires plain { is_plain [] (drop 1 (map string_bytes words.now)) ≡ true }
+    ensures same { Says result (spec.asked (word.now ∷ drop 1 (map string_bytes words.now))) }
+    ensures ranges { IfOk result spec.HasRanges }
+{
+    match word {
         "cycles" => limited(alloc, words, Report::Cycles),
         "csv" => csv_of(alloc, words),
         "timeline" => picture_of(alloc, words, Picture::Timeline),
