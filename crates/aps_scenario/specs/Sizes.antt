@@ -65,23 +65,3 @@ shape_at t = do
     limit = limit;
     bankruptcy = bankruptcy;
   })
-
--- the sizes and the policies behind these
-unfoldable pub shape_values : ℕ → ℕ → ℕ → ℕ → Members → Result Shape Finding
-shape_values version cpus tick window t = do
-  ticks ← value_of row_ticks Top t
-  call_ns ← value_of row_call_ns Top t
-  free ← value_of row_free Top t
-  limit ← value_of row_limit Top t
-  bankruptcy ← value_of row_bankruptcy Top t
-  Ok (record {
-    parts = parts_of version;
-    cpus = cpus;
-    tick = tick;
-    window = window;
-    ticks = ticks;
-    call_ns = call_ns;
-    free = free;
-    limit = limit;
-    bankruptcy = bankruptcy;
-  })

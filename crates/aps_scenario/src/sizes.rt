@@ -62,29 +62,15 @@ pub fn window_at(table: &Table) -> Result<u16, Finding>
 }
 
 /// The sizes and the policies.
-#[tactic(auto, unfolding(crate::specs::Sizes::shape_at, crate::specs::Sizes::shape_values))]
+#[tactic(auto, unfolding(crate::specs::Sizes::shape_at))]
 pub fn shape_at(table: &Table) -> Result<Shape, Finding>
     ensures { result ≡ spec.shape_at (table_view table.now) }
 {
+    let top = Place::Top;
     let version = version_at(table)?;
     let cpus = cpus_at(table)?;
     let tick = tick_at(table)?;
     let window = window_at(table)?;
-    shape_values(version, cpus, tick, window, table)
-}
-
-/// The sizes and the policies behind these.
-#[tactic(auto, unfolding(crate::specs::Sizes::shape_values))]
-fn shape_values(
-    version: u64,
-    cpus: u8,
-    tick: u64,
-    window: u16,
-    table: &Table,
-) -> Result<Shape, Finding>
-    ensures { result ≡ spec.shape_values version cpus tick window (table_view table.now) }
-{
-    let top = Place::Top;
     let ticks = integer_at(table, top, Key::Ticks, 1, 1_000_000, 1, None)?;
     let call_ns = integer_at(table, top, Key::CallNs, 1, 100_000, 1, Some(1000))?;
     let free = free_at(table, top)?;
