@@ -26,7 +26,7 @@ use Rattle.aps_scenario.specs.Row.{table_of, only, value_of, row_name, name, ref
 use Rattle.aps_scenario.specs.Elements.{items_len, row_tables}
 use Rattle.aps_scenario.specs.Partitions.{partition_at, next_partition, partition_keys, partition_of, or_unknown, row_partition, row_budget, row_critical, row_max, partitions_at, rows_with_new, system, is_partition}
 use Rattle.aps_scenario.proofs.Lists.{list_any-map}
-use Rattle.aps_scenario.proofs.Values.{bind-ok, ok-same, refuse_if-ok, value_of-ok, named-ok, required-ok, defaulted-ok}
+use Rattle.aps_scenario.proofs.Values.{InRange, bind-ok, ok-same, refuse_if-ok, value_of-ok, named-ok, required-ok, defaulted-ok}
 use Rattle.aps_scenario.proofs.Elements.{read_each-keeps, tables-ok}
 use Rattle.aps_scenario.proofs.Subtrees.{AreEarlier, rows_more, kept, new_row, subtree_kept, subtree_new}
 
@@ -65,6 +65,15 @@ record IsNew (parts : ℕ) (rows : List PartitionRow) (new : PartitionRow) : Typ
   pub critical : new.critical ≤ 64000000000
   pub funded : new.budget ≤ (row_or_none rows new.parent).budget
 
+no_critical : InRange 0 64000000000 1 0
+no_critical = record { above = omega arith; below = omega arith; whole = refl }
+
+whole_range : (low high : ℕ) → low ≤ high → InRange low high 1 high
+whole_range low high within = record { above = within; below = omega arith; whole = omega arith }
+
+not_over : (left budget : ℕ) → nat_lt left budget ≡ false → budget ≤ left
+not_over left budget test = grind (arith, nat_tests, test)
+
 next_partition-ok : (parts : ℕ) (rows : List PartitionRow) (d : Data) (new : PartitionRow) → 0 < length rows
     → next_partition parts rows d ≡ Ok new → IsNew parts rows new
 unfolding partition_at
@@ -79,10 +88,9 @@ next_partition-ok parts rows d new some e =
     let critical = bind-ok (value_of row_critical here p.0) _ new budget.2 in
     let max = bind-ok (value_of (row_max budget.0 parts) here p.0) _ new critical.2 in
     let funded = bind-ok (refuse_if (nat_lt (row_or_none rows parent.0).budget budget.0) BudgetOver here Budget) _ new max.2 in
-    let none : ℕ = 0 in
     let budget_range = required-ok Budget 0 parts 1 here p.0 budget.0 budget.1 in
-    let critical_range = defaulted-ok Critical 0 64000000000 1 none here p.0 critical.0 (record { above = omega arith; below = omega arith; whole = refl }) critical.1 in
-    let max_range = defaulted-ok Max budget.0 parts 1 parts here p.0 max.0 (record { above = budget_range.below; below = omega arith; whole = omega arith }) max.1 in
+    let critical_range = defaulted-ok Critical 0 64000000000 1 0 here p.0 critical.0 no_critical critical.1 in
+    let max_range = defaulted-ok Max budget.0 parts 1 parts here p.0 max.0 (whole_range budget.0 parts budget_range.below) max.1 in
     let test : nat_lt (row_or_none rows parent.0).budget budget.0 ≡ false = refuse_if-ok _ _ _ _ funded.0 funded.1 in
     let found : PartitionRow = record { name = name.0; parent = parent.0; budget = budget.0; critical = critical.0; max = max.0 } in
     let same : found ≡ new = ok-same found new _ refl funded.2 in
@@ -93,7 +101,7 @@ next_partition-ok parts rows d new some e =
       within_max = max_range.above;
       max = max_range.below;
       critical = critical_range.below;
-      funded = grind (arith, nat_tests, test);
+      funded = not_over _ _ test;
     })
 
 -- the rows so far, of which there are n

@@ -60,6 +60,16 @@ partition_at parts rows place d = do
   funded ← refuse_if (nat_lt (row_or_none rows parent).budget budget) BudgetOver place Budget
   Ok (record { name = name; parent = parent; budget = budget; critical = critical; max = max })
 
+-- the partition of this name, by its other keys
+unfoldable pub partition_values : ℕ → List PartitionRow → Place → List ℕ → Members → Result PartitionRow Finding
+partition_values parts rows place name t = do
+  parent ← value_of (row_partition Parent rows) place t
+  budget ← value_of (row_budget parts) place t
+  critical ← value_of row_critical place t
+  max ← value_of (row_max budget parts) place t
+  funded ← refuse_if (nat_lt (row_or_none rows parent).budget budget) BudgetOver place Budget
+  Ok (record { name = name; parent = parent; budget = budget; critical = critical; max = max })
+
 -- the element after these rows, of which the root isn't one
 abbrev pub next_partition : ℕ → List PartitionRow → Data → Result PartitionRow Finding
 next_partition parts rows d = partition_at parts rows (place.Partition (length rows - 1)) d

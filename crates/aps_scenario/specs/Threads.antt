@@ -48,6 +48,16 @@ thread_at partitions channels joinable threads i d = do
   program ← program_at channels joinable i t
   Ok (record { name = name; partition = partition; priority = priority; policy = policy; critical = critical; program = program })
 
+-- thread i of this name, by its other keys
+unfoldable pub thread_values : List PartitionRow → List (List ℕ) → List (List ℕ) → ℕ → List ℕ → Members → Result ThreadRow Finding
+thread_values partitions channels joinable i name t = do
+  partition ← value_of (row_partition Partition partitions) (place.Thread i) t
+  priority ← value_of row_priority (place.Thread i) t
+  policy ← value_of row_policy (place.Thread i) t
+  critical ← value_of row_critical_mark (place.Thread i) t
+  program ← program_at channels joinable i t
+  Ok (record { name = name; partition = partition; priority = priority; policy = policy; critical = critical; program = program })
+
 abbrev pub next_thread : List PartitionRow → List (List ℕ) → List (List ℕ) → List ThreadRow → Data → Result ThreadRow Finding
 next_thread partitions channels joinable threads d = thread_at partitions channels joinable threads (length threads) d
 

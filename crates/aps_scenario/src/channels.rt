@@ -53,12 +53,12 @@ fn channels_of(alloc: Global, array: &Array) -> Result<Vec<Name>, Failure>
 }
 
 /// The channels of the top table.
-#[tactic(auto, unfolding(crate::specs::Channels::channels_at))]
+#[tactic(auto, unfolding(crate::specs::Channels::channels_at, crate::specs::Elements::read_each))]
 pub fn channels_at(alloc: Global, table: &Table) -> Result<Vec<Name>, Failure>
     ensures { Gives (λ channels. channels.items) result (spec.channels_at (table_view table.now)) }
 {
     match tables_at(table, Place::Top, Key::Channel, MOST_CHANNELS)? {
         Some(array) => channels_of(alloc, array),
-        None => channels_of(alloc, &Vec::new(alloc)),
+        None => Ok(Vec::new(alloc)),
     }
 }

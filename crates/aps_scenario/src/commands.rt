@@ -115,7 +115,7 @@ fn commands_of(
 }
 
 /// The commands of the top table, where these are the sizes and the threads.
-#[tactic(auto, unfolding(crate::specs::Commands::commands_at))]
+#[tactic(auto, unfolding(crate::specs::Commands::commands_at, crate::specs::Elements::read_each))]
 pub fn commands_at(
     alloc: Global,
     shape: &Shape,
@@ -128,6 +128,6 @@ pub fn commands_at(
 {
     match tables_at(table, Place::Top, Key::Command, MOST_COMMANDS)? {
         Some(array) => commands_of(alloc, shape, threads, array),
-        None => commands_of(alloc, shape, threads, &Vec::new(alloc)),
+        None => Ok(Vec::new(alloc)),
     }
 }

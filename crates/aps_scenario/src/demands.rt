@@ -135,13 +135,13 @@ fn sizes_at(table: &Table) -> Result<Shape, Finding>
 }
 
 /// The elements of the array of demands.
-#[tactic(auto, unfolding(crate::specs::Demands::asked_at))]
+#[tactic(auto, unfolding(crate::specs::Demands::asked_at, crate::specs::Elements::read_each))]
 fn asked_at(alloc: Global, table: &Table) -> Result<Vec<Demand>, Failure>
     ensures { Gives (λ demands. demands.items) result (spec.asked_at (table_view table.now)) }
 {
     match tables_at(table, Place::Top, Key::Demand, MOST_DEMANDS)? {
         Some(array) => demands_from(alloc, array),
-        None => demands_from(alloc, &Vec::new(alloc)),
+        None => Ok(Vec::new(alloc)),
     }
 }
 

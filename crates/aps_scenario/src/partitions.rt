@@ -68,8 +68,8 @@ fn is_partition(rows: &[PartitionRow], name: &Name) -> bool
     rows.iter().any(|row| name.text() == row.name.text())
 }
 
-/// The partition after these rows: its budget is at most what its parent has left.
-#[tactic(auto, unfolding(crate::specs::Partitions::partition_at))]
+/// The partition after these rows.
+#[tactic(auto, unfolding(crate::specs::Partitions::partition_at, crate::specs::Partitions::partition_values))]
 fn next_partition(parts: u16, rows: &[PartitionRow], value: &Value) -> Result<PartitionRow, Finding>
     requires some { 0 < length rows.now }
     requires few { length rows.now ≤ 32 }
@@ -82,6 +82,24 @@ fn next_partition(parts: u16, rows: &[PartitionRow], value: &Value) -> Result<Pa
     only(&PARTITION_KEYS, place, table)?;
     let name = name_at(table, place, Key::Name, None)?;
     refuse_if(is_partition(rows, &name), Kind::Duplicate, place, Key::Name)?;
+    partition_values(parts, rows, place, name, table)
+}
+
+/// The partition of this name, by its other keys: its budget is at most what its parent has left.
+#[tactic(auto, unfolding(crate::specs::Partitions::partition_values))]
+fn partition_values(
+    parts: u16,
+    rows: &[PartitionRow],
+    place: Place,
+    name: Name,
+    table: &Table,
+) -> Result<PartitionRow, Finding>
+    requires some { 0 < length rows.now }
+    requires few { length rows.now ≤ 32 }
+    ensures is { result ≡ spec.partition_values parts rows.now place name (table_view table.now) }
+    ensures parent { IfOk result (λ new. new.parent < length rows.now) }
+    ensures funded { IfOk result (λ new. new.budget ≤ (row_or_none rows.now new.parent).budget) }
+{
     let parent = partition_id_at(table, place, Key::Parent, rows)?;
     let most = u64::from(parts);
     let budget = integer_at(table, place, Key::Budget, 0, most, 1, None)?;
@@ -149,12 +167,12 @@ fn partitions_of(alloc: Global, parts: u16, array: &Array) -> Result<Vec<Partiti
 }
 
 /// The partitions of the top table, the root first.
-#[tactic(auto, unfolding(crate::specs::Partitions::partitions_at))]
+#[tactic(auto, unfolding(crate::specs::Partitions::partitions_at, crate::specs::Elements::read_each))]
 pub fn partitions_at(alloc: Global, parts: u16, table: &Table) -> Result<Vec<PartitionRow>, Failure>
     ensures { Gives (λ rows. rows.items) result (spec.partitions_at parts (table_view table.now)) }
 {
     match tables_at(table, Place::Top, Key::Partition, MOST_PARTITIONS)? {
         Some(array) => partitions_of(alloc, parts, array),
-        None => partitions_of(alloc, parts, &Vec::new(alloc)),
+        None => Ok(system(alloc, parts)?),
     }
 }

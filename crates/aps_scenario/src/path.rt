@@ -127,7 +127,7 @@ impl PathText {
         ensures is { result ≡ spec.prefix_text place }
         ensures short { length result ≤ 18 }
     {
-        if place == Place::Top {
+        if let Place::Top = place {
             return PathText::empty();
         }
         let mut path = PathText::of_place(place);

@@ -26,7 +26,7 @@ pub enum ScenarioRefusal {
 }
 
 /// A table: the top one, or an element of an array by its index.
-#[derive(Clone, Copy, PartialEq, Eq)]
+#[derive(Clone, Copy)]
 pub enum Place {
     Top,
     Partition(u16),

@@ -36,7 +36,7 @@ fn is_thread(threads: &[ThreadRow], name: &Name) -> bool
 
 /// The thread after these ones, where these are the partitions, the channels and the names that
 /// may be joined.
-#[tactic(auto, unfolding(crate::specs::Threads::thread_at))]
+#[tactic(auto, unfolding(crate::specs::Threads::thread_at, crate::specs::Threads::thread_values))]
 fn next_thread(
     alloc: Global,
     partitions: &[PartitionRow],
@@ -57,6 +57,27 @@ fn next_thread(
     only(&THREAD_KEYS, place, table)?;
     let name = name_at(table, place, Key::Name, None)?;
     refuse_if(is_thread(threads, &name), Kind::Duplicate, place, Key::Name)?;
+    thread_values(alloc, partitions, channels, joinable, index, name, table)
+}
+
+/// The thread of this index and this name, by its other keys.
+#[tactic(auto, unfolding(crate::specs::Threads::thread_values))]
+fn thread_values(
+    alloc: Global,
+    partitions: &[PartitionRow],
+    channels: &[Name],
+    joinable: &[Name],
+    index: u16,
+    name: Name,
+    table: &Table,
+) -> Result<ThreadRow, Failure>
+    requires some_partition { 0 < length partitions.now }
+    requires few_partitions { length partitions.now ≤ 32 }
+    requires few_channels { length channels.now ≤ 256 }
+    ensures { Gives (λ row. row) result
+        (spec.thread_values partitions.now channels.now joinable.now index name (table_view table.now)) }
+{
+    let place = Place::Thread(index);
     let partition = partition_id_at(table, place, Key::Partition, partitions)?;
     let priority = integer_at(table, place, Key::Priority, 1, 255, 1, Some(10))? as u8;
     let policy = policy_at(table, place)?;
@@ -97,7 +118,7 @@ fn threads_of(
 
 /// The threads of the top table, where these are the partitions, the channels and the names that
 /// may be joined.
-#[tactic(auto, unfolding(crate::specs::Threads::threads_at))]
+#[tactic(auto, unfolding(crate::specs::Threads::threads_at, crate::specs::Elements::read_each))]
 pub fn threads_at(
     alloc: Global,
     partitions: &[PartitionRow],
@@ -112,6 +133,6 @@ pub fn threads_at(
 {
     match tables_at(table, Place::Top, Key::Thread, MOST_THREADS)? {
         Some(array) => threads_of(alloc, partitions, channels, joinable, array),
-        None => threads_of(alloc, partitions, channels, joinable, &Vec::new(alloc)),
+        None => Ok(Vec::new(alloc)),
     }
 }

@@ -7,7 +7,7 @@ use Rattle.aps_model.specs.declared.entry.Done.{Done}
 use Rattle.aps_model.specs.declared.entry.Done.TheVariants.{Nothing, Run, Yield, SendBlocked, SendTo, ReceiveBlocked, ReceiveGot, ReceiveHolding, ReplyFreed, ReplyNoClient, Join, JoinNone, Priority, CriticalOn, CriticalOff, Repeat, Exit}
 use Rattle.aps_model.specs.Journal.{done_text, thread_in}
 use Rattle.aps_text.specs.Reader.{◌>>=◌, Reading, word_at, whole_word, after, nothing_at, number_at}
-use Rattle.aps_text.specs.Operation.{named_at, critical_at, join_at, send_at, receive_at, repeat_at, run_at, done_at}
+use Rattle.aps_text.specs.Operation.{named_at, critical_at, join_at, send_at, holding_at, receive_at, repeat_at, run_at, later_at, done_at}
 use Rattle.aps_text.proofs.Readers.{IsReader, IsInhabited, BeginsOther, SpellsAfter, SpellsBehind, SpellsWord, SpellsMade, IsReader-nothing, IsReader-after, IsReader-behind, IsReader-word, IsReader-made, IsReader-restated, after_begins_other, word_begins_other, behind_begins_other, nothing_begins_other, made_begins_other}
 use Rattle.aps_text.proofs.Numbers.{SpellsNumber, IsReader-number, number_begins_other}
 
@@ -95,6 +95,7 @@ abbrev SpellsCritical : List ℕ → Done → Type 0
 SpellsCritical = SpellsBehind (codes "ritical:o") (SpellsAfter 110 (SpellsWord (codes " ") CriticalOn) (SpellsWord (codes "ff ") CriticalOff))
 
 part_critical : IsPart (codes "c") critical_at SpellsCritical
+unfolding critical_at
 part_critical =
     part_behind (codes "c") (codes "ritical:o") _ _
     (part_after (codes "critical:o") 110 _ _ _ _ (part_word (codes "critical:on") (codes " ") CriticalOn refl tt) (part_word (codes "critical:o") (codes "ff ") CriticalOff refl tt)
@@ -104,6 +105,7 @@ abbrev SpellsJoin : List ℕ → Done → Type 0
 SpellsJoin = SpellsBehind (codes "oin") (SpellsAfter 58 (SpellsWord (codes "none ") JoinNone) (SpellsWord (codes " ") Join))
 
 part_join : IsPart (codes "j") join_at SpellsJoin
+unfolding join_at
 part_join =
     part_behind (codes "j") (codes "oin") _ _
     (part_after (codes "join") 58 _ _ _ _ (part_word (codes "join:") (codes "none ") JoinNone refl tt) (part_word (codes "join") (codes " ") Join refl tt)
@@ -113,6 +115,7 @@ abbrev SpellsSend : List ℕ → Done → Type 0
 SpellsSend = SpellsBehind (codes "end:") (SpellsAfter 98 (SpellsWord (codes "locked ") SendBlocked) (SpellsNamed SendTo))
 
 part_send : IsPart (codes "s") send_at SpellsSend
+unfolding send_at
 part_send =
     part_behind (codes "s") (codes "end:") _ _
     (part_after (codes "send:") 98 _ _ _ _ (part_word (codes "send:b") (codes "locked ") SendBlocked refl tt)
@@ -125,6 +128,7 @@ abbrev SpellsReceive : List ℕ → Done → Type 0
 SpellsReceive = SpellsBehind (codes "eive:") (SpellsAfter 98 (SpellsWord (codes "locked ") ReceiveBlocked) SpellsHeld)
 
 part_receive : IsPart (codes "rec") receive_at SpellsReceive
+unfolding receive_at holding_at
 part_receive =
     part_behind (codes "rec") (codes "eive:") _ _
     (part_after (codes "receive:") 98 _ _ _ SpellsHeld (part_word (codes "receive:b") (codes "locked ") ReceiveBlocked refl tt)
@@ -137,6 +141,7 @@ abbrev SpellsRepeat : List ℕ → Done → Type 0
 SpellsRepeat = SpellsAfter 108 (SpellsBehind (codes "y:") (SpellsAfter 110 (SpellsWord (codes "one ") ReplyNoClient) (SpellsNamed ReplyFreed))) (SpellsWord (codes "eat ") Repeat)
 
 part_repeat : IsPart (codes "rep") repeat_at SpellsRepeat
+unfolding repeat_at
 part_repeat =
     part_after (codes "rep") 108 _ _ _ _
     (part_behind (codes "repl") (codes "y:") _ _
@@ -149,6 +154,7 @@ abbrev SpellsRun : List ℕ → Done → Type 0
 SpellsRun = SpellsAfter 117 (SpellsWord (codes "n ") Run) (SpellsBehind (codes "e") (SpellsAfter 99 SpellsReceive (SpellsBehind (codes "p") SpellsRepeat)))
 
 part_run : IsPart (codes "r") run_at SpellsRun
+unfolding run_at
 part_run =
     part_after (codes "r") 117 _ _ _ _ (part_word (codes "ru") (codes "n ") Run refl tt)
     (part_behind (codes "r") (codes "e") _ _
@@ -202,6 +208,7 @@ c_other : (byte : ℕ) → byte < 99 → BeginsOther byte SpellsFromC
 c_other byte low = after_begins_other byte 99 SpellsCritical SpellsFromE (λ e. omega arith) (e_other byte (omega arith))
 
 part_done : IsPart [] done_at SpellsTree
+unfolding done_at later_at
 part_done =
     part_after [] 45 _ _ _ SpellsFromC (part_word (codes "-") (codes " ") Nothing refl tt)
     (part_after [] 99 _ _ SpellsCritical SpellsFromE part_critical

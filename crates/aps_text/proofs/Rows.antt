@@ -2,6 +2,7 @@
 use lib.Chars.{codes}
 use Rattle.std.proofs.Common.{◌≡◌, ℕ, true, false, Option, Some, None, refl}
 use Rattle.aps_text.specs.Line.{line_at}
+use Rattle.aps_text.specs.Operation.{done_at, later_at, run_at, receive_at, holding_at, repeat_at}
 use Rattle.aps_text.specs.Place.{Place}
 use Rattle.aps_text.specs.Whole.{begins_journal, first_bad_place}
 
@@ -25,19 +26,19 @@ unfolding line_at
 moment_too_late = refl
 
 ninth_field_last : first_bad_place (codes "0 0 0 - - - - - -\n") ≡ at 1 18
-unfolding line_at
+unfolding line_at done_at
 ninth_field_last = refl
 
 eleven_fields : first_bad_place (codes "0 0 0 - - - - - - - -\n") ≡ at 1 20
-unfolding line_at
+unfolding line_at done_at
 eleven_fields = refl
 
 no_newline : first_bad_place (codes "0 0 0 - - - - - - -\n0 0 0 - - - - - - -") ≡ at 2 20
-unfolding line_at
+unfolding line_at done_at
 no_newline = refl
 
 a_journal : first_bad_place (codes "0 0 0 - - - - - - -\n0 0 0 - - - receive:holding:2 - - -\n") ≡ None
-unfolding line_at
+unfolding line_at done_at later_at run_at receive_at holding_at
 a_journal = refl
 
 nothing : first_bad_place (codes "") ≡ None
@@ -45,9 +46,9 @@ unfolding line_at
 nothing = refl
 
 begun : begins_journal (codes "0 0 0 - - - rep") ≡ true
-unfolding line_at
+unfolding line_at done_at later_at run_at repeat_at
 begun = refl
 
 not_begun : begins_journal (codes "0 0 0 - - - rex") ≡ false
-unfolding line_at
+unfolding line_at done_at later_at run_at
 not_begun = refl

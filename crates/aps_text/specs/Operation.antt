@@ -10,41 +10,41 @@ abbrev pub named_at : (ℕ → Done) → List ℕ → Reading Done
 named_at make bytes = number_at 1023 32 bytes >>= λ n. Ok (make n.0, n.1)
 
 -- behind 'c': on or off
-abbrev pub critical_at : List ℕ → Reading Done
+unfoldable pub critical_at : List ℕ → Reading Done
 critical_at bytes = word_at (codes "ritical:o") bytes >>= after 110 (whole_word (codes " ") CriticalOn) (whole_word (codes "ff ") CriticalOff)
 
 -- behind 'j'
-abbrev pub join_at : List ℕ → Reading Done
+unfoldable pub join_at : List ℕ → Reading Done
 join_at bytes = word_at (codes "oin") bytes >>= after 58 (whole_word (codes "none ") JoinNone) (whole_word (codes " ") Join)
 
 -- behind 's': 'b' begins `blocked`
-abbrev pub send_at : List ℕ → Reading Done
+unfoldable pub send_at : List ℕ → Reading Done
 send_at bytes = word_at (codes "end:") bytes >>= after 98 (whole_word (codes "locked ") SendBlocked) (named_at SendTo)
 
 -- behind 'receive:h'
-abbrev pub holding_at : List ℕ → Reading Done
+unfoldable pub holding_at : List ℕ → Reading Done
 holding_at bytes = word_at (codes "olding:") bytes >>= named_at ReceiveHolding
 
 -- behind 'rec': 'b' begins `blocked`, 'h' `holding`
-abbrev pub receive_at : List ℕ → Reading Done
+unfoldable pub receive_at : List ℕ → Reading Done
 receive_at bytes = word_at (codes "eive:") bytes >>= after 98 (whole_word (codes "locked ") ReceiveBlocked)
     (after 104 holding_at (named_at ReceiveGot))
 
 -- behind 'rep': 'l' goes on to `reply`, where 'n' begins `none`
-abbrev pub repeat_at : List ℕ → Reading Done
+unfoldable pub repeat_at : List ℕ → Reading Done
 repeat_at = after 108 (λ rest. word_at (codes "y:") rest >>= after 110 (whole_word (codes "one ") ReplyNoClient) (named_at ReplyFreed))
     (whole_word (codes "eat ") Repeat)
 
 -- behind 'r': 'u' goes on to `run`; behind 'e' stand 'c' of `receive`, and 'p'
-abbrev pub run_at : List ℕ → Reading Done
+unfoldable pub run_at : List ℕ → Reading Done
 run_at = after 117 (whole_word (codes "n ") Run)
     (λ bytes. word_at (codes "e") bytes >>= after 99 receive_at (λ rest. word_at (codes "p") rest >>= repeat_at))
 
 -- by a first byte from 'p' on: 'p', 'r', 's' or 'y'
-abbrev pub later_at : List ℕ → Reading Done
+unfoldable pub later_at : List ℕ → Reading Done
 later_at = after 112 (whole_word (codes "riority ") Priority) (after 114 run_at (after 115 send_at (after 121 (whole_word (codes "ield ") Yield) nothing_at)))
 
 -- by the first byte: '-', 'c', 'e', 'j', 'p', 'r', 's' or 'y'
-abbrev pub done_at : List ℕ → Reading Done
+unfoldable pub done_at : List ℕ → Reading Done
 done_at = after 45 (whole_word (codes " ") Nothing) (after 99 critical_at (after 101 (whole_word (codes "xit ") Exit)
     (after 106 join_at later_at)))

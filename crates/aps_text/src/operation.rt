@@ -8,6 +8,7 @@ use crate::fields::{Reading, thread, word};
 use aps_model::{Done, ThreadId};
 
 /// What an operation did, and a space.
+#[tactic(auto, unfolding(crate::specs::Operation::done_at))]
 pub fn done(bytes: &[u8]) -> Reading<Done>
     ensures { Gives (λ x. (x.0, x.1.now)) result (done_at bytes.now) }
 {
@@ -21,6 +22,7 @@ pub fn done(bytes: &[u8]) -> Reading<Done>
 }
 
 // One of those whose words begin with a byte from `p` on.
+#[tactic(auto, unfolding(crate::specs::Operation::later_at))]
 fn later(bytes: &[u8]) -> Reading<Done>
     ensures { Gives (λ x. (x.0, x.1.now)) result (later_at bytes.now) }
 {
@@ -41,6 +43,7 @@ fn constant<'a>(bytes: &'a [u8], rest_of_word: &[u8], done: Done) -> Reading<'a,
 }
 
 // Behind `c`.
+#[tactic(auto, unfolding(crate::specs::Operation::critical_at))]
 fn critical(bytes: &[u8]) -> Reading<Done>
     ensures { Gives (λ x. (x.0, x.1.now)) result (critical_at bytes.now) }
 {
@@ -52,6 +55,7 @@ fn critical(bytes: &[u8]) -> Reading<Done>
 }
 
 // Behind `j`.
+#[tactic(auto, unfolding(crate::specs::Operation::join_at))]
 fn join(bytes: &[u8]) -> Reading<Done>
     ensures { Gives (λ x. (x.0, x.1.now)) result (join_at bytes.now) }
 {
@@ -63,6 +67,7 @@ fn join(bytes: &[u8]) -> Reading<Done>
 }
 
 // Behind `s`.
+#[tactic(auto, unfolding(crate::specs::Operation::send_at))]
 fn send(bytes: &[u8]) -> Reading<Done>
     ensures { Gives (λ x. (x.0, x.1.now)) result (send_at bytes.now) }
 {
@@ -75,6 +80,7 @@ fn send(bytes: &[u8]) -> Reading<Done>
 }
 
 // Behind `r`: `run`, or a word that goes on with `e`.
+#[tactic(auto, unfolding(crate::specs::Operation::run_at))]
 fn run(bytes: &[u8]) -> Reading<Done>
     ensures { Gives (λ x. (x.0, x.1.now)) result (run_at bytes.now) }
 {
@@ -89,6 +95,7 @@ fn run(bytes: &[u8]) -> Reading<Done>
 }
 
 // Behind `rec`.
+#[tactic(auto, unfolding(crate::specs::Operation::receive_at))]
 fn receive(bytes: &[u8]) -> Reading<Done>
     ensures { Gives (λ x. (x.0, x.1.now)) result (receive_at bytes.now) }
 {
@@ -101,6 +108,7 @@ fn receive(bytes: &[u8]) -> Reading<Done>
 }
 
 // Behind `receive:h`.
+#[tactic(auto, unfolding(crate::specs::Operation::holding_at))]
 fn holding(bytes: &[u8]) -> Reading<Done>
     ensures { Gives (λ x. (x.0, x.1.now)) result (holding_at bytes.now) }
 {
@@ -117,6 +125,7 @@ fn got(bytes: &[u8]) -> Reading<Done>
 }
 
 // Behind `rep`: `reply` or `repeat`.
+#[tactic(auto, unfolding(crate::specs::Operation::repeat_at))]
 fn repeat(bytes: &[u8]) -> Reading<Done>
     ensures { Gives (λ x. (x.0, x.1.now)) result (repeat_at bytes.now) }
 {

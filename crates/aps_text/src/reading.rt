@@ -1,5 +1,5 @@
 //! A journal read back.
-ghost use Rattle.std.specs.Prelude.{◌≡◌, ◌≤◌, IfOk, IfErr, MatchResult, List, length};
+ghost use Rattle.std.specs.Prelude.{◌≡◌, ◌≤◌, IfOk, IfErr, IfSome, MatchResult, List, length};
 ghost use Rattle.aps_model.specs.declared.entry.Entry.{Entry as PlainEntry};
 ghost use Rattle.aps_model.specs.Journal.{IsJournal};
 ghost use Rattle.aps_text.specs.Reader.{Gives};
@@ -74,13 +74,46 @@ fn line(bytes: &[u8]) -> Reading<Entry>
         from,
         to,
         done,
-        ran: ran.map(|thread| ThreadId::at(thread as usize)),
-        picked: picked.map(|thread| ThreadId::at(thread as usize)),
-        billed: billed.map(|partition| PartitionId::at(partition as usize)),
-        starved: starved.map(|partition| PartitionId::at(partition as usize)),
-        flagged: flagged.map(|cpu| CpuId::at(cpu as usize)),
+        ran: thread_of(ran),
+        picked: thread_of(picked),
+        billed: partition_of(billed),
+        starved: partition_of(starved),
+        flagged: cpu_of(flagged),
         cpu: CpuId::at(cpu as usize),
         critical,
     };
     Ok((entry, rest))
+}
+
+// The thread of this number, where there is one.
+fn thread_of(number: Option<u64>) -> Option<ThreadId>
+    requires { IfSome number (λ n. n ≤ 1023) }
+    ensures { result ≡ number }
+{
+    match number {
+        Some(number) => Some(ThreadId::at(number as usize)),
+        None => None,
+    }
+}
+
+// The partition of this number, where there is one.
+fn partition_of(number: Option<u64>) -> Option<PartitionId>
+    requires { IfSome number (λ n. n ≤ 31) }
+    ensures { result ≡ number }
+{
+    match number {
+        Some(number) => Some(PartitionId::at(number as usize)),
+        None => None,
+    }
+}
+
+// The processor of this number, where there is one.
+fn cpu_of(number: Option<u64>) -> Option<CpuId>
+    requires { IfSome number (λ n. n ≤ 15) }
+    ensures { result ≡ number }
+{
+    match number {
+        Some(number) => Some(CpuId::at(number as usize)),
+        None => None,
+    }
 }

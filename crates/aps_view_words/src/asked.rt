@@ -1,5 +1,5 @@
 //! The report that a list of words asks for.
-ghost use Rattle.std.specs.Prelude.{◌≡◌, [], drop, map, string_bytes, true, IfOk, IfSome};
+ghost use Rattle.std.specs.Prelude.{◌≡◌, [], ◌∷◌, drop, map, string_bytes, true, IfOk, IfSome};
 ghost use Rattle.clap.specs.Words.{first_value, found_of};
 ghost use Rattle.aps_words.specs.Command.{Says};
 ghost use Rattle.aps_words.specs.Plain.{is_plain};
@@ -92,7 +92,16 @@ pub fn asked_of(alloc: Global, words: &[String]) -> Result<Asked, WordsRefusal>
     if !is_plain(alloc, options)? {
         return Err(WordsRefusal::Words);
     }
-    match word.as_str() {
+    plainly_asked(alloc, word.as_str(), words)
+}
+
+/// What this word asks for, which is the first of the words, with the options behind it.
+fn plainly_asked(alloc: Global, word: &str, words: &[String]) -> Result<Asked, WordsRefusal>
+    requires plain { is_plain [] (drop 1 (map string_bytes words.now)) ≡ true }
+    ensures same { Says result (spec.asked (word.now ∷ drop 1 (map string_bytes words.now))) }
+    ensures ranges { IfOk result spec.HasRanges }
+{
+    match word {
         "cycles" => limited(alloc, words, Report::Cycles),
         "csv" => csv_of(alloc, words),
         "timeline" => picture_of(alloc, words, Picture::Timeline),
@@ -115,10 +124,9 @@ fn limited(alloc: Global, words: &[String], report: Report) -> Result<Asked, Wor
     ensures same { Says result (with_unhyphened spec.limit_options (spec.limited report) (drop 1 (map string_bytes words.now))) }
     ensures ranges { IfOk result spec.HasRanges }
 {
-    let matches = matches_in(limit_options(alloc)?, words)?;
-    match limited_from(&matches, report) {
-        Some(asked) => Ok(asked),
-        None => Err(WordsRefusal::Words),
+    match matches_in(limit_options(alloc)?, words) {
+        Ok(matches) => said(limited_from(&matches, report)),
+        Err(refusal) => Err(refusal),
     }
 }
 
@@ -128,10 +136,9 @@ fn csv_of(alloc: Global, words: &[String]) -> Result<Asked, WordsRefusal>
     ensures same { Says result (with_unhyphened spec.ticks_options spec.csv (drop 1 (map string_bytes words.now))) }
     ensures ranges { IfOk result spec.HasRanges }
 {
-    let matches = matches_in(ticks_options(alloc)?, words)?;
-    match csv_from(&matches) {
-        Some(asked) => Ok(asked),
-        None => Err(WordsRefusal::Words),
+    match matches_in(ticks_options(alloc)?, words) {
+        Ok(matches) => said(csv_from(&matches)),
+        Err(refusal) => Err(refusal),
     }
 }
 
@@ -141,10 +148,9 @@ fn picture_of(alloc: Global, words: &[String], picture: Picture) -> Result<Asked
     ensures same { Says result (with_unhyphened spec.ticks_options (spec.picture picture) (drop 1 (map string_bytes words.now))) }
     ensures ranges { IfOk result spec.HasRanges }
 {
-    let matches = matches_in(ticks_options(alloc)?, words)?;
-    match picture_from(&matches, picture) {
-        Some(asked) => Ok(asked),
-        None => Err(WordsRefusal::Words),
+    match matches_in(ticks_options(alloc)?, words) {
+        Ok(matches) => said(picture_from(&matches, picture)),
+        Err(refusal) => Err(refusal),
     }
 }
 
@@ -161,8 +167,19 @@ fn explain_of(alloc: Global, words: &[String]) -> Result<Asked, WordsRefusal>
     ensures same { Says result (with_unhyphened spec.thread_options spec.explain (drop 1 (map string_bytes words.now))) }
     ensures ranges { IfOk result spec.HasRanges }
 {
-    let matches = matches_in(thread_options(alloc)?, words)?;
-    match explain_from(&matches) {
+    match matches_in(thread_options(alloc)?, words) {
+        Ok(matches) => said(explain_from(&matches)),
+        Err(refusal) => Err(refusal),
+    }
+}
+
+/// What the options ask for, where they ask for something.
+fn said(asked: Option<Asked>) -> Result<Asked, WordsRefusal>
+    requires { IfSome asked spec.HasRanges }
+    ensures same { Says result asked }
+    ensures ranges { IfOk result spec.HasRanges }
+{
+    match asked {
         Some(asked) => Ok(asked),
         None => Err(WordsRefusal::Words),
     }

@@ -1,5 +1,5 @@
 //! The command that a list of words is.
-ghost use Rattle.std.specs.Prelude.{◌≡◌, ◌≤◌, [], drop, map, string_bytes, true, IfOk, IfSome};
+ghost use Rattle.std.specs.Prelude.{◌≡◌, ◌≤◌, [], ◌∷◌, drop, map, string_bytes, true, IfOk, IfSome};
 ghost use Rattle.clap.specs.Words.{first_value, found_of};
 ghost use Rattle.aps_words.specs.Command as spec;
 ghost use Rattle.aps_words.specs.Plain.{is_plain};
@@ -92,7 +92,22 @@ pub fn command_of(alloc: Global, words: &[String]) -> Result<Command, WordsRefus
     if !is_plain(alloc, options)? {
         return Err(WordsRefusal::Words);
     }
-    match word.as_str() {
+    plain_command(alloc, word.as_str(), options, words)
+}
+
+/// The command that this word and these options behind it are, which are the words.
+fn plain_command(
+    alloc: Global,
+    word: &str,
+    options: &[String],
+    words: &[String],
+) -> Result<Command, WordsRefusal>
+    requires plain { is_plain [] (drop 1 (map string_bytes words.now)) ≡ true }
+    requires options { map string_bytes options.now ≡ drop 1 (map string_bytes words.now) }
+    ensures same { spec.Says result (spec.command (word.now ∷ drop 1 (map string_bytes words.now))) }
+    ensures ranges { IfOk result spec.HasRanges }
+{
+    match word {
         "solo" => solo_of(alloc, words),
         "run" => run_of(alloc, words),
         "gen" => gen_of(alloc, words),
@@ -121,10 +136,9 @@ fn solo_of(alloc: Global, words: &[String]) -> Result<Command, WordsRefusal>
     ensures same { spec.Says result (spec.with_options spec.solo_options spec.solo (drop 1 (map string_bytes words.now))) }
     ensures ranges { IfOk result spec.HasRanges }
 {
-    let matches = matches_in(solo_options(alloc)?, words)?;
-    match solo_from(&matches) {
-        Some(command) => Ok(command),
-        None => Err(WordsRefusal::Words),
+    match matches_in(solo_options(alloc)?, words) {
+        Ok(matches) => said(solo_from(&matches)),
+        Err(refusal) => Err(refusal),
     }
 }
 
@@ -134,10 +148,9 @@ fn run_of(alloc: Global, words: &[String]) -> Result<Command, WordsRefusal>
     ensures same { spec.Says result (spec.with_options spec.run_options spec.run (drop 1 (map string_bytes words.now))) }
     ensures ranges { IfOk result spec.HasRanges }
 {
-    let matches = matches_in(run_options(alloc)?, words)?;
-    match run_from(&matches) {
-        Some(command) => Ok(command),
-        None => Err(WordsRefusal::Words),
+    match matches_in(run_options(alloc)?, words) {
+        Ok(matches) => said(run_from(&matches)),
+        Err(refusal) => Err(refusal),
     }
 }
 
@@ -147,10 +160,9 @@ fn gen_of(alloc: Global, words: &[String]) -> Result<Command, WordsRefusal>
     ensures same { spec.Says result (spec.with_options spec.gen_options spec.gen (drop 1 (map string_bytes words.now))) }
     ensures ranges { IfOk result spec.HasRanges }
 {
-    let matches = matches_in(gen_options(alloc)?, words)?;
-    match gen_from(&matches) {
-        Some(command) => Ok(command),
-        None => Err(WordsRefusal::Words),
+    match matches_in(gen_options(alloc)?, words) {
+        Ok(matches) => said(gen_from(&matches)),
+        Err(refusal) => Err(refusal),
     }
 }
 
@@ -160,8 +172,19 @@ fn check_of(alloc: Global, words: &[String]) -> Result<Command, WordsRefusal>
     ensures same { spec.Says result (spec.with_options spec.check_options spec.check (drop 1 (map string_bytes words.now))) }
     ensures ranges { IfOk result spec.HasRanges }
 {
-    let matches = matches_in(check_options(alloc)?, words)?;
-    match check_from(&matches) {
+    match matches_in(check_options(alloc)?, words) {
+        Ok(matches) => said(check_from(&matches)),
+        Err(refusal) => Err(refusal),
+    }
+}
+
+/// The command that the options say, where they say one.
+fn said(command: Option<Command>) -> Result<Command, WordsRefusal>
+    requires { IfSome command spec.HasRanges }
+    ensures same { spec.Says result command }
+    ensures ranges { IfOk result spec.HasRanges }
+{
+    match command {
         Some(command) => Ok(command),
         None => Err(WordsRefusal::Words),
     }

@@ -1,27 +1,20 @@
-use Rattle.std.proofs.Common.{codes, Ok, Err, sym, ◌∙◌}
-use Rattle.std.proofs.lemmas.Result.{err_from_is_err_and}
+use Rattle.std.proofs.Common.{codes, Option, Ok, Err, subst, sym, ◌∙◌}
+use Rattle.aps_words.specs.Command.{Says}
 use Rattle.aps_words.proofs.Reading.{meant_unhyphened, refusal_says}
+use Rattle.aps_view_words.specs.declared.asked.Asked.{Asked}
 use Rattle.aps_view_words.specs.Asked.{explain, thread_options}
 use Rattle.aps_view_words.proofs.Meaning.{explain_is_clapped}
 use Rattle.aps_view_words.proofs.asked.explain_of.Goals as goal
 
-pub returns-in_err-matches-clause-same : goal.returns-in_err-matches-clause-same
-returns-in_err-matches-clause-same c =
-    let e = c.in_err-matches.ensures in
-    let p = err_from_is_err_and c.from_residual-in_err-matches.result c.from_residual-in_err-matches.ensures.1 in
-    rw (p.1, p.2) (refusal_says explain _ _ (meant_unhyphened (codes "apsview") thread_options explain explain_is_clapped _ c.args.words.now (Err c.in_err-matches.field-0.0)
-    c.in_ok-thread_options.ensures c.requires.plain e.taken e.rows e.refused))
+pub returns-in-Ok-clause-same : goal.returns-in-Ok-clause-same
+returns-in-Ok-clause-same c =
+    let e = c.in-Ok.ensures in
+    let read = meant_unhyphened (codes "apsview") thread_options explain explain_is_clapped _ c.args.words.now (Ok c.in-Ok.matches)
+    c.in_ok-thread_options.ensures c.requires.plain e.taken e.rows e.refused in
+    subst (λ (said : Option Asked). Says c.said.result said) (c.explain_from.ensures.same ∙ sym read) c.said.ensures.same
 
-pub returns-in-Some-clause-same : goal.returns-in-Some-clause-same
-returns-in-Some-clause-same c =
-    let e = c.in_ok-matches.ensures in
-    meant_unhyphened (codes "apsview") thread_options explain explain_is_clapped _ c.args.words.now (Ok c.in_ok-matches.matches)
-    c.in_ok-thread_options.ensures c.requires.plain e.taken e.rows e.refused
-    ∙ sym c.in-Some.ensures.same
-
-pub returns-clause-same : goal.returns-clause-same
-returns-clause-same c =
-    let e = c.in_ok-matches.ensures in
-    meant_unhyphened (codes "apsview") thread_options explain explain_is_clapped _ c.args.words.now (Ok c.in_ok-matches.matches)
-    c.in_ok-thread_options.ensures c.requires.plain e.taken e.rows e.refused
-    ∙ sym c.in-None.ensures.same
+pub returns-in-Err-clause-same : goal.returns-in-Err-clause-same
+returns-in-Err-clause-same c =
+    let e = c.in-Err.ensures in
+    refusal_says explain _ _ (meant_unhyphened (codes "apsview") thread_options explain explain_is_clapped _ c.args.words.now (Err c.in-Err.refusal)
+    c.in_ok-thread_options.ensures c.requires.plain e.taken e.rows e.refused)

@@ -1,27 +1,19 @@
-use Rattle.std.proofs.Common.{codes, Ok, Err, sym, ◌∙◌}
-use Rattle.std.proofs.lemmas.Result.{err_from_is_err_and}
-use Rattle.aps_words.specs.Command.{run, run_options}
+use Rattle.std.proofs.Common.{codes, Option, Ok, Err, subst, sym, ◌∙◌}
+use Rattle.aps_words.specs.declared.command.Command.{Command}
+use Rattle.aps_words.specs.Command.{run, run_options, Says}
 use Rattle.aps_words.proofs.Meaning.{run_is_read}
 use Rattle.aps_words.proofs.Reading.{meant, refusal_says}
 use Rattle.aps_words.proofs.command.run_of.Goals as goal
 
-pub returns-in_err-matches-clause-same : goal.returns-in_err-matches-clause-same
-returns-in_err-matches-clause-same c =
-    let e = c.in_err-matches.ensures in
-    let p = err_from_is_err_and c.from_residual-in_err-matches.result c.from_residual-in_err-matches.ensures.1 in
-    rw (p.1, p.2) (refusal_says run _ _ (meant (codes "run") run_options run run_is_read _ c.args.words.now (Err c.in_err-matches.field-0.0)
-    c.in_ok-run_options.ensures c.requires.plain e.taken e.rows e.refused))
+pub returns-in-Ok-clause-same : goal.returns-in-Ok-clause-same
+returns-in-Ok-clause-same c =
+    let e = c.in-Ok.ensures in
+    let read = meant (codes "run") run_options run run_is_read _ c.args.words.now (Ok c.in-Ok.matches)
+    c.in_ok-run_options.ensures c.requires.plain e.taken e.rows e.refused in
+    subst (λ (said : Option Command). Says c.said.result said) (c.run_from.ensures.same ∙ sym read) c.said.ensures.same
 
-pub returns-in-Some-clause-same : goal.returns-in-Some-clause-same
-returns-in-Some-clause-same c =
-    let e = c.in_ok-matches.ensures in
-    meant (codes "run") run_options run run_is_read _ c.args.words.now (Ok c.in_ok-matches.matches)
-    c.in_ok-run_options.ensures c.requires.plain e.taken e.rows e.refused
-    ∙ sym c.in-Some.ensures.same
-
-pub returns-clause-same : goal.returns-clause-same
-returns-clause-same c =
-    let e = c.in_ok-matches.ensures in
-    meant (codes "run") run_options run run_is_read _ c.args.words.now (Ok c.in_ok-matches.matches)
-    c.in_ok-run_options.ensures c.requires.plain e.taken e.rows e.refused
-    ∙ sym c.in-None.ensures.same
+pub returns-in-Err-clause-same : goal.returns-in-Err-clause-same
+returns-in-Err-clause-same c =
+    let e = c.in-Err.ensures in
+    refusal_says run _ _ (meant (codes "run") run_options run run_is_read _ c.args.words.now (Err c.in-Err.refusal)
+    c.in_ok-run_options.ensures c.requires.plain e.taken e.rows e.refused)
