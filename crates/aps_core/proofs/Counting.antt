@@ -34,6 +34,9 @@ use Rattle.aps_window.specs.Window.{Window, advanced, billed, billed_on, opened,
 use Rattle.aps_window.proofs.Entries.{critical_same, overlap_whole, used_same}
 use Rattle.aps_window.proofs.Moves.{advanced_is}
 use Rattle.aps_window.proofs.Stands.{advanced_stands, advanced_whole, billed_on_is, billed_whole, opened_stands, opened_whole, resized_stands, total_stands}
+use Rattle.aps_critical.specs.Critical.{verdict}
+use Rattle.aps_critical.specs.declared.Bill.{Bill as Verdict}
+use Rattle.aps_critical.specs.declared.Bill.TheVariants.{Fine, Bankrupt}
 use Rattle.aps_core.specs.Counts.{CanBill, Counts, critical_in, part_in, parts_in, used_in}
 use Rattle.aps_core.specs.Part.{part_of}
 
@@ -240,24 +243,40 @@ total_critical shape h j w p c inside =
     ∙ (λ i. bills_critical bills p (c.tick i + 1 - c.span i) (c.tick i + 1))
     ∙ critical_same shape.tick h p (j + 1 - shape.window) (j + 1) c.each
 
--- what a look at the window tells of the partition
-pub read_critical : (shape : Shape) (h : List Entry) (j : ℕ) (w : Window) (p u : ℕ) → Counts shape h j w → ((bills : List Bill) → StandsFor w bills → u ≡ bills_critical bills p (w.tick + 1 - w.span) (w.tick + 1))
-    → u ≡ window_critical shape h j p
-read_critical shape h j w p u c stands =
+-- the verdict on the critical usage that the window has is that on the critical usage of the entries
+pub read_verdict : (shape : Shape) (h : List Entry) (j : ℕ) (w : Window) (p budget : ℕ) (v : Verdict) → Counts shape h j w
+    → ((bills : List Bill) → StandsFor w bills → v ≡ verdict (bills_critical bills p (w.tick + 1 - w.span) (w.tick + 1)) budget)
+    → v ≡ verdict (window_critical shape h j p) budget
+read_verdict shape h j w p budget v c stands =
     let bills = bills_of shape.tick h in
     stands bills c.stands
-    ∙ (λ i. bills_critical bills p (c.tick i + 1 - c.span i) (c.tick i + 1))
-    ∙ critical_same shape.tick h p (j + 1 - shape.window) (j + 1) c.each
+    ∙ (λ i. verdict (bills_critical bills p (c.tick i + 1 - c.span i) (c.tick i + 1)) budget)
+    ∙ ap (λ u. verdict u budget) (critical_same shape.tick h p (j + 1 - shape.window) (j + 1) c.each)
+
+-- the test that a verdict tells of
+fine_by : (used budget : ℕ) (t : Bool) → Fine ≡ cond t (Bankrupt used budget) Fine → t ≡ false
+fine_by used budget true e = cc
+fine_by used budget false e = refl
+
+pub fine_is : (used budget : ℕ) → Fine ≡ verdict used budget → nat_lt budget used ≡ false
+fine_is used budget e = fine_by used budget (nat_lt budget used) e
+
+bankrupt_is_by : (used budget a b : ℕ) (t : Bool) → Bankrupt a b ≡ cond t (Bankrupt used budget) Fine → t ≡ true
+bankrupt_is_by used budget a b true e = refl
+bankrupt_is_by used budget a b false e = cc
+
+pub bankrupt_is : (used budget a b : ℕ) → Bankrupt a b ≡ verdict used budget → nat_lt budget used ≡ true
+bankrupt_is used budget a b e = bankrupt_is_by used budget a b (nat_lt budget used) e
 
 -- the test of bankruptcy by that
-pub bankrupt_by : (s : SchedulerState) (h : List Entry) (e : Entry) (p budget spent : ℕ) (t : Bool) → e.critical ≡ true → e.from < e.to → e.billed ≡ Some p
-    → budget ≡ (row_at s p).critical → spent ≡ window_critical s.shape h (e.to / s.shape.tick) p → nat_lt budget spent ≡ t → cond t (Some p) None ≡ bankrupt s h e
-bankrupt_by s h e p budget spent t marked some is budget_is spent_is test =
+pub bankrupt_by : (s : SchedulerState) (h : List Entry) (e : Entry) (p budget : ℕ) (t : Bool) → e.critical ≡ true → e.from < e.to → e.billed ≡ Some p
+    → budget ≡ (row_at s p).critical → nat_lt budget (window_critical s.shape h (e.to / s.shape.tick) p) ≡ t → cond t (Some p) None ≡ bankrupt s h e
+bankrupt_by s h e p budget t marked some is budget_is test =
     let j = e.to / s.shape.tick in
     let long : nat_lt e.from e.to ≡ true = grind (arith, nat_tests) in
     sym ((λ i. cond (marked i && long i) (exceeding s h j e.billed) None)
     ∙ ap (exceeding s h j) is
-    ∙ (λ i. cond (nat_lt (sym budget_is i) (sym spent_is i)) (Some p) None)
+    ∙ (λ i. cond (nat_lt (sym budget_is i) (window_critical s.shape h j p)) (Some p) None)
     ∙ ap (λ b. cond b (Some p) None) test)
 
 -- lists of what is equal at each place

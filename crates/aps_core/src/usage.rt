@@ -1,6 +1,7 @@
 //! The window of ticks, as the steps turn it, and how each partition stands by it.
 ghost use Rattle.std.specs.Prelude.{◌≡◌, ◌≢◌, ℕ, ◌+◌, ◌-◌, ◌/◌, ◌<◌, ◌≤◌, ◌++◌, List, [], ◌∷◌, length, All, Some, false};
 ghost use Rattle.aps_model.specs.declared.entry.Entry.{Entry as EntryOf};
+ghost use Rattle.aps_model.specs.Budget.{has_standing};
 ghost use Rattle.aps_model.specs.History.{IsEntry};
 ghost use Rattle.aps_model.specs.Partition.{IsRow};
 ghost use Rattle.aps_model.specs.Shape.{IsShape};
@@ -9,6 +10,7 @@ ghost use Rattle.aps_core.specs.Counts.{CanBill, Counts, parts_in};
 ghost use Rattle.aps_core.specs.Part.{part_of};
 ghost use Rattle.aps_core.specs.Small.{IsSmall};
 
+use aps_critical::standing;
 use aps_model::{Entry, Nanos, PartFacts, PartitionId, PartitionRow, Shape, has_allowance};
 use aps_window::Window;
 
@@ -69,17 +71,17 @@ pub fn add_time(window: &mut Window, shape: &Shape, e: &Entry)
     }
 }
 
-/// The partition by its row, what it used, and what of that was critical.
-fn part_of(shape: &Shape, row: &PartitionRow, spent: Nanos, critical: Nanos) -> PartFacts
+/// The partition by its row, what it used, and whether it has critical budget left.
+fn part_of(shape: &Shape, row: &PartitionRow, spent: Nanos, standing: bool) -> PartFacts
     requires shape { IsShape shape.now }
     requires row { IsRow row.now }
     requires few { spent ≤ 64000000000 }
-    ensures same { result ≡ part_of shape.now row.now spent critical }
+    ensures same { (critical : ℕ) → standing ≡ has_standing critical row.now.critical → result ≡ part_of shape.now row.now spent critical }
     ensures small { IsSmall result }
 {
     PartFacts {
         funded: has_allowance(spent, row.budget, shape),
-        standing: critical < row.critical,
+        standing,
         shut: shape.limit && !has_allowance(spent, row.max, shape),
         used: spent,
         budget: row.budget,
@@ -93,7 +95,12 @@ pub fn part_by(shape: &Shape, row: &PartitionRow, window: &Window, p: PartitionI
     ensures same { result ≡ part_of shape.now row.now (total_of window.now p).billed (total_of window.now p).critical }
     ensures small { IsSmall result }
 {
-    part_of(shape, row, window.used(p), window.critical_used(p))
+    part_of(
+        shape,
+        row,
+        window.used(p),
+        standing(window, p, row.critical),
+    )
 }
 
 /// Each partition by its row and what the window has of it.

@@ -8,6 +8,7 @@ ghost use Rattle.aps_core.specs.Room.{changes_of_a_run};
 
 use super::Machine;
 use crate::append::push_change;
+use aps_critical::{Bill, after_bill, apply};
 use aps_model::{Bankruptcy, Change, ChangeKind, Entry, Nanos, PartitionId};
 use aps_window::Window;
 
@@ -32,10 +33,9 @@ impl Machine {
             return None;
         }
         let p = e.billed?;
-        if self.critical_budget(p) < window.critical_used(p) {
-            Some(p)
-        } else {
-            None
+        match after_bill(window, p, self.critical_budget(p)) {
+            Bill::Fine => None,
+            Bill::Bankrupt { .. } => Some(p),
         }
     }
 
@@ -48,7 +48,7 @@ impl Machine {
         if self.critical_budget(p) == 0 {
             return;
         }
-        self.tree.cancel(p);
+        apply(Bankruptcy::Cancel, &mut self.tree, p);
         let tick = tick as u32;
         let kind = ChangeKind::Cancelled(p);
         push_change(&mut self.changes, Change { tick, kind });
