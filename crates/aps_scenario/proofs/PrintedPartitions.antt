@@ -13,7 +13,7 @@ use Rattle.aps_model.specs.Valid.{IsTree}
 use Rattle.aps_scenario.specs.declared.refusal.Place.{Place}
 use Rattle.aps_scenario.specs.declared.refusal.Place.TheVariants as place
 use Rattle.aps_scenario.specs.Elements.{read_each}
-use Rattle.aps_scenario.specs.Partitions.{partition_at, is_partition, next_partition, partitions_from, rows_with_new, system}
+use Rattle.aps_scenario.specs.Partitions.{partition_at, partition_values, is_partition, next_partition, partitions_from, rows_with_new, system}
 use Rattle.aps_scenario.specs.PrintedTree.{given_back, rows_before, listed, listed_rows}
 use Rattle.aps_scenario.specs.PrintedPartitions.{partition_table}
 use Rattle.aps_scenario.proofs.PrintedElements.{read_each-push}
@@ -32,7 +32,7 @@ pub record IsNewRow (parts : ℕ) (before : List PartitionRow) (parent : List �
 
 pub partition-reads : (parts : ℕ) (before rows : List PartitionRow) (place : Place) (row : PartitionRow)
     → IsNewRow parts before (row_or_none rows row.parent).name row → partition_at parts before place (partition_table rows row) ≡ Ok row
-unfolding partition_at
+unfolding partition_at partition_values
 partition-reads parts before rows place row is =
     let parent = (row_or_none rows row.parent).name in
     let budget : row.budget ≤ parts = omega (arith, is.ranges.budget, is.ranges.max) in

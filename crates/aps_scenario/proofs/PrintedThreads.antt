@@ -24,7 +24,7 @@ use Rattle.aps_scenario.specs.Elements.{items_len}
 use Rattle.aps_scenario.specs.Key.{key_text}
 use Rattle.aps_scenario.specs.Program.{program_at, next_operation, operations_from, same_truth}
 use Rattle.aps_scenario.specs.Row.{word_in}
-use Rattle.aps_scenario.specs.Threads.{thread_at, threads_from, next_thread, is_thread}
+use Rattle.aps_scenario.specs.Threads.{thread_at, thread_values, threads_from, next_thread, is_thread}
 use Rattle.aps_scenario.specs.Words.{policy_words}
 use Rattle.aps_scenario.specs.PrintedOperation.{operation_text}
 use Rattle.aps_scenario.specs.PrintedThreads.{channel_table, thread_table, program_array}
@@ -116,7 +116,7 @@ module _ (channels joinable : List (List ℕ)) (named : All IsName channels) (di
   module _ (parts : ℕ) (partitions : List PartitionRow) (tree : IsTree parts partitions) where
     thread-reads : (before : List ThreadRow) (i : ℕ) (row : ThreadRow) → IsThreadRow (length partitions) (length channels) joinable row → is_thread before row.name ≡ false
         → thread_at partitions channels joinable before i (thread_table partitions channels row) ≡ Ok row
-    unfolding thread_at
+    unfolding thread_at thread_values
     thread-reads before i row is new =
         let own : IsFundedRow parts (row_or_none partitions row.partition) = All-get_or (IsFundedRow parts) partitions row.partition no_row is.partition tree.funded.each in
         let found : partition_named partitions (row_or_none partitions row.partition).name ≡ Some row.partition =

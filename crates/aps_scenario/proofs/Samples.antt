@@ -12,9 +12,9 @@ use Rattle.aps_scenario.specs.declared.refusal.Finding.{Finding}
 use Rattle.aps_scenario.specs.Reading.{scenario_at}
 use Rattle.aps_scenario.specs.Elements.{read_each}
 use Rattle.aps_scenario.specs.Sizes.{shape_at}
-use Rattle.aps_scenario.specs.Partitions.{partitions_at, partition_at}
+use Rattle.aps_scenario.specs.Partitions.{partitions_at, partition_at, partition_values}
 use Rattle.aps_scenario.specs.Channels.{channels_at, channel_at}
-use Rattle.aps_scenario.specs.Threads.{threads_at, thread_at}
+use Rattle.aps_scenario.specs.Threads.{threads_at, thread_at, thread_values}
 use Rattle.aps_scenario.specs.Program.{program_at}
 use Rattle.aps_scenario.specs.Commands.{commands_at, command_at}
 use Rattle.aps_scenario.specs.Calls.{create_at}
@@ -46,10 +46,10 @@ create = table (member (codes "budget") (integer (pos 5)) (member (codes "do") (
 
 one : programs (scenario_at (top (item (thread (codes "s") (item (string (codes "run 12")) (item (string (codes "send c")) (item (string (codes "join B")) (item (string (codes "repeat")) no_items))))) no_items) (item create no_items)))
     ≡ (Run 12 ∷ Send 0 ∷ Join (codes "B") ∷ Repeat ∷ []) ∷ []
-unfolding scenario_at shape_at partitions_at partition_at channels_at channel_at threads_at thread_at program_at read_each commands_at command_at create_at digits
+unfolding scenario_at shape_at partitions_at partition_at partition_values channels_at channel_at threads_at thread_at thread_values program_at read_each commands_at command_at create_at digits
 one = refl
 
 two : refusal_of (scenario_at (top (item (thread (codes "s") (item (string (codes "run 12")) (item (string (codes "send d")) no_items))) no_items) no_items))
     ≡ Some (record { kind = UnknownName; path = codes "thread[0].program[1]" })
-unfolding scenario_at shape_at partitions_at partition_at channels_at channel_at threads_at thread_at program_at read_each commands_at command_at create_at digits
+unfolding scenario_at shape_at partitions_at partition_at partition_values channels_at channel_at threads_at thread_at thread_values program_at read_each commands_at command_at create_at digits
 two = refl

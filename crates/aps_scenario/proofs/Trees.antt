@@ -24,7 +24,7 @@ use Rattle.aps_scenario.specs.declared.refusal.Place.{Place}
 use Rattle.aps_scenario.specs.declared.refusal.Place.TheVariants as place
 use Rattle.aps_scenario.specs.Row.{table_of, only, value_of, row_name, name, refuse_if}
 use Rattle.aps_scenario.specs.Elements.{items_len, row_tables}
-use Rattle.aps_scenario.specs.Partitions.{partition_at, next_partition, partition_keys, partition_of, or_unknown, row_partition, row_budget, row_critical, row_max, partitions_at, rows_with_new, system, is_partition}
+use Rattle.aps_scenario.specs.Partitions.{partition_at, partition_values, next_partition, partition_keys, partition_of, or_unknown, row_partition, row_budget, row_critical, row_max, partitions_at, rows_with_new, system, is_partition}
 use Rattle.aps_scenario.proofs.Lists.{list_any-map}
 use Rattle.aps_scenario.proofs.Values.{InRange, bind-ok, ok-same, refuse_if-ok, value_of-ok, named-ok, required-ok, defaulted-ok}
 use Rattle.aps_scenario.proofs.Elements.{read_each-keeps, tables-ok}
@@ -76,7 +76,7 @@ not_over left budget test = grind (arith, nat_tests, test)
 
 next_partition-ok : (parts : ℕ) (rows : List PartitionRow) (d : Data) (new : PartitionRow) → 0 < length rows
     → next_partition parts rows d ≡ Ok new → IsNew parts rows new
-unfolding partition_at
+unfolding partition_at partition_values
 next_partition-ok parts rows d new some e =
     let here : Place = place.Partition (length rows - 1) in
     let p = bind-ok (table_of here d) _ new e in

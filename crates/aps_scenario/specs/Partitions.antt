@@ -46,21 +46,7 @@ row_max budget parts = row_integer Max budget parts 1 (Some parts)
 abbrev pub is_partition : List PartitionRow → List ℕ → Bool
 is_partition rows name = list_any (λ (row : PartitionRow). bytes_eq name row.name) rows
 
--- a partition at this place, over these rows, of which the root is the first; its budget is at most what its parent has left
-unfoldable pub partition_at : ℕ → List PartitionRow → Place → Data → Result PartitionRow Finding
-partition_at parts rows place d = do
-  t ← table_of place d
-  known ← only partition_keys place t
-  name ← value_of (row_name Name None) place t
-  new ← refuse_if (is_partition rows name) Duplicate place Name
-  parent ← value_of (row_partition Parent rows) place t
-  budget ← value_of (row_budget parts) place t
-  critical ← value_of row_critical place t
-  max ← value_of (row_max budget parts) place t
-  funded ← refuse_if (nat_lt (row_or_none rows parent).budget budget) BudgetOver place Budget
-  Ok (record { name = name; parent = parent; budget = budget; critical = critical; max = max })
-
--- the partition of this name, by its other keys
+-- the partition of this name, by its other keys; its budget is at most what its parent has left
 unfoldable pub partition_values : ℕ → List PartitionRow → Place → List ℕ → Members → Result PartitionRow Finding
 partition_values parts rows place name t = do
   parent ← value_of (row_partition Parent rows) place t
@@ -69,6 +55,15 @@ partition_values parts rows place name t = do
   max ← value_of (row_max budget parts) place t
   funded ← refuse_if (nat_lt (row_or_none rows parent).budget budget) BudgetOver place Budget
   Ok (record { name = name; parent = parent; budget = budget; critical = critical; max = max })
+
+-- a partition at this place, over these rows, of which the root is the first
+unfoldable pub partition_at : ℕ → List PartitionRow → Place → Data → Result PartitionRow Finding
+partition_at parts rows place d = do
+  t ← table_of place d
+  known ← only partition_keys place t
+  name ← value_of (row_name Name None) place t
+  new ← refuse_if (is_partition rows name) Duplicate place Name
+  partition_values parts rows place name t
 
 -- the element after these rows, of which the root isn't one
 abbrev pub next_partition : ℕ → List PartitionRow → Data → Result PartitionRow Finding

@@ -34,20 +34,6 @@ row_critical_mark = row_truth Critical (Some false)
 abbrev pub is_thread : List ThreadRow → List ℕ → Bool
 is_thread threads name = list_any (λ (row : ThreadRow). bytes_eq name row.name) threads
 
--- thread i after these ones, where these are the partitions, the channels and the names that may be joined
-unfoldable pub thread_at : List PartitionRow → List (List ℕ) → List (List ℕ) → List ThreadRow → ℕ → Data → Result ThreadRow Finding
-thread_at partitions channels joinable threads i d = do
-  t ← table_of (place.Thread i) d
-  known ← only thread_keys (place.Thread i) t
-  name ← value_of (row_name Name None) (place.Thread i) t
-  new ← refuse_if (is_thread threads name) Duplicate (place.Thread i) Name
-  partition ← value_of (row_partition Partition partitions) (place.Thread i) t
-  priority ← value_of row_priority (place.Thread i) t
-  policy ← value_of row_policy (place.Thread i) t
-  critical ← value_of row_critical_mark (place.Thread i) t
-  program ← program_at channels joinable i t
-  Ok (record { name = name; partition = partition; priority = priority; policy = policy; critical = critical; program = program })
-
 -- thread i of this name, by its other keys
 unfoldable pub thread_values : List PartitionRow → List (List ℕ) → List (List ℕ) → ℕ → List ℕ → Members → Result ThreadRow Finding
 thread_values partitions channels joinable i name t = do
@@ -57,6 +43,15 @@ thread_values partitions channels joinable i name t = do
   critical ← value_of row_critical_mark (place.Thread i) t
   program ← program_at channels joinable i t
   Ok (record { name = name; partition = partition; priority = priority; policy = policy; critical = critical; program = program })
+
+-- thread i after these ones, where these are the partitions, the channels and the names that may be joined
+unfoldable pub thread_at : List PartitionRow → List (List ℕ) → List (List ℕ) → List ThreadRow → ℕ → Data → Result ThreadRow Finding
+thread_at partitions channels joinable threads i d = do
+  t ← table_of (place.Thread i) d
+  known ← only thread_keys (place.Thread i) t
+  name ← value_of (row_name Name None) (place.Thread i) t
+  new ← refuse_if (is_thread threads name) Duplicate (place.Thread i) Name
+  thread_values partitions channels joinable i name t
 
 abbrev pub next_thread : List PartitionRow → List (List ℕ) → List (List ℕ) → List ThreadRow → Data → Result ThreadRow Finding
 next_thread partitions channels joinable threads d = thread_at partitions channels joinable threads (length threads) d

@@ -69,7 +69,7 @@ fn is_partition(rows: &[PartitionRow], name: &Name) -> bool
 }
 
 /// The partition after these rows.
-#[tactic(auto, unfolding(crate::specs::Partitions::partition_at, crate::specs::Partitions::partition_values))]
+#[tactic(auto, unfolding(crate::specs::Partitions::partition_at))]
 fn next_partition(parts: u16, rows: &[PartitionRow], value: &Value) -> Result<PartitionRow, Finding>
     requires some { 0 < length rows.now }
     requires few { length rows.now ≤ 32 }

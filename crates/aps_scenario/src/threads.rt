@@ -36,7 +36,7 @@ fn is_thread(threads: &[ThreadRow], name: &Name) -> bool
 
 /// The thread after these ones, where these are the partitions, the channels and the names that
 /// may be joined.
-#[tactic(auto, unfolding(crate::specs::Threads::thread_at, crate::specs::Threads::thread_values))]
+#[tactic(auto, unfolding(crate::specs::Threads::thread_at))]
 fn next_thread(
     alloc: Global,
     partitions: &[PartitionRow],
