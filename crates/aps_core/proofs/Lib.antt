@@ -18,7 +18,9 @@ mod ClassesStay
 pub mod Boot
 pub mod Waking
 pub mod Turns
-pub mod Waiters
+pub mod Conversing
+pub mod Servers
+pub mod Inheriting
 pub mod Ready
 pub mod Taken
 pub mod Kept
