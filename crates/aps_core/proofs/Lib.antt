@@ -1,6 +1,5 @@
 pub mod Ranges
 pub mod Seats
-pub mod Unserved
 pub mod Touched
 pub mod SeatsStay
 pub mod Asleep
