@@ -62,6 +62,7 @@ impl Machine {
 
     /// A send of the thread to the channel. Where somebody waits there for a message, that thread begins to serve the
     /// sender and goes on; else the message waits, with the priority that the sender has now.
+    #[inline(never)]
     pub fn send(&mut self, scenario: &Scenario, x: ThreadId, c: ChannelId, now: Nanos) -> Done
         requires now { now ≤ 10000000000000 }
         requires channel { c < length self.old.channels }
@@ -83,6 +84,7 @@ impl Machine {
 
     /// A receive of the thread at the channel. A thread that holds a client gets no other one. Where a message waits,
     /// the thread begins to serve its sender; else the thread waits.
+    #[inline(never)]
     pub fn receive(&mut self, x: ThreadId, c: ChannelId) -> Done
         requires channel { c < length self.old.channels }
         requires room { HasRoom self.old x }
@@ -102,6 +104,7 @@ impl Machine {
     }
 
     /// A reply of the thread, which serves nobody then; the client that it held, if any, goes on.
+    #[inline(never)]
     pub fn reply(&mut self, scenario: &Scenario, x: ThreadId, now: Nanos) -> Done
         requires now { now ≤ 10000000000000 }
         requires room { HasRoom self.old x }
