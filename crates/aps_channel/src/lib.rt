@@ -1,5 +1,5 @@
-//! Messages between threads: who waits at which channel, and which server works for which client. The scheduler sends,
-//! receives and replies through `Channels`; no call after `new` takes memory, and none walks along what waits.
+//! Messages between threads: who waits at which channel, and which server works for which client. Threads send, receive
+//! and reply through `Channels`; no call after `new` takes memory, and none walks along what waits.
 #![tactic(auto)]
 
 mod channels;

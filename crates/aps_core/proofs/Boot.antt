@@ -1,5 +1,5 @@
 -- The state at the start of a scenario.
-use Rattle.std.proofs.Common.{◌≡◌, ℕ, zero, suc, ◌+◌, ◌≤◌, List, [], ◌∷◌, length, map, refl, ◌∙◌, ap, subst, replicate, arith}
+use Rattle.std.proofs.Common.{◌≡◌, ℕ, zero, suc, ◌+◌, ◌≤◌, List, [], ◌∷◌, length, map, min, refl, ◌∙◌, ap, subst, replicate, arith}
 use Rattle.aps_model.specs.declared.command.Change.{Change}
 use Rattle.aps_model.specs.declared.command.Reply.{Reply}
 use Rattle.aps_model.specs.declared.entry.Order.{Order}
@@ -9,6 +9,7 @@ use Rattle.aps_model.specs.declared.shape.Shape.{Shape}
 use Rattle.aps_model.specs.declared.state.CpuNow.{CpuNow}
 use Rattle.aps_model.specs.declared.state.ThreadNow.{ThreadNow}
 use Rattle.aps_model.specs.After.{After}
+use Rattle.aps_model.specs.Inherit.{Inheritance, inheritance_of}
 use Rattle.aps_model.specs.Opening.{first_state, opening, stamp_after, start_stamps, start_threads}
 use Rattle.aps_model.specs.Scenario.{Scenario}
 use Rattle.aps_model.specs.SchedulerState.{ChannelNow, SchedulerState, Triple, idle, no_channel}
@@ -30,13 +31,19 @@ no_channels : (names : List (List ℕ)) → replicate (length names) no_channel 
 no_channels [] = refl
 no_channels (name ∷ names) = ap (λ cs. no_channel ∷ cs) (no_channels names)
 
+-- all of its threads can wait
+pub all_threads : (scenario : Scenario) (n : ℕ) → IsScenario scenario → n ≡ min (length scenario.threads) 1024 → n ≡ length (opening scenario).threads
+all_threads scenario n valid is = omega (arith, is, valid.few_threads, threads_length scenario.shape 0 0 scenario.threads)
+
 -- it is one of a machine
-pub machine_opening : (scenario : Scenario) (parts replies changes : ℕ) → IsScenario scenario → parts ≡ scenario.shape.parts → 1024 ≤ replies → 2079 ≤ changes
-    → IsMachine (opening scenario) parts replies changes
-machine_opening scenario parts replies changes valid same room more = record {
+pub machine_opening : (scenario : Scenario) (waiters : ℕ) (inherit : Inheritance) (parts replies changes : ℕ) → IsScenario scenario → waiters ≡ length (opening scenario).threads → inherit ≡ inheritance_of (opening scenario)
+    → parts ≡ scenario.shape.parts → 1024 ≤ replies → 2079 ≤ changes → IsMachine (opening scenario) waiters inherit parts replies changes
+machine_opening scenario waiters inherit parts replies changes valid all inherits same room more = record {
   shape = valid.shape;
   few_threads = omega (arith, threads_length scenario.shape 0 0 scenario.threads, valid.few_threads);
   cpus = idle_length scenario.shape.cpus;
+  waiters = all;
+  inherits = inherits;
   parts = same;
   reply_room = room;
   change_room = more;

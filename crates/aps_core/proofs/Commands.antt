@@ -19,6 +19,7 @@ use Rattle.aps_model.specs.declared.shape.Free.{Free}
 use Rattle.aps_model.specs.declared.shape.Shape.{Shape}
 use Rattle.aps_model.specs.declared.state.ThreadNow.{ThreadNow}
 use Rattle.aps_model.specs.Command.{Performed, perform, shape_set}
+use Rattle.aps_model.specs.Inherit.{Inheritance}
 use Rattle.aps_model.specs.Scenario.{Scenario}
 use Rattle.aps_model.specs.SchedulerState.{SchedulerState, no_thread, thread_at}
 use Rattle.aps_model.specs.Shape.{IsShape}
@@ -68,15 +69,17 @@ performed_kept parts threads call rows shape view fits m =
     })
 
 -- the machine keeps its ranges
-pub performed_machine : (parts threads : ℕ) (call : Call) (view : CtlView) (s : SchedulerState) (rows : List PartitionRow) (shape : Shape) (tree_parts tree_parts' replies changes : ℕ)
-    → IsCall parts threads call → IsMachine s tree_parts replies changes → shape ≡ (perform call s.rows s.shape view).shape → tree_parts' ≡ tree_parts
-    → IsMachine (record s { rows = rows; shape = shape }) tree_parts' replies changes
-performed_machine parts threads call view s rows shape tree_parts tree_parts' replies changes fits m left same =
+pub performed_machine : (parts threads : ℕ) (call : Call) (view : CtlView) (s : SchedulerState) (rows : List PartitionRow) (shape : Shape) (waiters : ℕ) (inherit : Inheritance) (tree_parts tree_parts' replies changes : ℕ)
+    → IsCall parts threads call → IsMachine s waiters inherit tree_parts replies changes → shape ≡ (perform call s.rows s.shape view).shape → tree_parts' ≡ tree_parts
+    → IsMachine (record s { rows = rows; shape = shape }) waiters inherit tree_parts' replies changes
+performed_machine parts threads call view s rows shape waiters inherit tree_parts tree_parts' replies changes fits m left same =
     let kept : IsShapeKept s.shape shape = subst (IsShapeKept s.shape) (sym left) (performed_kept parts threads call s.rows s.shape view fits m.shape) in
     record {
       shape = kept.ranges;
       few_threads = m.few_threads;
       cpus = m.cpus ∙ sym kept.cpus;
+      waiters = m.waiters;
+      inherits = m.inherits;
       parts = same ∙ m.parts ∙ sym kept.parts;
       reply_room = m.reply_room;
       change_room = m.change_room;

@@ -1,6 +1,5 @@
 pub mod Ranges
 pub mod Seats
-pub mod Unserved
 pub mod Touched
 pub mod SeatsStay
 pub mod Asleep
@@ -18,7 +17,9 @@ mod ClassesStay
 pub mod Boot
 pub mod Waking
 pub mod Turns
-pub mod Waiters
+pub mod Conversing
+pub mod Servers
+pub mod Inheriting
 pub mod Ready
 pub mod Taken
 pub mod Kept

@@ -17,7 +17,7 @@ use Rattle.aps_model.specs.Shape.{horizon}
 use Rattle.aps_model.specs.Step.{Step, billed, pick, settled, step, tested, unless_rebooted}
 use Rattle.aps_model.specs.Tree.{rows_cancelled}
 use Rattle.aps_model.specs.Usage.{used}
-use Rattle.aps_model.specs.SchedulerState.{SchedulerState, cpu_at, no_thread, row_at}
+use Rattle.aps_model.specs.SchedulerState.{SchedulerState, cpu_at, no_thread, row_at, thread_at}
 use Rattle.aps_model.specs.Valid.{IsScenario}
 use Rattle.aps_model.proofs.AfterLaws.{after-append}
 use Rattle.aps_laws.specs.Between.{IsWellFormed, after_bill, after_tick, before_pick, bill_in}
@@ -36,14 +36,12 @@ use Rattle.aps_laws.proofs.Channels.{names_channels}
 use Rattle.aps_core.proofs.NextDues.{cpu_before, due_before}
 use Rattle.aps_laws.proofs.StampCounts.{few_stamps}
 use Rattle.aps_laws.proofs.StepOf.{horizon_same}
-use Rattle.aps_laws.proofs.ThreadFacts.{running_within}
 use Rattle.aps_laws.proofs.ThreadFit.{fits_law}
 use Rattle.aps_core.specs.Kept.{IsKept}
 use Rattle.aps_core.specs.Ready.{IsReady}
-use Rattle.aps_core.specs.Room.{HasRoom}
+use Rattle.aps_core.specs.Room.{CanFinish}
 use Rattle.aps_core.proofs.Frame.{chosen_kept, flagged_kept, kept_self, kept_then, settled_kept, spent_kept}
 use Rattle.aps_core.proofs.Turns.{due_now}
-use Rattle.aps_core.proofs.Waiters.{few_waiters}
 
 -- threads that stand at an operation of their programs stand at one of the first 256
 few_places : (scenario : Scenario) (rows : ℕ) (threads : List ThreadNow) → IsScenario scenario → length threads ≡ length scenario.threads → Each (IsThreadFit scenario rows) threads
@@ -64,16 +62,21 @@ short_since now threads early each x =
       | inr ge ↦ let past = ap (λ (t : ThreadNow). t.since) (get_or_past threads x no_thread ge) in omega (arith, past)
     ]
 
--- where a thread runs, and stamps are few
-room_at : (scenario : Scenario) (now x c : ℕ) (s : SchedulerState) → IsScenario scenario → IsWellFormed scenario now s → s.stamps ≤ 7000000000 → state_at s x ≡ Running c → HasRoom s
+-- where a thread runs, and stamps are few, it can end its operation
+room_at : (scenario : Scenario) (now x c : ℕ) (s : SchedulerState) → IsScenario scenario → IsWellFormed scenario now s → s.stamps ≤ 7000000000 → state_at s x ≡ Running c → CanFinish scenario s x
 room_at scenario now x c s valid well few runs =
-    let waiters = few_waiters s x c well.waiting (running_within s x c runs) runs in
-    let threads = valid.few_threads in
+    let names = names_channels scenario valid in
     record {
-      numbers = record { places = few_places scenario (length s.rows) s.threads valid well.threads well.fit; stamps = few };
-      messages = λ d. let a = waiters.messages d in omega (arith, a, threads, well.threads);
-      receivers = λ d. let a = waiters.receivers d in omega (arith, a, threads, well.threads);
-      triples = omega (arith, waiters.triples, threads, well.threads);
+      room = record {
+        numbers = record { places = few_places scenario (length s.rows) s.threads valid well.threads well.fit; stamps = few };
+        cpu = c;
+        runs = runs;
+        waiting = well.waiting;
+      };
+      named = record {
+        sends = λ d e. let lt = names.sends x (thread_at s x).place d e in omega (arith, lt, well.channels);
+        receives = λ d e. let lt = names.receives x (thread_at s x).place d e in omega (arith, lt, well.channels);
+      };
     }
 
 -- ---- what the steps in between leave

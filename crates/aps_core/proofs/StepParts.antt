@@ -1,7 +1,7 @@
 -- The parts of a step, as the code makes them.
 use Rattle.std.proofs.Common.{◌≡◌, ◌≢◌, ℕ, List, refl, sym, subst, ◌∙◌, ap, false, true, Option, Some, None}
 use Rattle.std.specs.Prelude.{is_some}
-use Rattle.std.specs.Option.{IsSome}
+use Rattle.std.specs.Option.{IfSome, IsSome}
 use Rattle.aps_model.specs.declared.entry.Entry.{Entry}
 use Rattle.aps_model.specs.declared.state.Pick.{Pick}
 use Rattle.aps_model.specs.Bill.{Tested, bill_of}
@@ -14,7 +14,7 @@ use Rattle.aps_model.specs.Step.{Step, begun, billed, pick, settled, step, teste
 use Rattle.aps_model.specs.TickWork.{tick_work}
 use Rattle.aps_laws.proofs.WaitFacts.{test_eq, test_ne}
 use Rattle.aps_laws.specs.Between.{after_bill, after_tick, before_pick, bill_in}
-use Rattle.aps_core.specs.Room.{HasRoom}
+use Rattle.aps_core.specs.Room.{CanFinish}
 
 -- what the parts of a step before the operation leave, with the test of bankruptcy
 pub record IsTested (scenario : Scenario) (s : SchedulerState) (h : List Entry) (c now : ℕ) (running : Option Pick) (e : Entry) (t : SchedulerState) (reboot : Option ℕ) : Type 0 where
@@ -118,9 +118,9 @@ settled_is scenario s h c now running e t reboot did b is =
     let there = tested_is scenario s h c now running e t reboot b in
     sym (ap (λ (x : Effect). x.state) is) ∙ (λ i. (settled scenario (there i) (b.at_due i) (b.ran i)).state)
 
--- where a thread ran there is room for its operation
+-- the thread that ran can end its operation
 pub room_after : (scenario : Scenario) (s : SchedulerState) (h : List Entry) (c now : ℕ) (running : Option Pick) (e : Entry) (t : SchedulerState) (reboot : Option ℕ)
-    → IsTested scenario s h c now running e t reboot → ((p : Pick) → (cpu_at s c).running ≡ Some p → HasRoom (after_bill scenario s h c)) → IsSome running → HasRoom t
-room_after scenario s h c now None e t reboot b room some = absurd cc
-room_after scenario s h c now (Some p) e t reboot b room some =
-    subst HasRoom (sym (tested_is scenario s h c now (Some p) e t reboot b)) (room p (sym b.ran))
+    → IsTested scenario s h c now running e t reboot → ((p : Pick) → (cpu_at s c).running ≡ Some p → CanFinish scenario (after_bill scenario s h c) p.thread) → IfSome running (λ (p : Pick). CanFinish scenario t p.thread)
+room_after scenario s h c now None e t reboot b room = tt
+room_after scenario s h c now (Some p) e t reboot b room =
+    subst (λ (u : SchedulerState). CanFinish scenario u p.thread) (sym (tested_is scenario s h c now (Some p) e t reboot b)) (room p (sym b.ran))

@@ -1,4 +1,5 @@
 pub mod Calls
+pub mod Conversation
 pub mod Classes
 pub mod Kept
 pub mod LastEnds
@@ -10,7 +11,6 @@ pub mod Ready
 pub mod Small
 pub mod Part
 pub mod Seats
-pub mod Serving
 pub mod Lowest
 pub mod Sleepers
 pub mod Touched

@@ -11,10 +11,10 @@ use Rattle.aps_laws.specs.Between.{after_bill, after_tick, before_pick, bill_in}
 use Rattle.aps_laws.specs.Moments.{moment}
 use Rattle.aps_laws.specs.Servers.{IsNobodysClient}
 use Rattle.aps_laws.specs.Stamps.{IsStamped}
-use Rattle.aps_core.specs.Room.{HasRoom, HasRoomToWake, changes_of_a_run, last_place, stamps_before}
+use Rattle.aps_core.specs.Room.{CanFinish, HasRoomToWake, changes_of_a_run, last_place, stamps_before}
 
 -- what a step of processor c rests on: the processor exists, its moments fit, so does what its parts make greater,
--- its thread is nobody's client and runs on no other one, and stamps differ
+-- its thread can end its operation, is nobody's client and runs on no other one, and stamps differ
 pub record IsReady (scenario : Scenario) (s : SchedulerState) (h : List Entry) (c : ℕ) : Type 0 where
   pub exists : c < length s.cpus
   pub forward : last_end h c ≤ due s h c
@@ -23,7 +23,7 @@ pub record IsReady (scenario : Scenario) (s : SchedulerState) (h : List Entry) (
   pub early : due s h c ≤ 10000000000000
   pub wakes : HasRoomToWake last_place stamps_before s
   pub since : (x : ℕ) → (thread_at (after_tick scenario s h c) x).since ≤ 10000000000000
-  pub room : (p : Pick) → (cpu_at s c).running ≡ Some p → HasRoom (after_bill scenario s h c)
+  pub room : (p : Pick) → (cpu_at s c).running ≡ Some p → CanFinish scenario (after_bill scenario s h c) p.thread
   pub replies : length (after_tick scenario s h c).replies ≤ 1024
   pub changes_ticked : length (after_tick scenario s h c).changes ≤ changes_of_a_run
   pub changes_billed : length (after_bill scenario s h c).changes ≤ changes_of_a_run

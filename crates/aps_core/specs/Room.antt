@@ -1,4 +1,9 @@
-use Rattle.std.specs.Prelude.{ℕ, ◌<◌, ◌≤◌, length}
+use Rattle.std.specs.Prelude.{◌≡◌, ℕ, ◌<◌, ◌≤◌, length}
+use Rattle.aps_laws.specs.Waits.{IsWaiting, state_at}
+use Rattle.aps_model.specs.declared.program.Op.{Op}
+use Rattle.aps_model.specs.declared.program.Op.TheVariants.{Receive, Send}
+use Rattle.aps_model.specs.declared.state.State.TheVariants.{Running}
+use Rattle.aps_model.specs.Scenario.{Scenario, op_at}
 use Rattle.aps_model.specs.SchedulerState.{SchedulerState, channel_at, thread_at}
 
 -- the greatest place of a thread in its program, which has at most 256 operations: past the last one
@@ -23,9 +28,20 @@ pub record HasRoomToWake (place stamp : ℕ) (s : SchedulerState) : Type 0 where
   pub places : (x : ℕ) → (thread_at s x).place ≤ place
   pub stamps : s.stamps ≤ stamp
 
--- the numbers that an operation raises have room, and so have the lists that it makes longer
-pub record HasRoom (s : SchedulerState) : Type 0 where
+-- the numbers that an operation of the thread raises have room; the thread runs, and each thread waits where its state says,
+-- so that this one waits nowhere
+pub record HasRoom (s : SchedulerState) (x : ℕ) : Type 0 where
   pub numbers : HasRoomToWake last_place stamps_within s
-  pub messages : (c : ℕ) → length (channel_at s c).messages < 1024
-  pub receivers : (c : ℕ) → length (channel_at s c).receivers < 1024
-  pub triples : length s.triples < 1024
+  pub cpu : ℕ
+  pub runs : state_at s x ≡ Running cpu
+  pub waiting : IsWaiting (state_at s) (channel_at s) s.triples
+
+-- the operation names one of so many channels, if it names a channel
+pub record NamesIn (channels : ℕ) (op : Op) : Type 0 where
+  pub sends : (c : ℕ) → op ≡ Send c → c < channels
+  pub receives : (c : ℕ) → op ≡ Receive c → c < channels
+
+-- the thread can end its operation
+pub record CanFinish (scenario : Scenario) (s : SchedulerState) (x : ℕ) : Type 0 where
+  pub room : HasRoom s x
+  pub named : NamesIn (length s.channels) (op_at scenario x (thread_at s x).place)

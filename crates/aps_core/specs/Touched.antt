@@ -23,7 +23,8 @@ abbrev pub is_exit : Done → Bool
 is_exit Exit = true
 is_exit done = false
 
--- the operation had to do with no other thread, nor with what waits at a channel
+-- the operation had to do with no other thread's wait or values, nor with a message that waits at a channel; of an exit that
+-- isn't known
 abbrev pub is_alone : Done → Bool
 is_alone SendBlocked = false
 is_alone (SendTo y) = false

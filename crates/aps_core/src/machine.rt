@@ -22,7 +22,6 @@ ghost use Rattle.aps_core.specs.Sleepers.{sleepers_of};
 mod asking;
 mod bankruptcy;
 mod bill;
-mod channel;
 mod commands;
 mod effect;
 mod flag;
@@ -38,7 +37,6 @@ mod start;
 mod sync;
 mod threads;
 mod timer;
-mod triple;
 pub mod wake;
 
 use crate::dues::Dues;
@@ -46,7 +44,9 @@ use crate::ends::Ends;
 use crate::posts::Posts;
 use crate::standing::Standing;
 use crate::{due, usage};
+use aps_channel::Channels;
 use aps_ctl::Ctl;
+use aps_inherit::Inherit;
 use aps_model::{
     Change, Contender, CpuId, CpuNow, Entry, Facts, Nanos, PartitionId, PartitionRow, Reply,
     Scenario, Shape, ThreadId, ThreadNow,
@@ -55,9 +55,7 @@ use aps_ready::Ready;
 use aps_timer::Timer;
 use aps_tree::Tree;
 use aps_window::Window;
-use channel::Channel;
 use std::marker::Model;
-use triple::Triples;
 use wake::Woken;
 
 /// Everything that stands between two steps, beside the history. Contracts see it as the scheduler state of the
@@ -67,8 +65,8 @@ pub struct Machine {
     shape: Shape,
     threads: Vec<ThreadNow>,
     stamps: u64,
-    channels: Vec<Channel>,
-    triples: Triples,
+    channels: Channels,
+    inherit: Inherit,
     cpus: Vec<CpuNow>,
     replies: Vec<Reply>,
     changes: Vec<Change>,
@@ -83,7 +81,7 @@ impl Drop for Machine {
             threads: _,
             stamps: _,
             channels: _,
-            triples: _,
+            inherit: _,
             cpus: _,
             replies: _,
             changes: _,
@@ -102,7 +100,7 @@ impl Model for Machine {
 
     ghost view = { state_of };
 
-    ghost invariant = { λ m. IsMachine (state_of m) m.tree.parts (vec_capacity m.replies) (vec_capacity m.changes) };
+    ghost invariant = { λ m. IsMachine (state_of m) m.channels.threads m.inherit m.tree.parts (vec_capacity m.replies) (vec_capacity m.changes) };
 }
 
 impl Machine {

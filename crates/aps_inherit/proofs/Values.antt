@@ -275,7 +275,8 @@ channel_begins i kept c first e right = rw (e, rest_of-first (servers i.triples)
     by x true there h = sym (ap (λ b. b && serves_by i c x) there) ∙ h
     by x false gone h = ap (λ o. is_by o c) (triple_of-has i.triples x gone)
 
-rest_now : (i : Inheritance) (server : ℕ) (now next : Option ℕ) → AreChains i.triples
+-- the rest of the servers from this one on begins with it
+pub rest_now : (i : Inheritance) (server : ℕ) (now next : Option ℕ) → AreChains i.triples
     → now ≡ Some server → IsThere (servers i.triples) now → next ≡ after_in (servers i.triples) server
     → rest_of (servers i.triples) now ≡ server ∷ rest_of (servers i.triples) next
 rest_now i server now next chains e1 there e2 =

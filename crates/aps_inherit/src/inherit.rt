@@ -88,7 +88,8 @@ impl Inherit {
 
     /// The server of the newest triple. There is none exactly where nobody serves.
     pub fn newest_server(&self) -> Option<ThreadId>
-        ensures { result ≡ first_of (servers self.now.triples) }
+        ensures same { result ≡ first_of (servers self.now.triples) }
+        ensures chains { AreChains self.now.triples }
     {
         self.content.newest()
     }

@@ -1,17 +1,17 @@
-ghost use Rattle.std.specs.Prelude.{◌≡◌, ◌≤◌};
+ghost use Rattle.std.specs.Prelude.{◌≡◌, ◌<◌, ◌≤◌, ◌^◌, length};
 ghost use Rattle.aps_model.specs.Effect.{effect, joined};
 ghost use Rattle.aps_model.specs.Operation.{with_stamped};
 ghost use Rattle.aps_model.specs.Partition.{partition_named};
-ghost use Rattle.aps_model.specs.SchedulerState.{thread_at, with_own};
-ghost use Rattle.aps_core.specs.Room.{HasRoom};
+ghost use Rattle.aps_model.specs.SchedulerState.{thread_at};
+ghost use Rattle.aps_core.specs.Room.{HasRoom, NamesIn};
 
 use super::Machine;
-use aps_model::{Done, Facts, Name, Nanos, Op, Scenario, State, ThreadId, ThreadNow};
+use aps_model::{Done, Name, Nanos, Op, Scenario, State, ThreadId};
 
 impl Machine {
     /// The thread has the next stamp, and else is as it was.
     fn stamp_anew(&mut self, x: ThreadId)
-        requires room { HasRoom self.old }
+        requires { self.old.stamps < 2 ^ 63 }
         ensures { self.new ≡ with_stamped self.old x (thread_at self.old x) }
     {
         let thread = self.thread(x);
@@ -25,40 +25,25 @@ impl Machine {
         let Some(partition) = self.tree.lookup(*name) else {
             return Done::JoinNone;
         };
-        let own = self.thread(x).own;
-        self.set_own(x, Facts { partition, ..own });
+        self.set_partition(x, partition);
         Done::Join
     }
 
     /// The thread has this priority of its own, and the next stamp.
     fn set_priority(&mut self, x: ThreadId, priority: u8)
-        requires room { HasRoom self.old }
+        requires { self.old.stamps < 2 ^ 63 }
         ensures { self.new ≡ with_stamped self.old x
             (record (thread_at self.old x) { own = record (thread_at self.old x).own { priority = priority } }) }
     {
-        let thread = self.thread(x);
-        let own = thread.own;
-        self.set_stamped(
-            x,
-            ThreadNow {
-                own: Facts { priority, ..own },
-                ..thread
-            },
-        );
-    }
-
-    /// The thread is critical of its own, or isn't.
-    pub fn mark(&mut self, x: ThreadId, critical: bool)
-        ensures { self.new ≡ with_own self.old x (record (thread_at self.old x).own { critical = critical }) }
-    {
-        let own = self.thread(x).own;
-        self.set_own(x, Facts { critical, ..own });
+        self.set_own_priority(x, priority);
+        self.stamp_anew(x);
     }
 
     /// The effect of the thread's operation, which is over. The answer says what it did.
     pub fn effect(&mut self, scenario: &Scenario, x: ThreadId, now: Nanos, op: &Op) -> Done
         requires now { now ≤ 10000000000000 }
-        requires room { HasRoom self.old }
+        requires room { HasRoom self.old x }
+        requires named { NamesIn (length self.old.channels) op.now }
         ensures { effect scenario.now self.old x now op.now ≡ record { state = self.new; done = result } }
     {
         match op {

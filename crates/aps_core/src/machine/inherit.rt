@@ -1,41 +1,34 @@
 ghost use Rattle.std.specs.Prelude.{◌≡◌};
-ghost use Rattle.aps_model.specs.Inherit.{facts_of, inheritance_of, top_at};
-ghost use Rattle.aps_model.specs.SchedulerState.{thread_at};
+ghost use Rattle.aps_inherit.specs.Order.{after_in, first_of};
+ghost use Rattle.aps_inherit.specs.Serving.{AreChains, servers};
+ghost use Rattle.aps_model.specs.Inherit.{facts_of};
 
 use super::Machine;
-use aps_model::{ChannelId, Facts, ThreadId};
+use aps_model::{Facts, ThreadId};
 
 impl Machine {
-    /// The greatest priority that waits at the channel, or 0.
-    fn top(&self, c: ChannelId) -> u8
-        ensures { result ≡ top_at (inheritance_of self.now).tops c }
-    {
-        match self.channels.get(c.index()) {
-            Some(channel) => channel.top(),
-            None => 0,
-        }
-    }
-
     /// The values that the thread is scheduled and billed by. Those of a server are its client's, and so on along the
     /// chain to a thread that serves nobody, with the greatest priority of all that waits at the channels of the chain.
+    #[inline(always)]
     pub fn facts_of(&self, x: ThreadId) -> Facts
         ensures { result ≡ facts_of self.now x }
     {
-        if !self.triples.ever_served(x) {
-            return self.thread(x).own;
-        }
-        let mut last = x;
-        let mut priority = 0;
-        for t in self.triples.as_slice() {
-            if t.server() == last {
-                priority = self.top(t.channel()).max(priority);
-                last = t.client();
-            }
-        }
-        let own = self.thread(last).own;
-        Facts {
-            priority: own.priority.max(priority),
-            ..own
-        }
+        self.inherit.of(x)
+    }
+
+    /// The server of the newest triple. There is none exactly where nobody serves.
+    pub fn newest_server(&self) -> Option<ThreadId>
+        ensures same { result ≡ first_of (servers self.now.triples) }
+        ensures chains { AreChains self.now.triples }
+    {
+        self.inherit.newest_server()
+    }
+
+    /// The server of the next older triple than this server's. There is none where its triple is the oldest one, or
+    /// where it serves nobody.
+    pub fn older_server(&self, server: ThreadId) -> Option<ThreadId>
+        ensures { result ≡ after_in (servers self.now.triples) server }
+    {
+        self.inherit.older_server(server)
     }
 }

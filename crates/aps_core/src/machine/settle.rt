@@ -1,9 +1,9 @@
-ghost use Rattle.std.specs.Prelude.{◌≡◌, ◌<◌, ◌≤◌, ◌^◌, All, IsSome};
+ghost use Rattle.std.specs.Prelude.{◌≡◌, ◌<◌, ◌≤◌, ◌^◌, length, IfSome};
 ghost use Rattle.aps_model.specs.Operation.{is_slice_over};
 ghost use Rattle.aps_model.specs.Scenario.{thread_row};
 ghost use Rattle.aps_model.specs.SchedulerState.{thread_at};
 ghost use Rattle.aps_model.specs.Step.{do_op, enter_next, finish_op, give_back, settled};
-ghost use Rattle.aps_core.specs.Room.{HasRoom};
+ghost use Rattle.aps_core.specs.Room.{CanFinish, HasRoom, NamesIn};
 
 use super::{Machine, operation};
 use aps_model::{Done, Nanos, Op, Pick, Policy, Scenario, Shape, State, ThreadId, ThreadNow};
@@ -28,7 +28,8 @@ impl Machine {
     /// The thread does the operation, which is over, and goes on.
     fn do_op(&mut self, scenario: &Scenario, x: ThreadId, now: Nanos, op: &Op) -> Done
         requires now { now ≤ 10000000000000 }
-        requires room { HasRoom self.old }
+        requires room { HasRoom self.old x }
+        requires named { NamesIn (length self.old.channels) op.now }
         ensures { do_op scenario.now self.old x now op.now ≡ record { state = self.new; done = result } }
     {
         let done = self.effect(scenario, x, now, op);
@@ -39,7 +40,7 @@ impl Machine {
     /// The thread's operation has its effect, if nothing is left of it.
     fn finish_op(&mut self, scenario: &Scenario, x: ThreadId, now: Nanos) -> Done
         requires now { now ≤ 10000000000000 }
-        requires room { HasRoom self.old }
+        requires room { CanFinish scenario.now self.old x }
         ensures { finish_op scenario.now self.old x now (thread_at self.old x).left ≡ record { state = self.new; done = result } }
     {
         let thread = self.thread(x);
@@ -74,7 +75,7 @@ impl Machine {
     /// What the operation did whose thread ran, if it is over. A thread that still runs goes back to the ready ones.
     pub fn settle(&mut self, scenario: &Scenario, now: Nanos, running: &Option<Pick>) -> Done
         requires now { now ≤ 10000000000000 }
-        requires room { IsSome running.now → HasRoom self.old }
+        requires room { IfSome running.now (λ p. CanFinish scenario.now self.old p.thread) }
         ensures { settled scenario.now self.old now running.now ≡ record { state = self.new; done = result } }
     {
         let Some(pick) = running else {

@@ -1,11 +1,11 @@
-ghost use Rattle.std.specs.Prelude.{◌≡◌, ◌≤◌, length, replicate, IfOk};
+ghost use Rattle.std.specs.Prelude.{◌≡◌, ◌≤◌, replicate, IfOk};
 ghost use Rattle.aps_model.specs.Opening.{first_op, opening, stamp_after, start_stamps, start_threads, started};
 ghost use Rattle.aps_model.specs.Scenario.{thread_row};
-ghost use Rattle.aps_model.specs.SchedulerState.{idle, no_channel};
+ghost use Rattle.aps_model.specs.SchedulerState.{idle};
 
-use super::channel::Channel;
-use super::triple::Triples;
 use super::{Machine, operation};
+use aps_channel::Channels;
+use aps_inherit::Inherit;
 use aps_model::{CpuNow, Facts, NoMemory, Scenario, Shape, State, ThreadId, ThreadNow, ThreadRow};
 use aps_tree::Tree;
 use std::alloc::Global;
@@ -24,8 +24,9 @@ impl Machine {
         let shape = *scenario.shape();
         let tree = Tree::of_rows(alloc, shape.parts, scenario.partitions())?;
         let (threads, stamps) = start_threads(alloc, scenario)?;
-        let channels = start_channels(alloc, scenario.channels().len())?;
-        let triples = Triples::new(alloc)?;
+        let count = scenario.channels().len() as u16;
+        let channels = Channels::new(alloc, count, scenario.threads().len() as u16)?;
+        let inherit = Inherit::new(alloc, scenario)?;
         let cpus = start_cpus(alloc, shape.cpus)?;
         Ok(Machine {
             tree,
@@ -33,7 +34,7 @@ impl Machine {
             threads,
             stamps,
             channels,
-            triples,
+            inherit,
             cpus,
             replies: Vec::with_capacity(alloc, MOST_REPLIES)?,
             changes: Vec::with_capacity(alloc, MOST_CHANGES)?,
@@ -96,17 +97,6 @@ fn start_threads(alloc: Global, scenario: &Scenario) -> Result<(Vec<ThreadNow>, 
         threads.push(thread)?;
     }
     Ok((threads, next))
-}
-
-/// Channels at which nobody waits.
-fn start_channels(alloc: Global, count: usize) -> Result<Vec<Channel>, NoMemory>
-    ensures { IfOk result (λ v. v.items ≡ replicate count no_channel) }
-{
-    let mut channels = Vec::with_capacity(alloc, count)?;
-    for _ in 0..count {
-        channels.push(Channel::new(alloc)?)?;
-    }
-    Ok(channels)
 }
 
 /// Idle processors.

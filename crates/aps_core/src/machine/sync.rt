@@ -38,7 +38,8 @@ impl Machine {
         }
     }
 
-    /// The queues have the ready threads, where they had them but for this one, if there is one, which isn't in.
+    /// The queues have the ready threads, where every other thread than this one was as it should be, and this one, if it is
+    /// one, wasn't in.
     #[inline(always)]
     fn sync_own(&self, ready: &mut Ready, own: &Option<ThreadId>)
         requires count { length ready.old ≡ length self.now.threads }
@@ -77,7 +78,8 @@ impl Machine {
         self.enter_servers(ready, servers);
     }
 
-    /// Each of those who woke isn't in, unless it is as it should be.
+    /// Each of those who woke isn't in, unless it is as it should be. Whoever was as it should be stays so, and whoever wasn't
+    /// in isn't in, or is as it should be.
     fn leave_woken(&self, ready: &mut Ready, woken: &Woken)
         ensures own { (x : ℕ) → woke woken.now x ≡ true → IsSeated self.now ready.new x }
         ensures seated { (y : ℕ) → IsSeated self.now ready.old y → IsSeated self.now ready.new y }
@@ -89,7 +91,7 @@ impl Machine {
         }
     }
 
-    /// Each of those who woke is in, if it should be, where it isn't in otherwise.
+    /// Each of those who woke is as it should be, where before whoever was in was as it should be. That stays so of all.
     fn enter_woken(&self, ready: &mut Ready, woken: &Woken)
         requires count { length ready.old ≡ length self.now.threads }
         requires stamped { IsStamped self.now.threads self.now.stamps }
@@ -104,7 +106,8 @@ impl Machine {
         }
     }
 
-    /// The thread, if there is one, isn't in, unless it is as it should be.
+    /// The thread, if this is one, isn't in, unless it is as it should be. Whoever was as it should be stays so, and whoever
+    /// wasn't in isn't in, or is as it should be.
     fn leave_one(&self, ready: &mut Ready, one: &Option<ThreadId>)
         ensures own { (x : ℕ) → one.now ≡ Some x → IsSeated self.now ready.new x }
         ensures seated { (y : ℕ) → IsSeated self.now ready.old y → IsSeated self.now ready.new y }
@@ -116,7 +119,7 @@ impl Machine {
         }
     }
 
-    /// The thread, if there is one, is in, if it should be, where it isn't in otherwise.
+    /// The thread, if this is one, is as it should be, where before whoever was in was as it should be. That stays so of all.
     fn enter_one(&self, ready: &mut Ready, one: &Option<ThreadId>)
         requires count { length ready.old ≡ length self.now.threads }
         requires stamped { IsStamped self.now.threads self.now.stamps }
@@ -131,21 +134,26 @@ impl Machine {
         }
     }
 
-    /// Each server, if they count, isn't in, unless it is as it should be.
+    /// Each server, if they count, isn't in, unless it is as it should be. Whoever was as it should be stays so, and whoever
+    /// wasn't in isn't in, or is as it should be.
     fn leave_servers(&self, ready: &mut Ready, servers: bool)
         ensures own { servers ≡ true → (x : ℕ) → client_of self.now.triples x ≢ None → IsSeated self.now ready.new x }
         ensures seated { (y : ℕ) → IsSeated self.now ready.old y → IsSeated self.now ready.new y }
         ensures right { (y : ℕ) → IsRight self.now ready.old y → IsRight self.now ready.new y }
         ensures count { length ready.new ≡ length ready.old }
     {
-        if servers {
-            for t in self.triples.as_slice() {
-                self.leave(ready, t.server());
-            }
+        if !servers {
+            return;
+        }
+        let mut next = self.newest_server();
+        while let Some(server) = next {
+            next = self.older_server(server);
+            self.leave(ready, server);
         }
     }
 
-    /// Each server, if they count, is in, if it should be, where it isn't in otherwise.
+    /// Each server, if they count, is as it should be, where before whoever was in was as it should be. Whoever was as it
+    /// should be stays so.
     fn enter_servers(&self, ready: &mut Ready, servers: bool)
         requires count { length ready.old ≡ length self.now.threads }
         requires stamped { IsStamped self.now.threads self.now.stamps }
@@ -154,10 +162,13 @@ impl Machine {
         ensures right { (y : ℕ) → IsRight self.now ready.old y → IsRight self.now ready.new y }
         ensures count { length ready.new ≡ length ready.old }
     {
-        if servers {
-            for t in self.triples.as_slice() {
-                self.enter(ready, t.server());
-            }
+        if !servers {
+            return;
+        }
+        let mut next = self.newest_server();
+        while let Some(server) = next {
+            next = self.older_server(server);
+            self.enter(ready, server);
         }
     }
 }
@@ -174,7 +185,8 @@ pub fn peer_of(done: &Done) -> Option<ThreadId>
     }
 }
 
-/// Whether the operation had to do with no other thread, nor with what waits at a channel.
+/// Whether the operation had to do with no other thread's wait or values, nor with a message that waits at a channel. Of an
+/// exit that isn't known, since it doesn't tell whom it freed.
 pub fn is_alone(done: &Done) -> bool
     ensures same { result ≡ is_alone done.now }
     ensures peer { result ≡ true → peer_of done.now ≡ None }

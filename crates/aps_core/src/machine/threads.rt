@@ -5,6 +5,9 @@ ghost use Rattle.aps_model.specs.SchedulerState.{no_facts, no_thread, thread_at,
 use super::Machine;
 use aps_model::{Facts, PartitionId, State, ThreadId, ThreadNow};
 
+/// How many threads a scenario has at most.
+pub const MOST_THREADS: usize = 1024;
+
 /// What is read where there is no such thread.
 fn no_thread() -> ThreadNow
     ensures { result ≡ no_thread }
@@ -41,8 +44,9 @@ impl Machine {
         }
     }
 
-    /// The thread is this one from now on.
+    /// The thread is this one from now on, whose own values are those that it had.
     pub fn set_thread(&mut self, x: ThreadId, thread: ThreadNow)
+        requires { thread.own ≡ (thread_at self.old x).own }
         ensures { self.new ≡ with_thread self.old x thread }
     {
         let index = x.index();
@@ -61,19 +65,43 @@ impl Machine {
         }
     }
 
-    /// The thread has these values of its own from now on.
-    pub fn set_own(&mut self, x: ThreadId, own: Facts)
-        ensures { self.new ≡ with_own self.old x own }
+    /// The thread's own partition is this from now on, and that of its servers follows.
+    pub fn set_partition(&mut self, x: ThreadId, partition: PartitionId)
+        ensures { self.new ≡ with_own self.old x (record (thread_at self.old x).own { partition = partition }) }
     {
         let index = x.index();
         if index < self.threads.len() {
-            self.threads[index].own = own;
+            self.threads[index].own.partition = partition;
+            self.inherit.join(x, partition);
         }
     }
 
-    /// The thread is this one, with the next stamp.
+    /// The thread's own priority is this from now on, and that of its servers follows.
+    pub fn set_own_priority(&mut self, x: ThreadId, priority: u8)
+        ensures { self.new ≡ with_own self.old x (record (thread_at self.old x).own { priority = priority }) }
+    {
+        let index = x.index();
+        if index < self.threads.len() {
+            self.threads[index].own.priority = priority;
+            self.inherit.set_priority(x, priority);
+        }
+    }
+
+    /// The thread is critical of its own from now on, or isn't, and so are its servers.
+    pub fn mark(&mut self, x: ThreadId, critical: bool)
+        ensures { self.new ≡ with_own self.old x (record (thread_at self.old x).own { critical = critical }) }
+    {
+        let index = x.index();
+        if index < self.threads.len() {
+            self.threads[index].own.critical = critical;
+            self.inherit.mark(x, critical);
+        }
+    }
+
+    /// The thread is this one, with the next stamp. Its own values are those that it had.
     pub fn set_stamped(&mut self, x: ThreadId, thread: ThreadNow)
-        requires { self.old.stamps < 2 ^ 63 }
+        requires own { thread.own ≡ (thread_at self.old x).own }
+        requires stamps { self.old.stamps < 2 ^ 63 }
         ensures { self.new ≡ with_stamped self.old x thread }
     {
         let stamp = self.stamps;
@@ -88,9 +116,10 @@ impl Machine {
         );
     }
 
-    /// The thread is this one; if it is ready now, with the next stamp.
+    /// The thread is this one; if it is ready now, with the next stamp. Its own values are those that it had.
     pub fn set_ready(&mut self, x: ThreadId, thread: ThreadNow)
-        requires { self.old.stamps < 2 ^ 63 }
+        requires own { thread.own ≡ (thread_at self.old x).own }
+        requires stamps { self.old.stamps < 2 ^ 63 }
         ensures { self.new ≡ with_ready self.old x thread thread.state }
     {
         let state = thread.state;

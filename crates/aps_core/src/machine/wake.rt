@@ -16,7 +16,7 @@ ghost use Rattle.aps_core.specs.Sleepers.{numbers_of, sleepers_of};
 ghost use Rattle.aps_core.specs.Touched.{woke};
 
 use super::Machine;
-use super::channel::MOST_THREADS;
+use super::threads::MOST_THREADS;
 use crate::due;
 use aps_ctl::Ctl;
 use aps_model::{Entry, Nanos, NoMemory, Scenario, ThreadId};

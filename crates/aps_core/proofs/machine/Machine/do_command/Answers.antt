@@ -10,7 +10,7 @@ use Rattle.aps_core.proofs.machine.Machine.do_command.Goals as goal
 pub invariant_of-self : goal.invariant_of-self
 invariant_of-self c =
     let s = state_of c.self.inside in
-    performed_machine _ _ c.args.call.now c.view_of-view.result s c.perform-answer.new.tree.rows c.perform-answer.new.shape _ _ _ _ c.requires.call.2 c.self.invariant c.perform-answer.ensures.shape c.perform-answer.ensures.parts
+    performed_machine _ _ c.args.call.now c.view_of-view.result s c.perform-answer.new.tree.rows c.perform-answer.new.shape _ _ _ _ _ _ c.requires.call.2 c.self.invariant c.perform-answer.ensures.shape c.perform-answer.ensures.parts
 
 pub push_reply-requires : goal.push_reply-requires
 push_reply-requires c =
@@ -71,7 +71,7 @@ returns-in_default-clause-same c =
 
 pub resize-requires-clause-shape : goal.resize-requires-clause-shape
 resize-requires-clause-shape c =
-    (performed_machine _ _ c.args.call.now c.view_of-view.result (state_of c.self.inside) c.perform-answer.new.tree.rows c.perform-answer.new.shape _ _ _ _ c.requires.call.2 c.self.invariant c.perform-answer.ensures.shape c.perform-answer.ensures.parts).shape
+    (performed_machine _ _ c.args.call.now c.view_of-view.result (state_of c.self.inside) c.perform-answer.new.tree.rows c.perform-answer.new.shape _ _ _ _ _ _ c.requires.call.2 c.self.invariant c.perform-answer.ensures.shape c.perform-answer.ensures.parts).shape
 
 pub returns-in-Some-clause-counts : goal.returns-in-Some-clause-counts
 returns-in-Some-clause-counts c =
