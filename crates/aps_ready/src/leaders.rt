@@ -7,8 +7,8 @@ ghost use Rattle.aps_ready.specs.Best.{is_wanted};
 ghost use Rattle.aps_ready.specs.Leaders.{HasGroup, AreFirst, AreEligible, AreLeading, AreLeaders};
 ghost use Rattle.aps_ready.specs.Small.{IsSmall};
 
-use crate::choice::part_of;
 use crate::gates::PARTITIONS;
+use crate::parts::part_of;
 use aps_levels::Bits64;
 use aps_model::PartFacts;
 
