@@ -9,22 +9,13 @@ use Rattle.aps_ready.specs.Entrant.{entrant_at, vacant, goes_before}
 use Rattle.aps_ready.specs.Choice.{has_used_less, ahead_by, is_ahead}
 use Rattle.aps_ready.specs.Firsts.{level_of, AreAt, AreLeast, AreEmpty}
 use Rattle.aps_ready.specs.Best.{Sits, IsBest}
+use Rattle.aps_ready.specs.Gates.{open_first}
 use Rattle.aps_ready.specs.Leaders.{is_less_than, AreLeaders, IsEarliest}
 use Rattle.aps_ready.proofs.Tops.{IsTop, IsKept, top_of, not_vacant}
 use Rattle.aps_ready.proofs.Fractions.{smaller_chain, smaller_one_way, smaller_not_itself, not_more_than_smaller, has_budget}
 
 below_or_not : (a b : ℕ) → (a < b) ⊎ (b ≤ a)
 below_or_not a b = search arith
-
--- the same groups, told otherwise
-pub best_of_same : (parts : List PartFacts) (row : List Entrant) (before after : ℕ → Bool) (best : Entrant)
-    → ((g : ℕ) → g < 64 → before g ≡ after g) → IsBest parts row before best → IsBest parts row after best
-best_of_same parts row before after best same is = record {
-  inside = λ g. sym (same best.group g) ∙ is.inside g;
-  sits = is.sits;
-  nobody = is.nobody;
-  others = λ x within below here. is.others x within below (same (entrant_at row x).group below ∙ here);
-}
 
 -- ---- the firsts of the leaders
 
@@ -138,6 +129,19 @@ best_of_leaders parts row firsts wanted found leaders best kept are least earlie
     behind x within here among t h =
         ap (λ (g : ℕ). ahead_by (part_at parts ((entrant_at row x).group % 32)) (part_at parts (g % 32)) (goes_before (entrant_at row x) best)) own_group
         ∙ behind_b x within here among t h
+
+-- ---- groups that are candidates of class 1
+
+-- the best of these groups, which passes a test, is the best of those of them that do
+pub best_of_open : (parts : List PartFacts) (row : List Entrant) (set : ℕ → Bool) (best : Entrant)
+    → open_first parts best.group ≡ true → IsBest parts row set best → IsBest parts row (λ g. set g && open_first parts g) best
+best_of_open parts row set best opened is = record {
+  inside = λ g. pair (set best.group) (open_first parts best.group) (is.inside g) opened;
+  sits = is.sits;
+  nobody = is.nobody;
+  others = λ x within below here.
+      is.others x within below (both (set (entrant_at row x).group) (open_first parts (entrant_at row x).group) here).0;
+}
 
 -- ---- groups at one level
 

@@ -13,7 +13,6 @@ pub mod Above
 pub mod Earliest
 pub mod Fractions
 pub mod Leading
-pub mod Eligible
 pub mod Known
 pub mod Among
 pub mod Winner

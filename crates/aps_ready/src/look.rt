@@ -2,7 +2,7 @@
 ghost use Rattle.std.specs.Prelude.{◌≡◌, ℕ, ◌<◌, ◌%◌, true, false, length, IfSome, All};
 ghost use Rattle.aps_model.specs.declared.shape.Free.{Free};
 ghost use Rattle.aps_levels.specs.Bits.{has};
-ghost use Rattle.aps_ready.specs.Best.{is_wanted, IsBest};
+ghost use Rattle.aps_ready.specs.Best.{IsBest};
 ghost use Rattle.aps_ready.specs.Firsts.{firsts_of, level_of, AreAt, IsOnly};
 ghost use Rattle.aps_ready.specs.Gates.{open_first, AreGates};
 ghost use Rattle.aps_ready.specs.Likely.{AreLikelySecond};
@@ -12,7 +12,7 @@ ghost use Rattle.aps_ready.specs.Winner.{IsWinner};
 
 use crate::entrant::{Entrant, vacant};
 use crate::gates::{Gates, is_in_first};
-use crate::leaders::{Wanted, least_used};
+use crate::leaders::{least_used, partitions_of};
 use crate::lists::Lists;
 use aps_levels::Bits64;
 use aps_model::{Free, PartFacts};
@@ -25,33 +25,50 @@ pub fn look(lists: &Lists, gates: Gates, parts: &[PartFacts], free: Free) -> Ent
     ensures { IsWinner free parts.now lists.now result }
 {
     match lists.least(gates.first) {
-        Some(found) => {
-            let wanted = Wanted {
-                groups: found.groups,
-                first_alone: false,
-            };
-            best_at_level(lists, parts, found.level, wanted)
-        }
+        Some(found) => best_at_level(lists, parts, found.level, found.groups),
         None => highest_leader(lists, parts, likely_second(lists, gates.second, free)),
     }
 }
 
-/// The greatest candidate, where it is of class 1 and at the highest priority that anybody has; else nobody. It tests the groups at
-/// that priority alone.
+/// The greatest candidate, where the best of those at the highest priority that anybody has is a candidate of class 1; else nobody.
+/// It tests the partition of that one alone.
 pub fn near(lists: &Lists, parts: &[PartFacts]) -> Entrant
     requires small { All IsSmall parts.now }
     requires queued { IsQueued lists.now }
     ensures { (free : Free) → result.group < 64 → IsWinner free parts.now lists.now result }
 {
-    match lists.least(lists.occupied()) {
-        Some(found) => {
-            let wanted = Wanted {
-                groups: found.groups,
-                first_alone: true,
-            };
-            best_at_level(lists, parts, found.level, wanted)
-        }
-        None => vacant(),
+    let Some(found) = lists.least(lists.occupied()) else {
+        return vacant();
+    };
+    if are_known(parts, found.groups) {
+        of_first(
+            parts,
+            best_at_level(lists, parts, found.level, found.groups),
+        )
+    } else {
+        vacant()
+    }
+}
+
+/// Whether the partitions of these groups exist.
+#[inline(always)]
+fn are_known(parts: &[PartFacts], groups: Bits64) -> bool
+    ensures { result ≡ true → (g : ℕ) → g < 64 → has groups g ≡ true → g % 32 < length parts.now }
+{
+    let all = partitions_of(groups);
+    all.minus(all.below(parts.len())).is_empty()
+}
+
+/// The same, where it is a candidate of class 1; else nobody.
+#[inline(always)]
+fn of_first(parts: &[PartFacts], one: Entrant) -> Entrant
+    ensures same { result.group < 64 → result ≡ one }
+    ensures first { result.group < 64 → open_first parts.now result.group ≡ true }
+{
+    if one.group < 64 && is_in_first(parts, one.group as usize) {
+        one
+    } else {
+        vacant()
     }
 }
 
@@ -69,18 +86,18 @@ fn likely_second(lists: &Lists, second: Bits64, free: Free) -> Bits64
     }
 }
 
-/// The one that is ahead of the others, of the firsts of groups that are at one level, and of these of those that are wanted.
+/// The one that is ahead of the others, of the firsts of groups that are at one level.
 #[inline(always)]
-fn best_at_level(lists: &Lists, parts: &[PartFacts], level: usize, wanted: Wanted) -> Entrant
+fn best_at_level(lists: &Lists, parts: &[PartFacts], level: usize, groups: Bits64) -> Entrant
     requires small { All IsSmall parts.now }
     requires queued { IsQueued lists.now }
-    requires level { AreAt (firsts_of lists.now) (has wanted.groups) level }
-    requires known { wanted.first_alone ≡ false → (g : ℕ) → g < 64 → has wanted.groups g ≡ true → g % 32 < length parts.now }
-    ensures { IsBest parts.now lists.now (is_wanted parts.now wanted) result }
+    requires level { AreAt (firsts_of lists.now) (has groups) level }
+    requires known { (g : ℕ) → g < 64 → has groups g ≡ true → g % 32 < length parts.now }
+    ensures { IsBest parts.now lists.now (has groups) result }
 {
-    match only(wanted.groups) {
-        Some(group) => alone(lists, parts, level, wanted, group),
-        None => best_of_several(lists, parts, level, wanted),
+    match only(groups) {
+        Some(group) => lists.first(level, group),
+        None => earliest_leader(lists, parts, level, groups),
     }
 }
 
@@ -99,80 +116,18 @@ fn only(set: Bits64) -> Option<usize>
     }
 }
 
-/// The first of a group, where it is wanted.
-#[inline(always)]
-fn alone(lists: &Lists, parts: &[PartFacts], level: usize, wanted: Wanted, group: usize) -> Entrant
-    requires queued { IsQueued lists.now }
-    requires only { IsOnly (has wanted.groups) group }
-    requires level { AreAt (firsts_of lists.now) (has wanted.groups) level }
-    ensures { IsBest parts.now lists.now (is_wanted parts.now wanted) result }
-{
-    if wanted.first_alone && !is_in_first(parts, group) {
-        vacant()
-    } else {
-        lists.first(level, group)
-    }
-}
-
-/// The best of several groups at one level.
-#[inline(always)]
-fn best_of_several(lists: &Lists, parts: &[PartFacts], level: usize, wanted: Wanted) -> Entrant
-    requires small { All IsSmall parts.now }
-    requires queued { IsQueued lists.now }
-    requires level { AreAt (firsts_of lists.now) (has wanted.groups) level }
-    requires known { wanted.first_alone ≡ false → (g : ℕ) → g < 64 → has wanted.groups g ≡ true → g % 32 < length parts.now }
-    ensures { IsBest parts.now lists.now (is_wanted parts.now wanted) result }
-{
-    if wanted.first_alone {
-        best_of_first(lists, parts, level, wanted.groups)
-    } else {
-        best_of_any(lists, parts, level, wanted.groups)
-    }
-}
-
-/// The best of groups at one level, of those whose threads are candidates of class 1. It stands apart, as the next one does, so
-/// that a look at one group alone has no part in what a pass over many needs.
+/// The best of several groups at one level: it compares fractions once for each partition, and of the partitions that have used
+/// the least the firsts by their stamps. It stands apart, so that a look at one group alone has no part in what a pass over many
+/// needs.
 #[inline(never)]
-fn best_of_first(lists: &Lists, parts: &[PartFacts], level: usize, groups: Bits64) -> Entrant
-    requires small { All IsSmall parts.now }
-    requires queued { IsQueued lists.now }
-    requires level { AreAt (firsts_of lists.now) (has groups) level }
-    ensures { IsBest parts.now lists.now (is_wanted parts.now (record { groups = groups; first_alone = true })) result }
-{
-    let wanted = Wanted {
-        groups,
-        first_alone: true,
-    };
-    earliest_leader(lists, parts, level, wanted)
-}
-
-/// The best of groups at one level.
-#[inline(never)]
-fn best_of_any(lists: &Lists, parts: &[PartFacts], level: usize, groups: Bits64) -> Entrant
+fn earliest_leader(lists: &Lists, parts: &[PartFacts], level: usize, groups: Bits64) -> Entrant
     requires small { All IsSmall parts.now }
     requires queued { IsQueued lists.now }
     requires level { AreAt (firsts_of lists.now) (has groups) level }
     requires known { (g : ℕ) → g < 64 → has groups g ≡ true → g % 32 < length parts.now }
-    ensures { IsBest parts.now lists.now (is_wanted parts.now (record { groups = groups; first_alone = false })) result }
+    ensures { IsBest parts.now lists.now (has groups) result }
 {
-    let wanted = Wanted {
-        groups,
-        first_alone: false,
-    };
-    earliest_leader(lists, parts, level, wanted)
-}
-
-/// The best of groups at one level: it compares fractions once for each partition, and of the partitions that have used
-/// the least the firsts by their stamps.
-#[inline(always)]
-fn earliest_leader(lists: &Lists, parts: &[PartFacts], level: usize, wanted: Wanted) -> Entrant
-    requires small { All IsSmall parts.now }
-    requires queued { IsQueued lists.now }
-    requires level { AreAt (firsts_of lists.now) (has wanted.groups) level }
-    requires known { (g : ℕ) → g < 64 → is_wanted parts.now wanted g ≡ true → g % 32 < length parts.now }
-    ensures { IsBest parts.now lists.now (is_wanted parts.now wanted) result }
-{
-    let leaders = least_used(parts, wanted);
+    let leaders = least_used(parts, groups);
     if leaders.groups.is_empty() {
         vacant()
     } else {
@@ -190,11 +145,7 @@ fn highest_leader(lists: &Lists, parts: &[PartFacts], groups: Bits64) -> Entrant
     requires known { (g : ℕ) → g < 64 → has groups g ≡ true → g % 32 < length parts.now }
     ensures { IsBest parts.now lists.now (has groups) result }
 {
-    let wanted = Wanted {
-        groups,
-        first_alone: false,
-    };
-    match lists.least(least_used(parts, wanted).groups) {
+    match lists.least(least_used(parts, groups).groups) {
         Some(found) => lists.earliest(found.level, found.groups),
         None => vacant(),
     }
