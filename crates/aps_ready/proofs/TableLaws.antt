@@ -16,37 +16,6 @@ not_equal g k ne = grind (arith, nat_tests)
 
 -- ---- one place of a row is set
 
--- a set at one level gets, or loses, one group
-pub with_at : (at_level : List Bits64) (before after : Bits64) (level group : ℕ) → level < length at_level → before ≡ get_or at_level level before
-    → ((k : ℕ) → has after k ≡ (nat_eq k group || has before k))
-    → (l g : ℕ) → has (bits_at (set at_level level after) l) g ≡ ((nat_eq l level && nat_eq g group) || has (bits_at at_level l) g)
-with_at at_level before after level group within read with l g = elim (cases_eq l level) [
-  | inl same ↦
-      let here : bits_at (set at_level level after) l ≡ after =
-      ap (bits_at (set at_level level after)) same ∙ get_or-set_same at_level level after no_bits within in
-      let was : before ≡ bits_at at_level l = get_or_read at_level level before within read no_bits ∙ ap (bits_at at_level) (sym same) in
-      ap (λ (b : Bits64). has b g) here ∙ with g ∙ ap (λ (b : Bits64). nat_eq g group || has b g) was
-      ∙ ap (λ (t : Bool). (t && nat_eq g group) || has (bits_at at_level l) g) (sym (ap (λ (k : ℕ). nat_eq k level) same ∙ equal_self level))
-  | inr ne ↦
-      ap (λ (b : Bits64). has b g) (get_or-set_other at_level level l after no_bits ne)
-      ∙ ap (λ (t : Bool). (t && nat_eq g group) || has (bits_at at_level l) g) (sym (not_equal l level ne))
-]
-
-pub without_at : (at_level : List Bits64) (before after : Bits64) (level group : ℕ) → level < length at_level → before ≡ get_or at_level level before
-    → ((k : ℕ) → has after k ≡ (not (nat_eq k group) && has before k))
-    → (l g : ℕ) → has (bits_at (set at_level level after) l) g ≡ (not (nat_eq l level && nat_eq g group) && has (bits_at at_level l) g)
-without_at at_level before after level group within read without l g = elim (cases_eq l level) [
-  | inl same ↦
-      let here : bits_at (set at_level level after) l ≡ after =
-      ap (bits_at (set at_level level after)) same ∙ get_or-set_same at_level level after no_bits within in
-      let was : before ≡ bits_at at_level l = get_or_read at_level level before within read no_bits ∙ ap (bits_at at_level) (sym same) in
-      ap (λ (b : Bits64). has b g) here ∙ without g ∙ ap (λ (b : Bits64). not (nat_eq g group) && has b g) was
-      ∙ ap (λ (t : Bool). not (t && nat_eq g group) && has (bits_at at_level l) g) (sym (ap (λ (k : ℕ). nat_eq k level) same ∙ equal_self level))
-  | inr ne ↦
-      ap (λ (b : Bits64). has b g) (get_or-set_other at_level level l after no_bits ne)
-      ∙ ap (λ (t : Bool). not (t && nat_eq g group) && has (bits_at at_level l) g) (sym (not_equal l level ne))
-]
-
 flat : (t : Bool) → (t && false) ≡ false
 flat true = refl
 flat false = refl

@@ -1,5 +1,5 @@
-//! The ready threads, and the greatest candidate among them. `Ready` keeps a list for each priority, partition and mark, so that
-//! a thread is put in, changed and taken out in a few steps; `Gates` keeps which partitions' threads are candidates.
+//! The ready threads, and the greatest candidate among them. `Ready` keeps a list for each priority, partition and mark, in order
+//! of stamps, so that most calls take a few steps; `Gates` keeps which partitions' threads are candidates.
 #![tactic(auto)]
 
 mod ahead;

@@ -14,8 +14,9 @@ use aps_model::NoMemory;
 use std::alloc::Global;
 use std::marker::Model;
 
-/// Who is in, by thread, and for each level and group a list of its threads in order of their stamps, so that a thread is put
-/// in and taken out in a few steps, however many are in. Contracts see who is in at each place.
+/// Who is in, by thread, and for each level and group a list of its threads in order of their stamps. A thread with the greatest
+/// or the smallest stamp of its list is put in in a few steps, and any is taken out so, however many are in; one with a stamp in
+/// between passes those with greater ones. Contracts see who is in at each place.
 ///
 /// A list is a ring of nodes: its head, and its threads. A thread's node has the thread's number.
 #[derive(Drop)]

@@ -109,8 +109,8 @@ impl Ready {
 
 impl Ready {
     /// The greatest candidate, none exactly where there is none. Used times are at most 100,000,000,000,000 ns and budgets
-    /// at most 1,000 parts, so that no product overflows. It tests the groups at the highest priority first, and makes the
-    /// gates of all partitions only where none of these is a candidate of class 1.
+    /// at most 1,000 parts, so that no product overflows. It looks at the groups at the highest priority first, and makes the
+    /// gates of all partitions only where the best of these isn't a candidate of class 1.
     pub fn best(&self, parts: &[PartFacts], free: Free) -> Option<ThreadId>
         requires { All IsSmall parts.now }
         ensures greatest { result ≡ option_map (λ c. c.thread) (greatest free parts.now (members self.now)) }
@@ -233,7 +233,7 @@ impl Ready {
         look(&self.lists, gates, parts, free)
     }
 
-    /// The greatest candidate, where somebody of class 1 is at the highest priority of all; else nobody.
+    /// The greatest candidate, where the best of those at the highest priority of all is a candidate of class 1; else nobody.
     #[inline(always)]
     fn nearest(&self, parts: &[PartFacts]) -> Entrant
         requires small { All IsSmall parts.now }
