@@ -75,19 +75,6 @@ ahead_is : (parts : List PartFacts) (a b : Entrant) → a.level ≤ 255 → b.le
     → is_ahead parts a b ≡ is_greater Ratio (of_class 0 parts a) (of_class 0 parts b)
 ahead_is parts a b a_small b_small = ap (ahead_by (part_of parts a) (part_of parts b)) (by_level a.level b.level a.stamp b.stamp a_small b_small)
 
-pub ahead_chain : (parts : List PartFacts) (a b c : Entrant) → a.level ≤ 255 → b.level ≤ 255 → c.level ≤ 255
-    → is_ahead parts a b ≡ false → is_ahead parts b c ≡ false → is_ahead parts a c ≡ false
-ahead_chain parts a b c a_small b_small c_small h k =
-    ahead_is parts a c a_small c_small
-    ∙ (greater_order Ratio).chain (of_class 0 parts a) (of_class 0 parts b) (of_class 0 parts c)
-    (sym (ahead_is parts a b a_small b_small) ∙ h) (sym (ahead_is parts b c b_small c_small) ∙ k)
-
-pub ahead_one_way : (parts : List PartFacts) (a b : Entrant) → a.level ≤ 255 → b.level ≤ 255
-    → is_ahead parts a b ≡ true → is_ahead parts b a ≡ false
-ahead_one_way parts a b a_small b_small h =
-    ahead_is parts b a b_small a_small
-    ∙ (greater_order Ratio).one_way (of_class 0 parts a) (of_class 0 parts b) (sym (ahead_is parts a b a_small b_small) ∙ h)
-
 not_smaller : (u b : ℕ) → smaller u b u b ≡ false
 not_smaller u b = grind (arith, nat_tests)
 
@@ -224,8 +211,3 @@ above_second_by_level parts a b h i a_small b_small =
 
 pub above_one_way : (free : Free) (parts : List PartFacts) (a b : Entrant) → is_above free parts a b ≡ true → is_above free parts b a ≡ false
 above_one_way free parts a b h = (greater_order free).one_way (merit_among parts (contender_of a)) (merit_among parts (contender_of b)) h
-
-pub above_chain : (free : Free) (parts : List PartFacts) (a b c : Entrant) → is_above free parts a b ≡ false → is_above free parts b c ≡ false
-    → is_above free parts a c ≡ false
-above_chain free parts a b c h i =
-    (greater_order free).chain (merit_among parts (contender_of a)) (merit_among parts (contender_of b)) (merit_among parts (contender_of c)) h i

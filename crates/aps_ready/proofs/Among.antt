@@ -7,24 +7,15 @@ use Rattle.aps_ready.specs.declared.entrant.Entrant.{Entrant}
 use Rattle.aps_ready.specs.declared.leaders.Leaders.{Leaders}
 use Rattle.aps_ready.specs.Entrant.{entrant_at, vacant, goes_before}
 use Rattle.aps_ready.specs.Choice.{has_used_less, ahead_by, is_ahead}
-use Rattle.aps_ready.specs.Index.{level_of, AreLeast, AreLevel, AreEmpty}
+use Rattle.aps_ready.specs.Firsts.{level_of, AreAt, AreLeast, AreEmpty}
 use Rattle.aps_ready.specs.Best.{Sits, IsBest}
+use Rattle.aps_ready.specs.Gates.{open_first}
 use Rattle.aps_ready.specs.Leaders.{is_less_than, AreLeaders, IsEarliest}
 use Rattle.aps_ready.proofs.Tops.{IsTop, IsKept, top_of, not_vacant}
 use Rattle.aps_ready.proofs.Fractions.{smaller_chain, smaller_one_way, smaller_not_itself, not_more_than_smaller, has_budget}
 
 below_or_not : (a b : ℕ) → (a < b) ⊎ (b ≤ a)
 below_or_not a b = search arith
-
--- the same groups, told otherwise
-pub best_of_same : (parts : List PartFacts) (row : List Entrant) (before after : ℕ → Bool) (best : Entrant)
-    → ((g : ℕ) → g < 64 → before g ≡ after g) → IsBest parts row before best → IsBest parts row after best
-best_of_same parts row before after best same is = record {
-  inside = λ g. sym (same best.group g) ∙ is.inside g;
-  sits = is.sits;
-  nobody = is.nobody;
-  others = λ x within below here. is.others x within below (same (entrant_at row x).group below ∙ here);
-}
 
 -- ---- the firsts of the leaders
 
@@ -63,10 +54,10 @@ behind_by_rest p q rest h k =
     flat true = refl
     flat false = refl
 
-pub best_of_leaders : (parts : List PartFacts) (row : List Entrant) (brackets : List (List Entrant)) (firsts : List Entrant)
-    (wanted found : ℕ → Bool) (leaders : Leaders) (best : Entrant) → IsKept row brackets firsts → AreLeaders parts wanted leaders
+pub best_of_leaders : (parts : List PartFacts) (row : List Entrant) (firsts : List Entrant)
+    (wanted found : ℕ → Bool) (leaders : Leaders) (best : Entrant) → IsKept row firsts → AreLeaders parts wanted leaders
     → AreLeast firsts (has leaders.groups) found → IsEarliest firsts found best → IsBest parts row wanted best
-best_of_leaders parts row brackets firsts wanted found leaders best kept are least earliest = record {
+best_of_leaders parts row firsts wanted found leaders best kept are least earliest = record {
   inside = λ _. subst (λ (g : ℕ). wanted g ≡ true) (sym own_group) leads.0;
   sits = λ _. subst (Sits row) (sym earliest.is) (top.sits top_there);
   nobody = λ _. there;
@@ -77,7 +68,7 @@ best_of_leaders parts row brackets firsts wanted found leaders best kept are lea
     b = earliest.group
 
     top : IsTop row b (entrant_at firsts b)
-    top = top_of row brackets firsts b kept earliest.below
+    top = top_of row firsts b kept earliest.below
 
     -- the group of the best is at the least level, and leads
     parted : (nat_eq (level_of firsts b) least.level ≡ true) × (has leaders.groups b ≡ true)
@@ -123,7 +114,7 @@ best_of_leaders parts row brackets firsts wanted found leaders best kept are lea
         let g = (entrant_at row x).group in
         let part = part_at parts (g % 32) in
         let led : has leaders.groups g ≡ true = are.these g here ∙ pair (wanted g) (not (is_less_than parts leaders.used leaders.budget g)) among (ap not h) in
-        let first = (top_of row brackets firsts g kept here).first x within refl in
+        let first = (top_of row firsts g kept here).first x within refl in
         let low : best.level ≤ level_of firsts g = omega (arith, best_level, least.least g here led) in
         behind_by_rest part part_b (goes_before (entrant_at row x) best)
         (smaller_chain part.used part.budget leaders.used leaders.budget part_b.used part_b.budget (are.least g here among) not_less)
@@ -139,26 +130,32 @@ best_of_leaders parts row brackets firsts wanted found leaders best kept are lea
         ap (λ (g : ℕ). ahead_by (part_at parts ((entrant_at row x).group % 32)) (part_at parts (g % 32)) (goes_before (entrant_at row x) best)) own_group
         ∙ behind_b x within here among t h
 
--- ---- groups at one level
+-- ---- groups that are candidates of class 1
 
-pub level_of_least : (firsts : List Entrant) (set found : ℕ → Bool) → AreLeast firsts set found → AreLevel firsts found
-level_of_least firsts set found least = record {
-  level = least.level;
-  below = least.below;
-  same = λ g below h. same_of (level_of firsts g) least.level (both (nat_eq (level_of firsts g) least.level) (set g) (sym (least.these g below) ∙ h)).0;
+-- the best of these groups, which passes a test, is the best of those of them that do
+pub best_of_open : (parts : List PartFacts) (row : List Entrant) (set : ℕ → Bool) (best : Entrant)
+    → open_first parts best.group ≡ true → IsBest parts row set best → IsBest parts row (λ g. set g && open_first parts g) best
+best_of_open parts row set best opened is = record {
+  inside = λ g. pair (set best.group) (open_first parts best.group) (is.inside g) opened;
+  sits = is.sits;
+  nobody = is.nobody;
+  others = λ x within below here.
+      is.others x within below (both (set (entrant_at row x).group) (open_first parts (entrant_at row x).group) here).0;
 }
 
+-- ---- groups at one level
+
 -- each of them is at the least level
-pub least_at_level : (firsts : List Entrant) (set leading : ℕ → Bool) (group : ℕ) → AreLevel firsts set
+pub least_at_level : (firsts : List Entrant) (set leading : ℕ → Bool) (l group : ℕ) → AreAt firsts set l
     → ((g : ℕ) → g < 64 → leading g ≡ true → set g ≡ true) → group < 64 → leading group ≡ true → AreLeast firsts leading leading
-least_at_level firsts set leading group at inside below here = record {
-  level = at.level;
+least_at_level firsts set leading l group at inside below here = record {
+  level = l;
   below = at.below;
   group = group;
   inside = below;
   some = here;
-  these = λ g g_below. own (leading g) (nat_eq (level_of firsts g) at.level)
-      (λ h. equal (level_of firsts g) at.level (at.same g g_below (inside g g_below h)));
+  these = λ g g_below. own (leading g) (nat_eq (level_of firsts g) l)
+      (λ h. equal (level_of firsts g) l (at.same g g_below (inside g g_below h)));
   least = λ g g_below h. omega (arith, at.same g g_below (inside g g_below h));
 }
   where
@@ -170,10 +167,10 @@ least_at_level firsts set leading group at inside below here = record {
 
 -- ---- one group alone
 
-pub best_of_one : (parts : List PartFacts) (row : List Entrant) (brackets : List (List Entrant)) (firsts : List Entrant) (wanted : ℕ → Bool)
-    (g : ℕ) → IsKept row brackets firsts → g < 64 → level_of firsts g < 256 → wanted g ≡ true
+pub best_of_one : (parts : List PartFacts) (row : List Entrant) (firsts : List Entrant) (wanted : ℕ → Bool)
+    (g : ℕ) → IsKept row firsts → g < 64 → level_of firsts g < 256 → wanted g ≡ true
     → ((k : ℕ) → k < 64 → wanted k ≡ true → k ≡ g) → IsBest parts row wanted (entrant_at firsts g)
-best_of_one parts row brackets firsts wanted g kept below level here one = record {
+best_of_one parts row firsts wanted g kept below level here one = record {
   inside = λ there. subst (λ (k : ℕ). wanted k ≡ true) (sym (top.group there)) here;
   sits = top.sits;
   nobody = λ _. top_there;
@@ -181,7 +178,7 @@ best_of_one parts row brackets firsts wanted g kept below level here one = recor
 }
   where
     top : IsTop row g (entrant_at firsts g)
-    top = top_of row brackets firsts g kept below
+    top = top_of row firsts g kept below
 
     top_there : (entrant_at firsts g).group < 64
     top_there = elim (below_or_not (entrant_at firsts g).group 64) [

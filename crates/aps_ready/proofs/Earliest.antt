@@ -1,4 +1,4 @@
-use Rattle.std.proofs.Common.{◌≡◌, inl, inr, ◌⊎◌, ℕ, ◌<◌, ◌≤◌, Bool, true, false, List, refl, sym, ◌∙◌, ap, arith}
+use Rattle.std.proofs.Common.{◌≡◌, inl, inr, ◌⊎◌, ℕ, ◌<◌, ◌≤◌, Bool, true, false, List, refl, ◌∙◌, ap, arith}
 use Rattle.aps_ready.specs.declared.entrant.Entrant.{Entrant}
 use Rattle.aps_ready.specs.Entrant.{entrant_at}
 use Rattle.aps_ready.specs.Leaders.{IsEarliest}
@@ -8,69 +8,69 @@ abbrev stamp_of : List Entrant → ℕ → ℕ
 stamp_of firsts g = (entrant_at firsts g).stamp
 
 -- the best of a set, but for the groups that are left
-pub record IsBestSoFar (firsts : List Entrant) (set left : ℕ → Bool) (best stamp : ℕ) : Type 0 where
-  pub below : best < 64
-  pub among : set best ≡ true
-  pub same : stamp ≡ stamp_of firsts best
+pub record IsBestSoFar (firsts : List Entrant) (set left : ℕ → Bool) (best : Entrant) : Type 0 where
+  pub group : ℕ
+  pub below : group < 64
+  pub among : set group ≡ true
+  pub is : best ≡ entrant_at firsts group
   pub inside : (g : ℕ) → left g ≡ true → set g ≡ true
-  pub least : (g : ℕ) → g < 64 → set g ≡ true → left g ≡ false → stamp ≤ stamp_of firsts g
+  pub least : (g : ℕ) → g < 64 → set g ≡ true → left g ≡ false → best.stamp ≤ stamp_of firsts g
 
 -- one alone is the best of itself
-pub best_of_one : (firsts : List Entrant) (set left : ℕ → Bool) (start stamp : ℕ) → start < 64 → set start ≡ true → stamp ≡ stamp_of firsts start
-    → IsWithout set left start → IsBestSoFar firsts set left start stamp
-best_of_one firsts set left start stamp below here same without = record {
+pub best_of_one : (firsts : List Entrant) (set left : ℕ → Bool) (start : ℕ) (best : Entrant) → start < 64 → set start ≡ true
+    → best ≡ entrant_at firsts start → IsWithout set left start → IsBestSoFar firsts set left best
+best_of_one firsts set left start best below here is without = record {
+  group = start;
   below = below;
   among = here;
-  same = same;
+  is = is;
   inside = λ g h. was_in set left start g without h;
   least = λ g _ in_set gone.
-      let is : g ≡ start = is_one set left start g without in_set gone in
-      omega (arith, same, ap (stamp_of firsts) is);
+      let same : g ≡ start = is_one set left start g without in_set gone in
+      omega (arith, ap (λ (e : Entrant). e.stamp) is, ap (stamp_of firsts) same);
 }
-
-clash : (t : Bool) → t ≡ true → t ≡ false → ⊥
-clash t p q = cc
 
 -- one more, whose stamp is smaller, is the best then; any other isn't
-pub best_of_more : (firsts : List Entrant) (set left after : ℕ → Bool) (best stamp group other new_best new_stamp : ℕ)
-    → IsBestSoFar firsts set left best stamp → group < 64 → left group ≡ true → other ≡ stamp_of firsts group → IsWithout left after group
-    → ((other < stamp) × (new_best ≡ group) × (new_stamp ≡ other)) ⊎ ((stamp ≤ other) × (new_best ≡ best) × (new_stamp ≡ stamp))
-    → IsBestSoFar firsts set after new_best new_stamp
-best_of_more firsts set left after best stamp group other new_best new_stamp so_far below here other_is without (inl won) = record {
-  below = omega (arith, won.1, below);
-  among = ap set won.1 ∙ so_far.inside group here;
-  same = won.2 ∙ other_is ∙ ap (stamp_of firsts) (sym won.1);
+pub best_of_more : (firsts : List Entrant) (set left after : ℕ → Bool) (best : Entrant) (group : ℕ) (other new : Entrant)
+    → IsBestSoFar firsts set left best → group < 64 → left group ≡ true → other ≡ entrant_at firsts group → IsWithout left after group
+    → ((other.stamp < best.stamp) × (new ≡ other)) ⊎ ((best.stamp ≤ other.stamp) × (new ≡ best))
+    → IsBestSoFar firsts set after new
+best_of_more firsts set left after best group other new so_far below here other_is without (inl won) = record {
+  group = group;
+  below = below;
+  among = so_far.inside group here;
+  is = won.1 ∙ other_is;
   inside = λ g h. so_far.inside g (was_in left after group g without h);
   least = λ g g_below in_set gone. at_least g g_below in_set gone (left g) refl;
 }
   where
-    at_least : (g : ℕ) → g < 64 → set g ≡ true → after g ≡ false → (t : Bool) → left g ≡ t → new_stamp ≤ stamp_of firsts g
+    at_least : (g : ℕ) → g < 64 → set g ≡ true → after g ≡ false → (t : Bool) → left g ≡ t → new.stamp ≤ stamp_of firsts g
     at_least g g_below in_set gone true h =
         let is : g ≡ group = is_one left after group g without h gone in
-        omega (arith, won.2, other_is, ap (stamp_of firsts) is)
-    at_least g g_below in_set gone false h = omega (arith, won.0, won.2, so_far.least g g_below in_set h)
-best_of_more firsts set left after best stamp group other new_best new_stamp so_far below here other_is without (inr lost) = record {
-  below = omega (arith, lost.1, so_far.below);
-  among = ap set lost.1 ∙ so_far.among;
-  same = lost.2 ∙ so_far.same ∙ ap (stamp_of firsts) (sym lost.1);
-  inside = λ g h. so_far.inside g (was_in left after group g without h);
-  least = λ g g_below in_set gone. at_least g g_below in_set gone (left g) refl;
-}
-  where
-    at_least : (g : ℕ) → g < 64 → set g ≡ true → after g ≡ false → (t : Bool) → left g ≡ t → new_stamp ≤ stamp_of firsts g
-    at_least g g_below in_set gone true h =
-        let is : g ≡ group = is_one left after group g without h gone in
-        omega (arith, lost.0, lost.2, other_is, ap (stamp_of firsts) is)
-    at_least g g_below in_set gone false h = omega (arith, lost.2, so_far.least g g_below in_set h)
-
--- where none is left it is the earliest
-pub all_seen : (firsts : List Entrant) (set left : ℕ → Bool) (best stamp : ℕ) (first : Entrant) → IsBestSoFar firsts set left best stamp
-    → ((g : ℕ) → left g ≡ false) → first ≡ entrant_at firsts best → IsEarliest firsts set first
-all_seen firsts set left best stamp first so_far none is = record {
-  group = best;
+        omega (arith, ap (λ (e : Entrant). e.stamp) won.1, ap (λ (e : Entrant). e.stamp) other_is, ap (stamp_of firsts) is)
+    at_least g g_below in_set gone false h = omega (arith, won.0, ap (λ (e : Entrant). e.stamp) won.1, so_far.least g g_below in_set h)
+best_of_more firsts set left after best group other new so_far below here other_is without (inr lost) = record {
+  group = so_far.group;
   below = so_far.below;
   among = so_far.among;
-  is = is;
-  least = λ g below in_set.
-      omega (arith, ap (λ (e : Entrant). e.stamp) is, so_far.same, so_far.least g below in_set (none g));
+  is = lost.1 ∙ so_far.is;
+  inside = λ g h. so_far.inside g (was_in left after group g without h);
+  least = λ g g_below in_set gone. at_least g g_below in_set gone (left g) refl;
+}
+  where
+    at_least : (g : ℕ) → g < 64 → set g ≡ true → after g ≡ false → (t : Bool) → left g ≡ t → new.stamp ≤ stamp_of firsts g
+    at_least g g_below in_set gone true h =
+        let is : g ≡ group = is_one left after group g without h gone in
+        omega (arith, lost.0, ap (λ (e : Entrant). e.stamp) lost.1, ap (λ (e : Entrant). e.stamp) other_is, ap (stamp_of firsts) is)
+    at_least g g_below in_set gone false h = omega (arith, ap (λ (e : Entrant). e.stamp) lost.1, so_far.least g g_below in_set h)
+
+-- where none is left it is the earliest
+pub all_seen : (firsts : List Entrant) (set left : ℕ → Bool) (best : Entrant) → IsBestSoFar firsts set left best
+    → ((g : ℕ) → left g ≡ false) → IsEarliest firsts set best
+all_seen firsts set left best so_far none = record {
+  group = so_far.group;
+  below = so_far.below;
+  among = so_far.among;
+  is = so_far.is;
+  least = λ g below in_set. so_far.least g below in_set (none g);
 }

@@ -97,17 +97,3 @@ as_many set f width (suc c) below here one =
     in_rest n h =
         ap (λ (t : Bool). not t && set (f n)) (not_equal (f n) (f c) (λ same. omega (arith, h, one n c (omega (arith, h)) (omega arith) same)))
         ∙ here n (omega (arith, h))
-
--- different numbers below the width, none of which is x, are fewer than the width
-pub room_left : (f : ℕ → ℕ) (width count x : ℕ) → ((n : ℕ) → n < count → f n < width)
-    → ((m n : ℕ) → m < count → n < count → f m ≡ f n → m ≡ n) → ((n : ℕ) → n < count → f n ≢ x) → x < width → count < width
-room_left f width count x below one other within =
-    omega (
-      arith,
-      as_many rest f width count below (λ n h. ap (λ (t : Bool). not t && true) (not_equal (f n) x (other n h))) one,
-      fewer (λ k. true) rest x width (λ k. refl) refl within,
-      at_most (λ k. true) width,
-    )
-  where
-    rest : ℕ → Bool
-    rest k = not (nat_eq k x) && true

@@ -9,7 +9,7 @@ use Rattle.aps_levels.specs.Bits.{has}
 use Rattle.aps_ready.specs.declared.entrant.Entrant.{Entrant}
 use Rattle.aps_ready.specs.declared.gates.Gates.{Gates}
 use Rattle.aps_ready.specs.Gates.{is_open_first, is_open_second, open_first, AreGates}
-use Rattle.aps_ready.specs.Index.{level_of, AreLeast}
+use Rattle.aps_ready.specs.Firsts.{level_of, AreLeast}
 use Rattle.aps_ready.specs.Likely.{AreLikelySecond}
 
 -- the partitions of groups that are candidates exist

@@ -6,10 +6,7 @@ use Rattle.aps_model.specs.Budget.{part_at}
 use Rattle.aps_levels.specs.declared.bits.Bits64.{Bits64}
 use Rattle.aps_levels.specs.Bits.{has}
 use Rattle.aps_ready.specs.declared.leaders.Leaders.{Leaders}
-use Rattle.aps_ready.specs.declared.leaders.Wanted.{Wanted}
-use Rattle.aps_ready.specs.Best.{is_allowed, is_wanted}
-use Rattle.aps_ready.specs.Gates.{is_open_first}
-use Rattle.aps_ready.specs.Leaders.{is_less_than, is_more_than, may_lead, HasGroup, AreEligible, AreLeading, AreLeaders}
+use Rattle.aps_ready.specs.Leaders.{is_less_than, is_more_than, HasGroup, AreLeading, AreLeaders}
 use Rattle.aps_ready.specs.Small.{IsSmall}
 use Rattle.aps_ready.proofs.Fractions.{smaller_one_way, smaller_not_itself, smaller_than_more, has_budget}
 
@@ -47,13 +44,12 @@ equal a b h = grind (arith, nat_tests)
 
 -- ---- the same groups, told otherwise
 
-pub leading_same : (parts : List PartFacts) (wanted : Wanted) (before after : ℕ → Bool) (leaders : Leaders)
-    → ((g : ℕ) → g < 64 → before g ≡ after g) → AreLeading parts wanted before leaders → AreLeading parts wanted after leaders
-leading_same parts wanted before after leaders same are = record {
+pub leading_same : (parts : List PartFacts) (before after : ℕ → Bool) (leaders : Leaders)
+    → ((g : ℕ) → g < 64 → before g ≡ after g) → AreLeading parts before leaders → AreLeading parts after leaders
+leading_same parts before after leaders same are = record {
   level = are.level;
   all = λ g below h. are.all g below (same g below ∙ h);
   least = λ g below h. are.least g below (same g below ∙ h);
-  allowed = are.allowed;
   some = λ have. let s = are.some have in (s.0, s.1, sym (same s.0 s.1) ∙ s.2, s.3);
   one = are.one;
   used = are.used;
@@ -61,13 +57,12 @@ leading_same parts wanted before after leaders same are = record {
 }
 
 -- nobody leads where nobody was seen
-pub none_leading : (parts : List PartFacts) (wanted : Wanted) (seen : ℕ → Bool) (leaders : Leaders) → ((g : ℕ) → g < 64 → seen g ≡ false)
-    → ((g : ℕ) → has leaders.groups g ≡ false) → leaders.used ≡ 1 → leaders.budget ≡ 0 → AreLeading parts wanted seen leaders
-none_leading parts wanted seen leaders unseen none one no_budget = record {
+pub none_leading : (parts : List PartFacts) (seen : ℕ → Bool) (leaders : Leaders) → ((g : ℕ) → g < 64 → seen g ≡ false)
+    → ((g : ℕ) → has leaders.groups g ≡ false) → leaders.used ≡ 1 → leaders.budget ≡ 0 → AreLeading parts seen leaders
+none_leading parts seen leaders unseen none one no_budget = record {
   level = λ g _ h. absurd (clash (has leaders.groups g) h (none g));
   all = λ g below h. absurd (clash (seen g) h (unseen g below));
   least = λ g below h. absurd (clash (seen g) h (unseen g below));
-  allowed = λ g _ h. absurd (clash (has leaders.groups g) h (none g));
   some = λ have. absurd (omega (arith, have, no_budget));
   one = λ _. one;
   used = omega (arith, one);
@@ -76,74 +71,51 @@ none_leading parts wanted seen leaders unseen none one no_budget = record {
 
 -- ---- the groups of one more partition
 
--- those of them that are wanted
-abbrev pub more_of : List PartFacts → Wanted → ℕ → ℕ → Bool
-more_of parts wanted p g = is_wanted parts wanted g && nat_eq (g % 32) p
+-- those of them that are in the set
+abbrev pub more_of : (ℕ → Bool) → ℕ → ℕ → Bool
+more_of set p g = set g && nat_eq (g % 32) p
+
+-- these are the two groups of the partition
+abbrev pub AreOf : ℕ → (ℕ → Bool) → Type 0
+AreOf p these = (g : ℕ) → g < 64 → these g ≡ nat_eq (g % 32) p
+
+own : (these : ℕ → Bool) (p g : ℕ) → AreOf p these → g < 64 → these g ≡ true → g % 32 ≡ p
+own these p g are below h = same_of (g % 32) p (sym (are g below) ∙ h)
 
 -- the partition of the group stands so
 part_here : (parts : List PartFacts) (part : PartFacts) (p g : ℕ) → part ≡ part_at parts p → g % 32 ≡ p → part_at parts (g % 32) ≡ part
 part_here parts part p g is own = ap (part_at parts) own ∙ sym is
 
-allowed_here : (parts : List PartFacts) (wanted : Wanted) (part : PartFacts) (p g : ℕ) → part ≡ part_at parts p → g % 32 ≡ p
-    → is_allowed parts wanted g ≡ may_lead wanted part g
-allowed_here parts wanted part p g is own =
-    ap (λ (q : PartFacts). not wanted.first_alone || is_open_first q (nat_lt 31 g)) (part_here parts part p g is own)
+own_of : (set : ℕ → Bool) (p g : ℕ) → more_of set p g ≡ true → g % 32 ≡ p
+own_of set p g h = same_of (g % 32) p (second (set g) (nat_eq (g % 32) p) h)
 
-own_of : (parts : List PartFacts) (wanted : Wanted) (p g : ℕ) → more_of parts wanted p g ≡ true → g % 32 ≡ p
-own_of parts wanted p g h = same_of (g % 32) p (second (is_wanted parts wanted g) (nat_eq (g % 32) p) h)
-
--- whichever of them are wanted are eligible
-more_in : (parts : List PartFacts) (wanted : Wanted) (part : PartFacts) (p : ℕ) (these : ℕ → Bool) → part ≡ part_at parts p
-    → AreEligible wanted part p these → (g : ℕ) → g < 64 → more_of parts wanted p g ≡ true → these g ≡ true
-more_in parts wanted part p these is eligible g below h =
-    let own = own_of parts wanted p g h in
-    let want = first (is_wanted parts wanted g) (nat_eq (g % 32) p) h in
-    eligible.all g below (first (has wanted.groups g) (is_allowed parts wanted g) want)
-    (sym (allowed_here parts wanted part p g is own) ∙ second (has wanted.groups g) (is_allowed parts wanted g) want) own
-
-pub none_more : (parts : List PartFacts) (wanted : Wanted) (seen : ℕ → Bool) (leaders : Leaders) (part : PartFacts) (p : ℕ) (these : ℕ → Bool)
-    → part ≡ part_at parts p → AreEligible wanted part p these → ((g : ℕ) → these g ≡ false)
-    → AreLeading parts wanted seen leaders → AreLeading parts wanted (λ g. seen g || more_of parts wanted p g) leaders
-none_more parts wanted seen leaders part p these is eligible none are =
-    leading_same parts wanted seen (λ g. seen g || more_of parts wanted p g) leaders
-    (λ g below. sym (ap (λ (t : Bool). seen g || t) (no_more g below (more_of parts wanted p g) refl) ∙ or_none (seen g))) are
-  where
-    or_none : (a : Bool) → (a || false) ≡ a
-    or_none true = refl
-    or_none false = refl
-
-    no_more : (g : ℕ) → g < 64 → (t : Bool) → more_of parts wanted p g ≡ t → more_of parts wanted p g ≡ false
-    no_more g below true h = absurd (clash (these g) (more_in parts wanted part p these is eligible g below h) (none g))
-    no_more g below false h = h
+more_in : (set : ℕ → Bool) (these : ℕ → Bool) (p g : ℕ) → AreOf p these → g < 64 → more_of set p g ≡ true → these g ≡ true
+more_in set these p g are below h = are g below ∙ second (set g) (nat_eq (g % 32) p) h
 
 -- the partition has used less
-pub less_more : (parts : List PartFacts) (wanted : Wanted) (seen : ℕ → Bool) (old : Leaders) (part : PartFacts) (p budget k : ℕ) (groups : Bits64)
-    → part ≡ part_at parts p → AreEligible wanted part p (has groups) → AreLeading parts wanted seen old → IsSmall part → budget ≡ part.budget
-    → smaller part.used part.budget old.used old.budget ≡ true → k < 64 → has groups k ≡ true
-    → AreLeading parts wanted (λ g. seen g || more_of parts wanted p g) (record { groups = groups; used = part.used; budget = budget })
-less_more parts wanted seen old part p budget k groups is eligible are small same less k_below k_in = record {
+pub less_more : (parts : List PartFacts) (set seen : ℕ → Bool) (old : Leaders) (part : PartFacts) (p budget : ℕ) (groups : Bits64)
+    → part ≡ part_at parts p → AreOf p (has groups) → HasGroup set p → AreLeading parts seen old → IsSmall part → budget ≡ part.budget
+    → smaller part.used part.budget old.used old.budget ≡ true
+    → AreLeading parts (λ g. seen g || more_of set p g) (record { groups = groups; used = part.used; budget = budget })
+less_more parts set seen old part p budget groups is are_of one are small same less = record {
   level = λ g below h.
-      ap (λ (q : PartFacts). smaller part.used budget q.used q.budget) (part_here parts part p g is (eligible.own g below h)) ∙ self;
-  all = λ g below among not_less. elim (either (seen g) (more_of parts wanted p g) among) [
+      ap (λ (q : PartFacts). smaller part.used budget q.used q.budget) (part_here parts part p g is (own (has groups) p g are_of below h)) ∙ self;
+  all = λ g below among not_less. elim (either (seen g) (more_of set p g) among) [
     | inl s ↦ absurd (clash (is_less_than parts part.used budget g) (seen_less g below s) not_less)
-    | inr m ↦ more_in parts wanted part p (has groups) is eligible g below m
+    | inr m ↦ more_in set (has groups) p g are_of below m
   ];
-  least = λ g below among. elim (either (seen g) (more_of parts wanted p g) among) [
+  least = λ g below among. elim (either (seen g) (more_of set p g) among) [
     | inl s ↦ smaller_one_way part.used budget (part_at parts (g % 32)).used (part_at parts (g % 32)).budget (seen_less g below s)
     | inr m ↦
-        ap (λ (q : PartFacts). smaller q.used q.budget part.used budget) (part_here parts part p g is (own_of parts wanted p g m)) ∙ self_too
+        ap (λ (q : PartFacts). smaller q.used q.budget part.used budget) (part_here parts part p g is (own_of set p g m)) ∙ self_too
   ];
-  allowed = λ g below h. allowed_here parts wanted part p g is (eligible.own g below h) ∙ eligible.may g below h;
-  some = λ _.
-      let s = eligible.some k k_below k_in in
-      let own = eligible.own s.0 s.1 s.3 in
-      let may = allowed_here parts wanted part p s.0 is own ∙ eligible.may s.0 s.1 s.3 in (
-        s.0,
-        s.1,
-        or_right (seen s.0) (more_of parts wanted p s.0)
-            (pair (is_wanted parts wanted s.0) (nat_eq (s.0 % 32) p) (pair (has wanted.groups s.0) (is_allowed parts wanted s.0) s.2 may) (equal (s.0 % 32) p own)),
-        s.3,
-      );
+  some = λ _. (
+    one.group,
+    one.inside,
+    or_right (seen one.group) (more_of set p one.group)
+        (pair (set one.group) (nat_eq (one.group % 32) p) one.here (equal (one.group % 32) p one.own)),
+    are_of one.group one.inside ∙ equal (one.group % 32) p one.own,
+  );
   one = λ none. absurd (omega (arith, none, same, has_budget part.used part.budget old.used old.budget less));
   used = small.used;
   budget = omega (arith, same, small.budget);
@@ -161,88 +133,77 @@ less_more parts wanted seen old part p budget k groups is eligible are small sam
         (ap (λ (b : ℕ). smaller part.used b old.used old.budget) same ∙ less) (are.least g below s)
 
 -- it has used no less; whether it has used more says who leads
-not_less_more : (parts : List PartFacts) (wanted : Wanted) (seen : ℕ → Bool) (old : Leaders) (part : PartFacts) (p : ℕ) → part ≡ part_at parts p
-    → AreLeading parts wanted seen old → smaller part.used part.budget old.used old.budget ≡ false
-    → (g : ℕ) → g < 64 → (seen g || more_of parts wanted p g) ≡ true → is_more_than parts old.used old.budget g ≡ false
-not_less_more parts wanted seen old part p is are h g below among = elim (either (seen g) (more_of parts wanted p g) among) [
+not_less_more : (parts : List PartFacts) (set seen : ℕ → Bool) (old : Leaders) (part : PartFacts) (p : ℕ) → part ≡ part_at parts p
+    → AreLeading parts seen old → smaller part.used part.budget old.used old.budget ≡ false
+    → (g : ℕ) → g < 64 → (seen g || more_of set p g) ≡ true → is_more_than parts old.used old.budget g ≡ false
+not_less_more parts set seen old part p is are h g below among = elim (either (seen g) (more_of set p g) among) [
   | inl s ↦ are.least g below s
-  | inr m ↦ ap (λ (q : PartFacts). smaller q.used q.budget old.used old.budget) (part_here parts part p g is (own_of parts wanted p g m)) ∙ h
+  | inr m ↦ ap (λ (q : PartFacts). smaller q.used q.budget old.used old.budget) (part_here parts part p g is (own_of set p g m)) ∙ h
 ]
 
 -- it has used the same fraction
-pub equal_more : (parts : List PartFacts) (wanted : Wanted) (seen : ℕ → Bool) (old : Leaders) (part : PartFacts) (p : ℕ) (groups joined : Bits64)
-    → part ≡ part_at parts p → AreEligible wanted part p (has groups) → AreLeading parts wanted seen old
+pub equal_more : (parts : List PartFacts) (set seen : ℕ → Bool) (old : Leaders) (part : PartFacts) (p : ℕ) (groups joined : Bits64)
+    → part ≡ part_at parts p → AreOf p (has groups) → AreLeading parts seen old
     → ((g : ℕ) → has joined g ≡ (has old.groups g || has groups g))
     → smaller part.used part.budget old.used old.budget ≡ false → smaller old.used old.budget part.used part.budget ≡ false
-    → AreLeading parts wanted (λ g. seen g || more_of parts wanted p g) (record { groups = joined; used = old.used; budget = old.budget })
-equal_more parts wanted seen old part p groups joined is eligible are join h i = record {
+    → AreLeading parts (λ g. seen g || more_of set p g) (record { groups = joined; used = old.used; budget = old.budget })
+equal_more parts set seen old part p groups joined is are_of are join h i = record {
   level = λ g below in_joined. elim (either (has old.groups g) (has groups g) (sym (join g) ∙ in_joined)) [
     | inl o ↦ are.level g below o
-    | inr n ↦ ap (λ (q : PartFacts). smaller old.used old.budget q.used q.budget) (part_here parts part p g is (eligible.own g below n)) ∙ i
+    | inr n ↦ ap (λ (q : PartFacts). smaller old.used old.budget q.used q.budget) (part_here parts part p g is (own (has groups) p g are_of below n)) ∙ i
   ];
-  all = λ g below among not_less. join g ∙ (elim (either (seen g) (more_of parts wanted p g) among) [
+  all = λ g below among not_less. join g ∙ (elim (either (seen g) (more_of set p g) among) [
     | inl s ↦ or_left (has old.groups g) (has groups g) (are.all g below s not_less)
-    | inr m ↦ or_right (has old.groups g) (has groups g) (more_in parts wanted part p (has groups) is eligible g below m)
+    | inr m ↦ or_right (has old.groups g) (has groups g) (more_in set (has groups) p g are_of below m)
   ]);
-  least = not_less_more parts wanted seen old part p is are h;
-  allowed = λ g below in_joined. elim (either (has old.groups g) (has groups g) (sym (join g) ∙ in_joined)) [
-    | inl o ↦ are.allowed g below o
-    | inr n ↦ allowed_here parts wanted part p g is (eligible.own g below n) ∙ eligible.may g below n
-  ];
+  least = not_less_more parts set seen old part p is are h;
   some = λ have.
       let s = are.some have in
-      (s.0, s.1, or_left (seen s.0) (more_of parts wanted p s.0) s.2, join s.0 ∙ or_left (has old.groups s.0) (has groups s.0) s.3);
+      (s.0, s.1, or_left (seen s.0) (more_of set p s.0) s.2, join s.0 ∙ or_left (has old.groups s.0) (has groups s.0) s.3);
   one = are.one;
   used = are.used;
   budget = are.budget;
 }
 
 -- it has used more
-pub more_more : (parts : List PartFacts) (wanted : Wanted) (seen : ℕ → Bool) (old : Leaders) (part : PartFacts) (p : ℕ)
-    → part ≡ part_at parts p → AreLeading parts wanted seen old → smaller old.used old.budget part.used part.budget ≡ true
-    → AreLeading parts wanted (λ g. seen g || more_of parts wanted p g) old
-more_more parts wanted seen old part p is are i = record {
+pub more_more : (parts : List PartFacts) (set seen : ℕ → Bool) (old : Leaders) (part : PartFacts) (p : ℕ)
+    → part ≡ part_at parts p → AreLeading parts seen old → smaller old.used old.budget part.used part.budget ≡ true
+    → AreLeading parts (λ g. seen g || more_of set p g) old
+more_more parts set seen old part p is are i = record {
   level = are.level;
-  all = λ g below among not_less. elim (either (seen g) (more_of parts wanted p g) among) [
+  all = λ g below among not_less. elim (either (seen g) (more_of set p g) among) [
     | inl s ↦ are.all g below s not_less
     | inr m ↦ absurd (clash (is_less_than parts old.used old.budget g)
-        (ap (λ (q : PartFacts). smaller old.used old.budget q.used q.budget) (part_here parts part p g is (own_of parts wanted p g m)) ∙ i) not_less)
+        (ap (λ (q : PartFacts). smaller old.used old.budget q.used q.budget) (part_here parts part p g is (own_of set p g m)) ∙ i) not_less)
   ];
-  least = not_less_more parts wanted seen old part p is are (smaller_one_way old.used old.budget part.used part.budget i);
-  allowed = are.allowed;
-  some = λ have. let s = are.some have in (s.0, s.1, or_left (seen s.0) (more_of parts wanted p s.0) s.2, s.3);
+  least = not_less_more parts set seen old part p is are (smaller_one_way old.used old.budget part.used part.budget i);
+  some = λ have. let s = are.some have in (s.0, s.1, or_left (seen s.0) (more_of set p s.0) s.2, s.3);
   one = are.one;
   used = are.used;
   budget = are.budget;
 }
 
--- ---- where all were seen, those of them that are wanted lead
+-- ---- where all were seen, those of the set lead
 
-pub leaders_of : (parts : List PartFacts) (wanted : Wanted) (leading : Leaders) (groups : Bits64)
-    → AreLeading parts wanted (is_wanted parts wanted) leading → ((g : ℕ) → has groups g ≡ (has leading.groups g && has wanted.groups g))
-    → AreLeaders parts (is_wanted parts wanted) (record { groups = groups; used = leading.used; budget = leading.budget })
-leaders_of parts wanted leading groups are meet = record {
-  these = λ g below. meet g ∙ picked (has leading.groups g) (has wanted.groups g) (is_allowed parts wanted g)
-      (is_less_than parts leading.used leading.budget g) (are.allowed g below) (are.level g below)
-      (λ w a not_less. are.all g below (pair (has wanted.groups g) (is_allowed parts wanted g) w a) not_less);
+pub leaders_of : (parts : List PartFacts) (set : ℕ → Bool) (leading : Leaders) (groups : Bits64)
+    → AreLeading parts set leading → ((g : ℕ) → has groups g ≡ (has leading.groups g && set g))
+    → AreLeaders parts set (record { groups = groups; used = leading.used; budget = leading.budget })
+leaders_of parts set leading groups are meet = record {
+  these = λ g below. meet g ∙ picked (has leading.groups g) (set g)
+      (is_less_than parts leading.used leading.budget g) (are.level g below) (λ among not_less. are.all g below among not_less);
   least = are.least;
-  some = λ have.
-      let s = are.some have in
-      (s.0, s.1, meet s.0 ∙ pair (has leading.groups s.0) (has wanted.groups s.0) s.3 (first (has wanted.groups s.0) (is_allowed parts wanted s.0) s.2));
+  some = λ have. let s = are.some have in (s.0, s.1, meet s.0 ∙ pair (has leading.groups s.0) (set s.0) s.3 s.2);
 }
   where
-    both_true : (w : Bool) → w ≡ ((w && true) && not false)
+    both_true : (w : Bool) → w ≡ (w && not false)
     both_true true = refl
     both_true false = refl
 
-    picked : (l w a x : Bool) → (l ≡ true → a ≡ true) → (l ≡ true → x ≡ false) → (w ≡ true → a ≡ true → x ≡ false → l ≡ true)
-        → (l && w) ≡ ((w && a) && not x)
-    picked true w a x may level all =
-        both_true w ∙ sym (ap (λ (t : Bool). (w && t) && not x) (may refl) ∙ ap (λ (t : Bool). (w && true) && not t) (level refl))
-    picked false true true true may level all = refl
-    picked false true true false may level all = absurd (clash false (all refl refl refl) refl)
-    picked false true false x may level all = refl
-    picked false false a x may level all = refl
+    picked : (l w x : Bool) → (l ≡ true → x ≡ false) → (w ≡ true → x ≡ false → l ≡ true) → (l && w) ≡ (w && not x)
+    picked true w x level all = both_true w ∙ sym (ap (λ (t : Bool). w && not t) (level refl))
+    picked false true true level all = refl
+    picked false true false level all = absurd (clash false (all refl refl) refl)
+    picked false false x level all = refl
 
 -- a group is of a partition where it is one of its two
 pub one_of_two : (g p : ℕ) → g < 64 → p < 32 → (nat_eq g (p + 32) || (nat_eq g p || false)) ≡ nat_eq (g % 32) p

@@ -1,4 +1,4 @@
-use Rattle.std.proofs.Common.{◌≡◌, ◌≢◌, ◌⊎◌, inl, inr, ℕ, zero, suc, ◌+◌, ◌%◌, ◌<◌, ◌≤◌, Bool, true, false, cond, ◌&&◌, ◌||◌, not, nat_eq, nat_lt, List, [], ◌∷◌, length, map, Option, Some, None, refl, sym, ◌∙◌, ap, subst, arith}
+use Rattle.std.proofs.Common.{◌≡◌, ◌≢◌, ◌⊎◌, inl, inr, ℕ, zero, suc, ◌+◌, ◌%◌, ◌<◌, ◌≤◌, Bool, true, false, cond, ◌&&◌, ◌||◌, not, nat_eq, nat_lt, List, [], ◌∷◌, length, map, Option, Some, None, refl, sym, ◌∙◌, ap, arith}
 use Rattle.std.specs.List.{Contains, find, range_with_len, list_any}
 use Rattle.std.specs.Option.{option_or}
 use Rattle.std.proofs.lemmas.Bool.{cases_eq}
@@ -15,16 +15,12 @@ use Rattle.aps_levels.specs.Bits.{has}
 use Rattle.aps_ready.specs.declared.entrant.Entrant.{Entrant}
 use Rattle.aps_ready.specs.declared.gates.Gates.{Gates}
 use Rattle.aps_ready.specs.Entrant.{entrant_at}
-use Rattle.aps_ready.specs.Aside.{rest_of, IsDrawnBut}
 use Rattle.aps_ready.specs.Ready.{members, contender_of, seat_of, IsQueued}
-use Rattle.aps_ready.specs.Topped.{AreTopped}
 use Rattle.aps_ready.specs.Winner.{is_candidate_at}
 use Rattle.aps_ready.specs.Gates.{AreGates}
-use Rattle.aps_ready.specs.Index.{level_of}
+use Rattle.aps_ready.specs.Firsts.{firsts_of, level_of}
 use Rattle.aps_ready.proofs.Content.{open_group, open_among, all_candidates}
-use Rattle.aps_ready.proofs.Aside.{aside_or_rest, rest_length, rest_there, within_row}
-use Rattle.aps_ready.proofs.WinLaws.{queued_rest}
-use Rattle.aps_ready.proofs.Tops.{IsKept, occupant, level_at_most}
+use Rattle.aps_ready.proofs.Tops.{kept, occupant, level_at_most}
 use Rattle.aps_ready.proofs.Winner.{first_stands, second_stands, in_one}
 
 -- ---- the first number of a range that does
@@ -263,63 +259,25 @@ not_past parts gates e f p are below past minus =
     not_less : (a b : ℕ) → b ≤ a → nat_lt a b ≡ false
     not_less a b h = grind (arith, nat_tests)
 
--- ---- the groups that somebody is of, in their brackets or aside
+-- ---- the groups that aren't empty
 
-pub groups_occupied : (row : List Entrant) (aside : Entrant) (brackets : List (List Entrant)) (firsts : List Entrant) (some : Bits64)
-    → IsDrawnBut row aside brackets → IsQueued row → AreTopped brackets firsts
-    → ((g : ℕ) → g < 64 → has some g ≡ (nat_eq g aside.group || nat_lt (level_of firsts g) 256)) → AreOccupied row some
-groups_occupied row aside brackets firsts some but queued topped is = record { who = who; all = all }
+pub groups_occupied : (row : List Entrant) (some : Bits64) → IsQueued row
+    → ((g : ℕ) → g < 64 → has some g ≡ nat_lt (level_of (firsts_of row) g) 256) → AreOccupied row some
+groups_occupied row some queued is = record { who = who; all = all }
   where
-    kept : IsKept (rest_of row aside) brackets firsts
-    kept = record { drawn = but.rest; queued = queued_rest row aside but.own queued; topped = topped }
-
-    same_group : (g : ℕ) → nat_eq g aside.group ≡ true → aside.group ≡ g
-    same_group g h = grind (arith, nat_tests)
-
     low : (l : ℕ) → nat_lt l 256 ≡ true → l < 256
     low l h = grind (arith, nat_tests)
-
-    who : (g : ℕ) → g < 64 → has some g ≡ true → IsOf row g
-    who g below h = elim (one_of (nat_eq g aside.group) (nat_lt (level_of firsts g) 256) (sym (is g below) ∙ h)) [
-      | inl own ↦
-          let group : aside.group ≡ g = same_group g own in
-          let inside : aside.group < 64 = omega (arith, group, below) in
-          record {
-            place = aside.thread;
-            within = within_row row aside.thread aside (but.own inside) inside;
-            group = ap (λ (e : Entrant). e.group) (but.own inside) ∙ group;
-          }
-      | inr top ↦
-          let found = occupant (rest_of row aside) brackets firsts g kept below (low (level_of firsts g) top) in
-          let inside : (entrant_at (rest_of row aside) found.place).group < 64 = omega (arith, found.group, below) in
-          record {
-            place = found.place;
-            within = omega (arith, found.within, rest_length row aside);
-            group = ap (λ (e : Entrant). e.group) (sym (rest_there row aside found.place but.own inside)) ∙ found.group;
-          }
-    ]
-
-    left : (a b : Bool) → a ≡ true → (a || b) ≡ true
-    left a b h = rw h refl
-
-    right : (a b : Bool) → b ≡ true → (a || b) ≡ true
-    right true b h = refl
-    right false b h = h
 
     less : (a b : ℕ) → a < b → nat_lt a b ≡ true
     less a b h = grind (arith, nat_tests)
 
+    who : (g : ℕ) → g < 64 → has some g ≡ true → IsOf row g
+    who g below h =
+        let found = occupant row (firsts_of row) g (kept row queued) below (low (level_of (firsts_of row) g) (sym (is g below) ∙ h)) in
+        record { place = found.place; within = found.within; group = found.group }
+
     all : (x : ℕ) → x < length row → (entrant_at row x).group < 64 → has some (entrant_at row x).group ≡ true
-    all x within below = is (entrant_at row x).group below ∙ (elim (aside_or_rest row aside x but.own) [
-      | inl own ↦
-          left (nat_eq (entrant_at row x).group aside.group) (nat_lt (level_of firsts (entrant_at row x).group) 256)
-          (equal (entrant_at row x).group aside.group (ap (λ (e : Entrant). e.group) own.1))
-      | inr rest ↦
-          let e = entrant_at (rest_of row aside) x in
-          let inside : x < length (rest_of row aside) = omega (arith, within, rest_length row aside) in
-          let there : e.group < 64 = subst (λ (f : Entrant). f.group < 64) rest below in
-          let level : level_of firsts e.group < 256 =
-          omega (arith, level_at_most (rest_of row aside) brackets firsts x kept inside there, kept.queued.levels x inside there) in
-          right (nat_eq (entrant_at row x).group aside.group) (nat_lt (level_of firsts (entrant_at row x).group) 256)
-          (ap (λ (f : Entrant). nat_lt (level_of firsts f.group) 256) rest ∙ less (level_of firsts e.group) 256 level)
-    ])
+    all x within below =
+        is (entrant_at row x).group below
+        ∙ less (level_of (firsts_of row) (entrant_at row x).group) 256
+        (omega (arith, level_at_most row (firsts_of row) x (kept row queued) within below, queued.levels x within below))

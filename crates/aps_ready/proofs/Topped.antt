@@ -1,30 +1,45 @@
-use Rattle.std.proofs.Common.{◌≡◌, inl, inr, ℕ, ◌<◌, false, List, [], length, set, replicate, refl, sym, ◌∙◌, subst, arith, length-set, get_or-set_same, get_or-set_other}
-use Rattle.std.proofs.lemmas.Bool.{cases_eq}
-use Rattle.std.proofs.lemmas.List.{get_or-replicate, length-replicate}
-use Rattle.std.proofs.lemmas.List.Elements.{All-replicate}
+use Rattle.std.proofs.Common.{◌≡◌, ℕ, zero, suc, ◌<◌, Bool, true, false, cond, List, [], ◌∷◌, length, map, get_or, refl, sym, subst, arith}
+use Rattle.std.specs.List.{Contains}
+use Rattle.std.proofs.lemmas.Bool.Decides.{nat_tests}
+use Rattle.std.proofs.lemmas.List.FromFn.{get_or-map-range_with_len}
 use Rattle.aps_ready.specs.declared.entrant.Entrant.{Entrant}
-use Rattle.aps_ready.specs.Ready.{bracket_at}
+use Rattle.aps_ready.specs.Entrant.{IsFirst, goes_before, vacant}
+use Rattle.aps_ready.specs.Firsts.{first_of, firsts_of}
+use Rattle.aps_ready.specs.Ready.{entrant_in}
 use Rattle.aps_ready.specs.Topped.{AreTopped}
-use Rattle.aps_ready.specs.Entrant.{IsFirst, entrant_at, goes_before, vacant}
 
-pub topped_set : (brackets : List (List Entrant)) (firsts : List Entrant) (k : ℕ) (bracket : List Entrant) (first : Entrant) → AreTopped brackets firsts
-    → length brackets ≡ 64 → k < 64 → IsFirst bracket first → AreTopped (set brackets k bracket) (set firsts k first)
-topped_set brackets firsts k bracket first topped count below is_first = record {
-  groups = length-set firsts k first ∙ topped.groups;
-  each = λ g g_below. elim (cases_eq g k) [
-    | inl same ↦
-        let here : bracket_at (set brackets k bracket) k ≡ bracket = get_or-set_same brackets k bracket [] (omega (arith, count, below)) in
-        let first_here : entrant_at (set firsts k first) k ≡ first = get_or-set_same firsts k first vacant (omega (arith, topped.groups, below)) in
-        subst (λ (j : ℕ). IsFirst (bracket_at (set brackets k bracket) j) (entrant_at (set firsts k first) j)) (sym same) (rw (here, first_here) is_first)
-    | inr ne ↦ rw (get_or-set_other brackets k g bracket [] ne, get_or-set_other firsts k g first vacant ne) (topped.each g g_below)
-  ];
-}
+before_itself : (a : Entrant) → goes_before a a ≡ false
+before_itself a = grind (arith, nat_tests)
 
-pub topped_replicate : (n : ℕ) → AreTopped (replicate 64 (replicate n vacant)) (replicate 64 vacant)
-topped_replicate n = record {
-  groups = length-replicate {A = Entrant} 64 vacant;
-  each = λ g below. rw (get_or-replicate 64 g (replicate n vacant) [] below, get_or-replicate {A = Entrant} 64 g vacant vacant below) (record {
-    one = (0, omega arith, refl);
-    others = All-replicate (λ (e : Entrant). goes_before e vacant ≡ false) n vacant refl;
-  });
-}
+after_chain : (a b c : Entrant) → goes_before a b ≡ false → goes_before c b ≡ true → goes_before a c ≡ false
+after_chain a b c h k = grind (arith, nat_tests)
+
+-- ---- the first of a row
+
+one_more : (e first : Entrant) (row : List Entrant) → Contains (vacant ∷ row) first → Contains (vacant ∷ e ∷ row) first
+one_more e first row (zero, within, is) = (0, omega arith, is)
+one_more e first row (suc k, within, is) = (suc (suc k), omega (arith, within), is)
+
+pub first_goes : (row : List Entrant) → IsFirst row (first_of row)
+first_goes [] = record { one = (0, omega arith, refl); others = λ k d within. absurd (omega (arith, within)) }
+first_goes (e ∷ row) = by_test (first_goes row) (goes_before e (first_of row)) refl
+  where
+    by_test : IsFirst row (first_of row) → (t : Bool) → goes_before e (first_of row) ≡ t → IsFirst (e ∷ row) (cond t e (first_of row))
+    by_test rest true h = record { one = (1, omega arith, refl); others = by_place }
+      where
+        by_place : (k : ℕ) (d : Entrant) → k < length (e ∷ row) → goes_before (get_or (e ∷ row) k d) e ≡ false
+        by_place zero d within = before_itself e
+        by_place (suc k) d within = after_chain (get_or row k d) (first_of row) e (rest.others k d (omega (arith, within))) h
+    by_test rest false h = record { one = one_more e (first_of row) row rest.one; others = by_place }
+      where
+        by_place : (k : ℕ) (d : Entrant) → k < length (e ∷ row) → goes_before (get_or (e ∷ row) k d) (first_of row) ≡ false
+        by_place zero d within = h
+        by_place (suc k) d within = rest.others k d (omega (arith, within))
+
+-- ---- the firsts of the groups
+
+pub firsts_topped : (row : List Entrant) → AreTopped row (firsts_of row)
+firsts_topped row g below =
+    subst (IsFirst (map (entrant_in g) row))
+    (sym (get_or-map-range_with_len (λ (h : ℕ). first_of (map (entrant_in h) row)) 0 64 g g vacant below (omega arith)))
+    (first_goes (map (entrant_in g) row))

@@ -4,10 +4,11 @@ use Rattle.std.proofs.lemmas.Bool.Decides.{nat_tests}
 use Rattle.std.proofs.lemmas.List.{length-map, get_or-map}
 use Rattle.aps_ready.specs.declared.entrant.Entrant.{Entrant}
 use Rattle.aps_ready.specs.Entrant.{entrant_at, vacant, goes_before, IsFirst}
-use Rattle.aps_ready.specs.Index.{level_of}
-use Rattle.aps_ready.specs.Ready.{entrant_in, AreDrawn, IsQueued}
+use Rattle.aps_ready.specs.Firsts.{firsts_of, level_of}
+use Rattle.aps_ready.specs.Ready.{entrant_in, IsQueued}
 use Rattle.aps_ready.specs.Topped.{AreTopped}
 use Rattle.aps_ready.specs.Best.{Sits}
+use Rattle.aps_ready.proofs.Topped.{firsts_topped}
 
 -- ---- the first of a group
 
@@ -87,26 +88,27 @@ sits_level row e queued g sits =
 -- ---- the levels of the groups
 
 -- what is kept of the row
-pub record IsKept (row : List Entrant) (brackets : List (List Entrant)) (firsts : List Entrant) : Type 0 where
-  pub drawn : AreDrawn row brackets
+pub record IsKept (row firsts : List Entrant) : Type 0 where
   pub queued : IsQueued row
-  pub topped : AreTopped brackets firsts
+  pub topped : AreTopped row firsts
 
-pub top_of : (row : List Entrant) (brackets : List (List Entrant)) (firsts : List Entrant) (g : ℕ) → IsKept row brackets firsts → g < 64
+pub kept : (row : List Entrant) → IsQueued row → IsKept row (firsts_of row)
+kept row queued = record { queued = queued; topped = firsts_topped row }
+
+pub top_of : (row : List Entrant) (firsts : List Entrant) (g : ℕ) → IsKept row firsts → g < 64
     → IsTop row g (entrant_at firsts g)
-top_of row brackets firsts g kept below =
-    top_is row g (entrant_at firsts g) below kept.queued
-    (subst (λ (b : List Entrant). IsFirst b (entrant_at firsts g)) (kept.drawn.drawn g below) (kept.topped.each g below))
+top_of row firsts g kept below =
+    top_is row g (entrant_at firsts g) below kept.queued (kept.topped g below)
 
 not_before : (first e : Entrant) → goes_before e first ≡ false → first.level ≤ e.level
 not_before first e h = grind (arith, nat_tests)
 
 -- nobody has a lower level than its group
-pub level_at_most : (row : List Entrant) (brackets : List (List Entrant)) (firsts : List Entrant) (x : ℕ) → IsKept row brackets firsts
+pub level_at_most : (row : List Entrant) (firsts : List Entrant) (x : ℕ) → IsKept row firsts
     → x < length row → (entrant_at row x).group < 64 → level_of firsts (entrant_at row x).group ≤ (entrant_at row x).level
-level_at_most row brackets firsts x kept within below =
+level_at_most row firsts x kept within below =
     let g = (entrant_at row x).group in
-    not_before (entrant_at firsts g) (entrant_at row x) ((top_of row brackets firsts g kept below).first x within refl).1
+    not_before (entrant_at firsts g) (entrant_at row x) ((top_of row firsts g kept below).first x within refl).1
 
 -- somebody of the group has its level
 pub record Occupant (row : List Entrant) (g at_level : ℕ) : Type 0 where
@@ -115,10 +117,10 @@ pub record Occupant (row : List Entrant) (g at_level : ℕ) : Type 0 where
   pub group : (entrant_at row place).group ≡ g
   pub level : (entrant_at row place).level ≡ at_level
 
-pub occupant : (row : List Entrant) (brackets : List (List Entrant)) (firsts : List Entrant) (g : ℕ) → IsKept row brackets firsts
+pub occupant : (row : List Entrant) (firsts : List Entrant) (g : ℕ) → IsKept row firsts
     → g < 64 → level_of firsts g < 256 → Occupant row g (level_of firsts g)
-occupant row brackets firsts g kept below some =
-    by_kind (who row g first (subst (λ (b : List Entrant). Contains (vacant ∷ b) first) (kept.drawn.drawn g below) (kept.topped.each g below).one))
+occupant row firsts g kept below some =
+    by_kind (who row g first (kept.topped g below).one)
   where
     first : Entrant
     first = entrant_at firsts g

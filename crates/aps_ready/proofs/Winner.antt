@@ -16,7 +16,7 @@ use Rattle.aps_ready.specs.declared.gates.Gates.{Gates}
 use Rattle.aps_ready.specs.Entrant.{entrant_at, goes_before}
 use Rattle.aps_ready.specs.Ready.{members, facts_of, contender_of, seat_of, IsQueued}
 use Rattle.aps_ready.specs.Gates.{is_first, is_open, open_first, AreGates}
-use Rattle.aps_ready.specs.Index.{level_of, AreLeast, AreEmpty}
+use Rattle.aps_ready.specs.Firsts.{level_of, AreLeast, AreEmpty}
 use Rattle.aps_ready.specs.Likely.{AreOccupied, AreLikely, AreLikelySecond}
 use Rattle.aps_ready.specs.Choice.{is_ahead}
 use Rattle.aps_ready.specs.Best.{Sits, IsBest}
@@ -141,14 +141,14 @@ in_found firsts set found least g below h =
 not_before : (first e : Entrant) → goes_before e first ≡ false → first.level ≤ e.level
 not_before first e h = grind (arith, nat_tests)
 
-at_least : (parts : List PartFacts) (row : List Entrant) (brackets : List (List Entrant)) (firsts : List Entrant) (set found : ℕ → Bool) (best : Entrant)
-    → IsKept row brackets firsts → (least : AreLeast firsts set found) → IsBest parts row found best
+at_least : (parts : List PartFacts) (row : List Entrant) (firsts : List Entrant) (set found : ℕ → Bool) (best : Entrant)
+    → IsKept row firsts → (least : AreLeast firsts set found) → IsBest parts row found best
     → IsAtLeast firsts set found best least.level
-at_least parts row brackets firsts set found best kept least is_best = record { there = there; among = own.1; level = omega (arith, low, high) }
+at_least parts row firsts set found best kept least is_best = record { there = there; among = own.1; level = omega (arith, low, high) }
   where
     -- who has the level of the group, in any of the found groups
     at : (g : ℕ) → g < 64 → found g ≡ true → Occupant row g (level_of firsts g)
-    at g below h = occupant row brackets firsts g kept below (omega (arith, least.below, (in_found firsts set found least g below h).0))
+    at g below h = occupant row firsts g kept below (omega (arith, least.below, (in_found firsts set found least g below h).0))
 
     -- and so isn't ahead of the best
     behind : (g : ℕ) → (below : g < 64) → (h : found g ≡ true)
@@ -169,7 +169,7 @@ at_least parts row brackets firsts set found best kept least is_best = record { 
     low : least.level ≤ best.level
     low = subst (λ (l : ℕ). l ≤ best.level) own.0
         (subst (λ (e : Entrant). level_of firsts e.group ≤ e.level) sits.is
-        (level_at_most row brackets firsts sits.place kept sits.within (subst (λ (e : Entrant). e.group < 64) (sym sits.is) there)))
+        (level_at_most row firsts sits.place kept sits.within (subst (λ (e : Entrant). e.group < 64) (sym sits.is) there)))
 
     high : best.level ≤ least.level
     high =
@@ -180,14 +180,14 @@ at_least parts row brackets firsts set found best kept least is_best = record { 
         omega (arith, not_before best e before, who.level, own.0)
 
 -- of the set nobody is above it
-not_above : (free : Free) (parts : List PartFacts) (row : List Entrant) (brackets : List (List Entrant)) (firsts : List Entrant)
+not_above : (free : Free) (parts : List PartFacts) (row : List Entrant) (firsts : List Entrant)
     (set found : ℕ → Bool) (best : Entrant) (k x : ℕ)
-    → IsKept row brackets firsts → (least : AreLeast firsts set found) → IsBest parts row found best
+    → IsKept row firsts → (least : AreLeast firsts set found) → IsBest parts row found best
     → class_at parts best ≡ k → class_at parts (entrant_at row x) ≡ k
     → (best.level < (entrant_at row x).level → is_above free parts (entrant_at row x) best ≡ false)
     → x < length row → (entrant_at row x).group < 64 → set (entrant_at row x).group ≡ true
     → is_above free parts (entrant_at row x) best ≡ false
-not_above free parts row brackets firsts set found best k x kept least is_best best_class class lower within below among =
+not_above free parts row firsts set found best k x kept least is_best best_class class lower within below among =
     elim (below_or_not best.level (entrant_at row x).level) [
       | inl low ↦ lower low
       | inr high ↦ above_tie free parts (entrant_at row x) best k class best_class (same_level high) (behind high).1
@@ -197,13 +197,13 @@ not_above free parts row brackets firsts set found best k x kept least is_best b
     e = entrant_at row x
 
     best_at : IsAtLeast firsts set found best least.level
-    best_at = at_least parts row brackets firsts set found best kept least is_best
+    best_at = at_least parts row firsts set found best kept least is_best
 
     from_least : least.level ≤ level_of firsts e.group
     from_least = least.least e.group below among
 
     to_level : level_of firsts e.group ≤ e.level
-    to_level = level_at_most row brackets firsts x kept within below
+    to_level = level_at_most row firsts x kept within below
 
     same_level : e.level ≤ best.level → e.level ≡ best.level
     same_level high = omega (arith, high, from_least, to_level, best_at.level)
@@ -225,29 +225,29 @@ small : (row : List Entrant) (x : ℕ) → IsQueued row → x < length row → (
 small row x queued within below = queued.levels x within below
 
 -- an empty group has nobody
-no_member : (row : List Entrant) (brackets : List (List Entrant)) (firsts : List Entrant) (set : Bits64) (x : ℕ) → IsKept row brackets firsts → AreEmpty firsts set
+no_member : (row : List Entrant) (firsts : List Entrant) (set : Bits64) (x : ℕ) → IsKept row firsts → AreEmpty firsts set
     → x < length row → (entrant_at row x).group < 64 → has set (entrant_at row x).group ≡ true → ⊥
-no_member row brackets firsts set x kept empty within below among =
+no_member row firsts set x kept empty within below among =
     omega (
       arith,
       empty (entrant_at row x).group below among,
-      level_at_most row brackets firsts x kept within below,
+      level_at_most row firsts x kept within below,
       kept.queued.levels x within below,
     )
 
 -- ---- somebody of class 1
 
-pub first_wins : (free : Free) (parts : List PartFacts) (row : List Entrant) (brackets : List (List Entrant)) (firsts : List Entrant)
-    (gates : Gates) (found : Bits64) (best : Entrant) → AreGates parts gates → IsKept row brackets firsts → AreLeast firsts (has gates.first) (has found)
+pub first_wins : (free : Free) (parts : List PartFacts) (row : List Entrant) (firsts : List Entrant)
+    (gates : Gates) (found : Bits64) (best : Entrant) → AreGates parts gates → IsKept row firsts → AreLeast firsts (has gates.first) (has found)
     → IsBest parts row (has found) best → IsWinner free parts row best
-first_wins free parts row brackets firsts gates found best are kept least is_best = record {
+first_wins free parts row firsts gates found best are kept least is_best = record {
   open_here = λ _. stands.candidate;
   sits = is_best.sits;
   others = λ x within here. (best_at.there, beaten x within here (in_one parts gates (entrant_at row x) are here));
 }
   where
     best_at : IsAtLeast firsts (has gates.first) (has found) best least.level
-    best_at = at_least parts row brackets firsts (has gates.first) (has found) best kept least is_best
+    best_at = at_least parts row firsts (has gates.first) (has found) best kept least is_best
 
     stands : Stands parts best 1
     stands = first_stands parts gates best are best_at.there best_at.among
@@ -258,7 +258,7 @@ first_wins free parts row brackets firsts gates found best are kept least is_bes
     beaten x within here (inl one) =
         let below = open_group parts (entrant_at row x) here in
         let class = (first_stands parts gates (entrant_at row x) are below one).class in
-        not_above free parts row brackets firsts (has gates.first) (has found) best 1 x kept least is_best stands.class class
+        not_above free parts row firsts (has gates.first) (has found) best 1 x kept least is_best stands.class class
         (λ low. above_lower_first free parts (entrant_at row x) best class stands.class low (small row x kept.queued within below))
         within below one
     beaten x within here (inr two) =
@@ -266,11 +266,11 @@ first_wins free parts row brackets firsts gates found best are kept least is_bes
         above_class free parts (entrant_at row x) best (second_stands parts gates (entrant_at row x) are below two).class stands.class
 
 -- somebody of class 1 at the least level of all
-pub near_wins : (free : Free) (parts : List PartFacts) (row : List Entrant) (brackets : List (List Entrant)) (firsts : List Entrant)
-    (occupied near : Bits64) (best : Entrant) → IsKept row brackets firsts
+pub near_wins : (free : Free) (parts : List PartFacts) (row : List Entrant) (firsts : List Entrant)
+    (occupied near : Bits64) (best : Entrant) → IsKept row firsts
     → ((g : ℕ) → g < 64 → has occupied g ≡ nat_lt (level_of firsts g) 256) → AreLeast firsts (has occupied) (has near)
     → IsBest parts row (λ g. has near g && open_first parts g) best → best.group < 64 → IsWinner free parts row best
-near_wins free parts row brackets firsts occupied near best kept some least is_best there = record {
+near_wins free parts row firsts occupied near best kept some least is_best there = record {
   open_here = λ _. stands.candidate;
   sits = is_best.sits;
   others = λ x within here. (there, beaten x within here (open_first parts (entrant_at row x).group) refl);
@@ -320,56 +320,56 @@ near_wins free parts row brackets firsts occupied near best kept some least is_b
     beaten x within here true one =
         let below = open_group parts (entrant_at row x) here in
         let class = (open_stands parts (entrant_at row x) below one).class in
-        not_above free parts row brackets firsts (open_first parts) found best 1 x kept least_open is_best stands.class class
+        not_above free parts row firsts (open_first parts) found best 1 x kept least_open is_best stands.class class
         (λ low. above_lower_first free parts (entrant_at row x) best class stands.class low (small row x kept.queued within below))
         within below one
     beaten x within here false two = above_class free parts (entrant_at row x) best (other_class parts (entrant_at row x) here two) stands.class
 
 -- ---- nobody of class 1
 
-only_second : (parts : List PartFacts) (row : List Entrant) (brackets : List (List Entrant)) (firsts : List Entrant) (gates : Gates) (x : ℕ)
-    → AreGates parts gates → IsKept row brackets firsts → AreEmpty firsts gates.first → x < length row
+only_second : (parts : List PartFacts) (row : List Entrant) (firsts : List Entrant) (gates : Gates) (x : ℕ)
+    → AreGates parts gates → IsKept row firsts → AreEmpty firsts gates.first → x < length row
     → is_candidate_at parts (entrant_at row x) ≡ true → has gates.second (entrant_at row x).group ≡ true
-only_second parts row brackets firsts gates x are kept empty within here =
+only_second parts row firsts gates x are kept empty within here =
     by_side (in_one parts gates (entrant_at row x) are here)
   where
     by_side : (has gates.first (entrant_at row x).group ≡ true) ⊎ (has gates.second (entrant_at row x).group ≡ true)
         → has gates.second (entrant_at row x).group ≡ true
-    by_side (inl one) = absurd (no_member row brackets firsts gates.first x kept empty within (open_group parts (entrant_at row x) here) one)
+    by_side (inl one) = absurd (no_member row firsts gates.first x kept empty within (open_group parts (entrant_at row x) here) one)
     by_side (inr two) = two
 
-pub second_wins : (parts : List PartFacts) (row : List Entrant) (brackets : List (List Entrant)) (firsts : List Entrant)
-    (gates : Gates) (found : Bits64) (best : Entrant) → AreGates parts gates → IsKept row brackets firsts → AreEmpty firsts gates.first
+pub second_wins : (parts : List PartFacts) (row : List Entrant) (firsts : List Entrant)
+    (gates : Gates) (found : Bits64) (best : Entrant) → AreGates parts gates → IsKept row firsts → AreEmpty firsts gates.first
     → AreLeast firsts (has gates.second) (has found) → IsBest parts row (has found) best → IsWinner Priority parts row best
-second_wins parts row brackets firsts gates found best are kept empty least is_best = record {
+second_wins parts row firsts gates found best are kept empty least is_best = record {
   open_here = λ _. stands.candidate;
   sits = is_best.sits;
   others = λ x within here.
       let below = open_group parts (entrant_at row x) here in
-      let two = only_second parts row brackets firsts gates x are kept empty within here in
+      let two = only_second parts row firsts gates x are kept empty within here in
       let class = (second_stands parts gates (entrant_at row x) are below two).class in (
         best_at.there,
-        not_above Priority parts row brackets firsts (has gates.second) (has found) best 0 x kept least is_best stands.class class
+        not_above Priority parts row firsts (has gates.second) (has found) best 0 x kept least is_best stands.class class
             (λ low. above_lower_second parts (entrant_at row x) best class stands.class low (small row x kept.queued within below))
             within below two,
       );
 }
   where
     best_at : IsAtLeast firsts (has gates.second) (has found) best least.level
-    best_at = at_least parts row brackets firsts (has gates.second) (has found) best kept least is_best
+    best_at = at_least parts row firsts (has gates.second) (has found) best kept least is_best
 
     stands : Stands parts best 0
     stands = second_stands parts gates best are best_at.there best_at.among
 
-pub ratio_wins : (parts : List PartFacts) (row : List Entrant) (brackets : List (List Entrant)) (firsts : List Entrant)
-    (gates : Gates) (found : Bits64) (best : Entrant) → AreGates parts gates → IsKept row brackets firsts → AreEmpty firsts gates.first
+pub ratio_wins : (parts : List PartFacts) (row : List Entrant) (firsts : List Entrant)
+    (gates : Gates) (found : Bits64) (best : Entrant) → AreGates parts gates → IsKept row firsts → AreEmpty firsts gates.first
     → AreOccupied firsts gates.second found → IsBest parts row (has found) best → IsWinner Ratio parts row best
-ratio_wins parts row brackets firsts gates found best are kept empty occupied is_best = record {
+ratio_wins parts row firsts gates found best are kept empty occupied is_best = record {
   open_here = λ g. (stands g).candidate;
   sits = is_best.sits;
   others = λ x within here.
       let below = open_group parts (entrant_at row x) here in
-      let two = only_second parts row brackets firsts gates x are kept empty within here in
+      let two = only_second parts row firsts gates x are kept empty within here in
       let class = (second_stands parts gates (entrant_at row x) are below two).class in
       let level = small row x kept.queued within below in
       let behind = is_best.others x within below (is_found x within below level two) in (
@@ -386,7 +386,7 @@ ratio_wins parts row brackets firsts gates found best are kept empty occupied is
     is_found : (x : ℕ) → x < length row → (entrant_at row x).group < 64 → (entrant_at row x).level ≤ 255
         → has gates.second (entrant_at row x).group ≡ true → has found (entrant_at row x).group ≡ true
     is_found x within below level two =
-        let most = level_at_most row brackets firsts x kept within below in
+        let most = level_at_most row firsts x kept within below in
         occupied (entrant_at row x).group below
         ∙ pair (has gates.second (entrant_at row x).group) (nat_lt (level_of firsts (entrant_at row x).group) 256) two
         (less (level_of firsts (entrant_at row x).group) 256 (omega (arith, most, level)))
@@ -397,31 +397,31 @@ ratio_wins parts row brackets firsts gates found best are kept empty occupied is
         less : (a b : ℕ) → a < b → nat_lt a b ≡ true
         less a b h = grind (arith, nat_tests)
 
-pub nobody_wins : (parts : List PartFacts) (row : List Entrant) (brackets : List (List Entrant)) (firsts : List Entrant)
-    (gates : Gates) (found : Bits64) (best : Entrant) → AreGates parts gates → IsKept row brackets firsts → AreEmpty firsts gates.first
+pub nobody_wins : (parts : List PartFacts) (row : List Entrant) (firsts : List Entrant)
+    (gates : Gates) (found : Bits64) (best : Entrant) → AreGates parts gates → IsKept row firsts → AreEmpty firsts gates.first
     → AreEmpty firsts gates.second → ((g : ℕ) → g < 64 → has found g ≡ false) → IsBest parts row (has found) best
     → IsWinner Priority parts row best
-nobody_wins parts row brackets firsts gates found best are kept empty empty_too none is_best = record {
+nobody_wins parts row firsts gates found best are kept empty empty_too none is_best = record {
   open_here = λ g. absurd (clash (has found best.group) (is_best.inside g) (none best.group g));
   sits = is_best.sits;
   others = λ x within here.
-      absurd (no_member row brackets firsts gates.second x kept empty_too within (open_group parts (entrant_at row x) here)
-      (only_second parts row brackets firsts gates x are kept empty within here));
+      absurd (no_member row firsts gates.second x kept empty_too within (open_group parts (entrant_at row x) here)
+      (only_second parts row firsts gates x are kept empty within here));
 }
   where
     clash : (t : Bool) → t ≡ true → t ≡ false → ⊥
     clash t p q = cc
 
-pub likely_wins : (free : Free) (parts : List PartFacts) (row : List Entrant) (brackets : List (List Entrant)) (firsts : List Entrant)
-    (gates : Gates) (found : Bits64) (best : Entrant) → AreGates parts gates → IsKept row brackets firsts → AreLikely free firsts gates found
+pub likely_wins : (free : Free) (parts : List PartFacts) (row : List Entrant) (firsts : List Entrant)
+    (gates : Gates) (found : Bits64) (best : Entrant) → AreGates parts gates → IsKept row firsts → AreLikely free firsts gates found
     → IsBest parts row (has found) best → IsWinner free parts row best
-likely_wins free parts row brackets firsts gates found best are kept (inl least) is_best =
-    first_wins free parts row brackets firsts gates found best are kept least is_best
-likely_wins Ratio parts row brackets firsts gates found best are kept (inr rest) is_best =
-    ratio_wins parts row brackets firsts gates found best are kept rest.0 rest.1 is_best
-likely_wins Priority parts row brackets firsts gates found best are kept (inr rest) is_best = elim rest.1 [
-  | inl least ↦ second_wins parts row brackets firsts gates found best are kept rest.0 least is_best
-  | inr none ↦ nobody_wins parts row brackets firsts gates found best are kept rest.0 none.0 none.1 is_best
+likely_wins free parts row firsts gates found best are kept (inl least) is_best =
+    first_wins free parts row firsts gates found best are kept least is_best
+likely_wins Ratio parts row firsts gates found best are kept (inr rest) is_best =
+    ratio_wins parts row firsts gates found best are kept rest.0 rest.1 is_best
+likely_wins Priority parts row firsts gates found best are kept (inr rest) is_best = elim rest.1 [
+  | inl least ↦ second_wins parts row firsts gates found best are kept rest.0 least is_best
+  | inr none ↦ nobody_wins parts row firsts gates found best are kept rest.0 none.0 none.1 is_best
 ]
 
 -- ---- it is the greatest candidate

@@ -1,10 +1,7 @@
-use Rattle.std.specs.Prelude.{◌≡◌, ℕ, ◌<◌, ◌≤◌, Bool, true, false, ◌&&◌, ◌||◌, not, List, length}
+use Rattle.std.specs.Prelude.{◌≡◌, ℕ, ◌<◌, ◌≤◌, Bool, true, false, List, length}
 use Rattle.aps_model.specs.declared.merit.PartFacts.{PartFacts}
 use Rattle.aps_ready.specs.declared.entrant.Entrant.{Entrant}
-use Rattle.aps_ready.specs.declared.leaders.Wanted.{Wanted}
-use Rattle.aps_levels.specs.Bits.{has}
 use Rattle.aps_ready.specs.Entrant.{entrant_at}
-use Rattle.aps_ready.specs.Gates.{open_first}
 use Rattle.aps_ready.specs.Choice.{is_ahead}
 
 -- somebody sits there
@@ -12,14 +9,6 @@ pub record Sits (row : List Entrant) (e : Entrant) : Type 0 where
   pub place : ℕ
   pub within : place < length row
   pub is : entrant_at row place ≡ e
-
--- the group may be wanted: it is one of candidates of class 1 where these alone are
-abbrev pub is_allowed : List PartFacts → Wanted → ℕ → Bool
-is_allowed parts wanted g = not wanted.first_alone || open_first parts g
-
--- the group is one of these, and may be wanted
-abbrev pub is_wanted : List PartFacts → Wanted → ℕ → Bool
-is_wanted parts wanted g = has wanted.groups g && is_allowed parts wanted g
 
 -- of those in these groups nobody is ahead of the best, who is one of them; nobody is best where these groups are empty
 pub record IsBest (parts : List PartFacts) (row : List Entrant) (among : ℕ → Bool) (best : Entrant) : Type 0 where

@@ -1,19 +1,6 @@
 use Rattle.std.specs.Prelude.{◌≡◌, ℕ, ◌<◌, ◌≤◌, Bool, true, List, length}
 use Rattle.aps_ready.specs.declared.entrant.Entrant.{Entrant}
 use Rattle.aps_ready.specs.Entrant.{entrant_at}
-use Rattle.aps_ready.specs.Index.{level_of}
-
--- a group of the set stands at the level
-pub record HasGroupAt (firsts : List Entrant) (set : ℕ → Bool) (level : ℕ) : Type 0 where
-  pub group : ℕ
-  pub below : group < 64
-  pub among : set group ≡ true
-  pub is : level_of firsts group ≡ level
-
--- the least level of the groups of the set, 256 where all of them are empty
-pub record IsLowest (firsts : List Entrant) (set : ℕ → Bool) (level : ℕ) : Type 0 where
-  pub least : (g : ℕ) → g < 64 → set g ≡ true → level ≤ level_of firsts g
-  pub some : level < 256 → HasGroupAt firsts set level
 
 -- somebody in a group of the set has the level
 pub record HasOneAt (row : List Entrant) (set : ℕ → Bool) (level : ℕ) : Type 0 where

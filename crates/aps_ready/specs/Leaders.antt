@@ -1,13 +1,10 @@
-use Rattle.std.specs.Prelude.{◌≡◌, ℕ, ◌%◌, ◌<◌, ◌≤◌, Bool, true, false, ◌&&◌, ◌||◌, not, nat_lt, List}
+use Rattle.std.specs.Prelude.{◌≡◌, ℕ, ◌%◌, ◌<◌, ◌≤◌, Bool, true, false, ◌&&◌, not, List}
 use Rattle.aps_model.specs.declared.merit.PartFacts.{PartFacts}
 use Rattle.aps_model.specs.Merit.{smaller}
 use Rattle.aps_model.specs.Budget.{part_at}
 use Rattle.aps_levels.specs.Bits.{has}
 use Rattle.aps_ready.specs.declared.entrant.Entrant.{Entrant}
 use Rattle.aps_ready.specs.declared.leaders.Leaders.{Leaders}
-use Rattle.aps_ready.specs.declared.leaders.Wanted.{Wanted}
-use Rattle.aps_ready.specs.Best.{is_allowed}
-use Rattle.aps_ready.specs.Gates.{is_open_first}
 use Rattle.aps_ready.specs.Entrant.{entrant_at}
 
 -- the fraction is smaller than that which the partition of a group has used
@@ -26,33 +23,12 @@ pub record HasGroup (set : ℕ → Bool) (p : ℕ) : Type 0 where
   pub here : set group ≡ true
   pub own : group % 32 ≡ p
 
--- groups of a partition that stands so, whose threads are candidates of class 1, and among them all those of the set; any of
--- them only where the set has one of them
-pub record AreFirst (set : ℕ → Bool) (part : PartFacts) (p : ℕ) (these : ℕ → Bool) : Type 0 where
-  pub own : (g : ℕ) → g < 64 → these g ≡ true → g % 32 ≡ p
-  pub first : (g : ℕ) → g < 64 → these g ≡ true → is_open_first part (nat_lt 31 g) ≡ true
-  pub all : (g : ℕ) → g < 64 → set g ≡ true → is_open_first part (nat_lt 31 g) ≡ true → g % 32 ≡ p → these g ≡ true
-  pub some : (k : ℕ) → k < 64 → these k ≡ true → (g : ℕ) × (g < 64) × (set g ≡ true) × (these g ≡ true)
-
--- a group of a partition that stands so may be wanted
-abbrev pub may_lead : Wanted → PartFacts → ℕ → Bool
-may_lead wanted part g = not wanted.first_alone || is_open_first part (nat_lt 31 g)
-
--- groups of a partition that stands so, which may be wanted, and among them all those that are; any of them only where one
--- of them is
-pub record AreEligible (wanted : Wanted) (part : PartFacts) (p : ℕ) (these : ℕ → Bool) : Type 0 where
-  pub own : (g : ℕ) → g < 64 → these g ≡ true → g % 32 ≡ p
-  pub may : (g : ℕ) → g < 64 → these g ≡ true → may_lead wanted part g ≡ true
-  pub all : (g : ℕ) → g < 64 → has wanted.groups g ≡ true → may_lead wanted part g ≡ true → g % 32 ≡ p → these g ≡ true
-  pub some : (k : ℕ) → k < 64 → these k ≡ true → (g : ℕ) × (g < 64) × (has wanted.groups g ≡ true) × (these g ≡ true)
-
--- groups that may be wanted, whose partitions have used the fraction of the leaders, and among them all those that were seen;
--- none that was seen has used less
-pub record AreLeading (parts : List PartFacts) (wanted : Wanted) (seen : ℕ → Bool) (leaders : Leaders) : Type 0 where
+-- groups whose partitions have used the fraction of the leaders, and among them all those that were seen; none that was seen has
+-- used less
+pub record AreLeading (parts : List PartFacts) (seen : ℕ → Bool) (leaders : Leaders) : Type 0 where
   pub level : (g : ℕ) → g < 64 → has leaders.groups g ≡ true → is_less_than parts leaders.used leaders.budget g ≡ false
   pub all : (g : ℕ) → g < 64 → seen g ≡ true → is_less_than parts leaders.used leaders.budget g ≡ false → has leaders.groups g ≡ true
   pub least : (g : ℕ) → g < 64 → seen g ≡ true → is_more_than parts leaders.used leaders.budget g ≡ false
-  pub allowed : (g : ℕ) → g < 64 → has leaders.groups g ≡ true → is_allowed parts wanted g ≡ true
   pub some : 0 < leaders.budget → (g : ℕ) × (g < 64) × (seen g ≡ true) × (has leaders.groups g ≡ true)
   pub one : leaders.budget ≡ 0 → leaders.used ≡ 1
   pub used : leaders.used ≤ 100000000000000

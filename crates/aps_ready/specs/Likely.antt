@@ -5,7 +5,7 @@ use Rattle.aps_levels.specs.declared.bits.Bits64.{Bits64}
 use Rattle.aps_levels.specs.Bits.{has}
 use Rattle.aps_ready.specs.declared.entrant.Entrant.{Entrant}
 use Rattle.aps_ready.specs.declared.gates.Gates.{Gates}
-use Rattle.aps_ready.specs.Index.{level_of, AreLeast, AreEmpty}
+use Rattle.aps_ready.specs.Firsts.{level_of, AreLeast, AreEmpty}
 
 -- the groups of the set that aren't empty
 abbrev pub AreOccupied : List Entrant → Bits64 → Bits64 → Type 0

@@ -1,4 +1,4 @@
-use Rattle.std.specs.Prelude.{◌≡◌, ◌≢◌, ℕ, ◌-◌, ◌%◌, ◌<◌, ◌≤◌, nat_lt, nat_eq, if◌then◌else◌, List, [], ◌∷◌, length, map, slice_index_or, slice_set, Option, Some, None}
+use Rattle.std.specs.Prelude.{◌≡◌, ◌≢◌, ℕ, ◌-◌, ◌%◌, ◌<◌, ◌≤◌, nat_lt, nat_eq, if◌then◌else◌, List, [], ◌∷◌, length, slice_set, Option, Some, None}
 use Rattle.aps_model.specs.declared.state.Facts.{Facts}
 use Rattle.aps_model.specs.declared.merit.Contender.{Contender}
 use Rattle.aps_ready.specs.declared.entrant.Entrant.{Entrant}
@@ -34,22 +34,9 @@ contender_of e = record { thread = e.thread; facts = facts_of e; stamp = e.stamp
 abbrev pub seat_of : Entrant → Option Contender
 seat_of e = if nat_lt e.group 64 then Some (contender_of e) else None
 
--- who takes part in the bracket of a group
+-- who is in and of a group
 abbrev pub entrant_in : ℕ → Entrant → Entrant
 entrant_in g e = if nat_eq e.group g then e else vacant
-
-abbrev pub bracket_at : List (List Entrant) → ℕ → List Entrant
-bracket_at brackets g = slice_index_or brackets g []
-
--- a place of the bracket of a group is set
-abbrev pub with_place : List (List Entrant) → ℕ → ℕ → Entrant → List (List Entrant)
-with_place brackets g x e = slice_set brackets g (slice_set (bracket_at brackets g) x e)
-
--- each group has its bracket
-pub record AreDrawn (row : List Entrant) (brackets : List (List Entrant)) : Type 0 where
-  pub few : length row ≤ 1024
-  pub each : length brackets ≡ 64
-  pub drawn : (g : ℕ) → g < 64 → bracket_at brackets g ≡ map (entrant_in g) row
 
 -- stamps differ, and whoever is in is in its own place
 pub record IsQueued (row : List Entrant) : Type 0 where

@@ -1,9 +1,8 @@
-use Rattle.std.specs.Prelude.{◌≡◌, ℕ, ◌<◌, List, length}
+use Rattle.std.specs.Prelude.{ℕ, ◌<◌, List, map}
 use Rattle.aps_ready.specs.declared.entrant.Entrant.{Entrant}
 use Rattle.aps_ready.specs.Entrant.{entrant_at, IsFirst}
-use Rattle.aps_ready.specs.Ready.{bracket_at}
+use Rattle.aps_ready.specs.Ready.{entrant_in}
 
--- the index has the first of each group's bracket
-pub record AreTopped (brackets : List (List Entrant)) (firsts : List Entrant) : Type 0 where
-  pub groups : length firsts ≡ 64
-  pub each : (g : ℕ) → g < 64 → IsFirst (bracket_at brackets g) (entrant_at firsts g)
+-- the first of each group goes before all others of the group
+abbrev pub AreTopped : List Entrant → List Entrant → Type 0
+AreTopped row firsts = (g : ℕ) → g < 64 → IsFirst (map (entrant_in g) row) (entrant_at firsts g)

@@ -1,4 +1,4 @@
-use Rattle.std.specs.Prelude.{◌≡◌, ℕ, ◌%◌, ◌<◌, ◌≤◌, Bool, true, false, ◌&&◌, ◌||◌, not, nat_lt, List, length}
+use Rattle.std.specs.Prelude.{◌≡◌, ℕ, ◌%◌, ◌<◌, Bool, true, false, ◌&&◌, nat_lt, List, length}
 use Rattle.aps_model.specs.declared.shape.Free.{Free}
 use Rattle.aps_model.specs.declared.merit.PartFacts.{PartFacts}
 use Rattle.aps_model.specs.Merit.{is_candidate, is_greater}
@@ -23,13 +23,3 @@ pub record IsWinner (free : Free) (parts : List PartFacts) (row : List Entrant) 
   pub sits : best.group < 64 → Sits row best
   pub others : (x : ℕ) → x < length row → is_candidate_at parts (entrant_at row x) ≡ true
       → (best.group < 64) × (is_above free parts (entrant_at row x) best ≡ false)
-
--- a candidate, of a level that there is
-pub record IsContestant (parts : List PartFacts) (e : Entrant) : Type 0 where
-  pub there : e.group < 64
-  pub level : e.level ≤ 255
-  pub candidate : is_candidate_at parts e ≡ true
-
--- one more takes the place of the best so far: it is a candidate, and nobody is the best so far, or it is above
-abbrev pub wins : Free → List PartFacts → Entrant → Entrant → Bool
-wins free parts one best = is_candidate_at parts one && (not (nat_lt best.group 64) || is_above free parts one best)

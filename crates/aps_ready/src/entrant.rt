@@ -1,12 +1,12 @@
-//! Who takes part in a bracket, and which of two goes first.
+//! Who is in, as it is kept.
 ghost use Rattle.std.specs.Prelude.{◌≡◌, ◌<◌, ◌≤◌};
 ghost use Rattle.aps_model.specs.declared.state.Facts.{Facts};
-ghost use Rattle.aps_ready.specs.Entrant.{goes_before, vacant, entrant_of};
+ghost use Rattle.aps_ready.specs.Entrant.{vacant, entrant_of};
 ghost use Rattle.aps_ready.specs.Ready.{seat_of};
 
 use aps_model::{Contender, Facts, PartitionId, ThreadId};
 
-/// Who takes part: a thread, its group, its level (the lower goes first), and its stamp, which decides between equal
+/// Who is in: a thread, its group, its level (the lower goes first), and its stamp, which decides between equal
 /// levels. It is sixteen bytes of plain numbers without a gap, so that one is copied and compared in a few instructions.
 #[derive(Clone, Copy, Debug, PartialEq, Eq)]
 pub struct Entrant {
@@ -31,7 +31,7 @@ pub fn vacant() -> Entrant
     }
 }
 
-/// A thread with these values, as it takes part.
+/// A thread with these values, as it is kept.
 #[inline(always)]
 pub fn entrant_of(x: ThreadId, facts: Facts, stamp: u64) -> Entrant
     ensures same { result ≡ entrant_of x facts stamp }
@@ -51,7 +51,7 @@ pub fn entrant_of(x: ThreadId, facts: Facts, stamp: u64) -> Entrant
     }
 }
 
-/// What is known of thread `x`, which takes part so, or not at all.
+/// What is known of thread `x`, which is in so, or not at all.
 #[inline(always)]
 pub fn seat_of(e: &Entrant, x: ThreadId) -> Option<Contender>
     requires { e.now.group < 64 → e.now.thread ≡ x }
@@ -72,12 +72,4 @@ pub fn seat_of(e: &Entrant, x: ThreadId) -> Option<Contender>
     } else {
         None
     }
-}
-
-/// Whether `a` goes before `b`.
-#[inline(always)]
-pub fn goes_before(a: &Entrant, b: &Entrant) -> bool
-    ensures { result ≡ goes_before a.now b.now }
-{
-    a.level < b.level || (a.level == b.level && a.stamp < b.stamp)
 }

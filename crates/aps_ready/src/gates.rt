@@ -2,10 +2,8 @@
 ghost use Rattle.std.specs.Prelude.{◌≡◌, ◌≢◌, ℕ, ◌<◌, List, [], ◌∷◌, ◌++◌, length, slice_set, nat_eq, if◌then◌else◌};
 ghost use Rattle.aps_model.specs.declared.merit.PartFacts.{PartFacts};
 ghost use Rattle.aps_ready.specs.Gates.{is_first, is_open_first, is_open_second, open_first, AreGates, AreGatesOf};
-ghost use Rattle.aps_ready.specs.Winner.{is_candidate_at};
 
-use crate::choice::part_at;
-use crate::entrant::Entrant;
+use crate::parts::part_at;
 use aps_levels::Bits64;
 use aps_model::{PartFacts, PartitionId};
 
@@ -57,18 +55,6 @@ impl Gates {
         ensures added { (parts : List PartFacts) → AreGates parts self.old → length parts ≡ p → AreGates (parts ++ part.now ∷ []) self.new }
     {
         self.put(p.index(), part);
-    }
-
-    /// Whether somebody is there, and is a candidate.
-    #[inline(always)]
-    pub(crate) fn admits(&self, e: &Entrant) -> bool
-        ensures { (parts : List PartFacts) → AreGates parts self.now → result ≡ is_candidate_at parts e.now }
-    {
-        if e.group < 64 {
-            self.first.join(self.second).has(e.group as usize)
-        } else {
-            false
-        }
     }
 
     /// The partition with this number stands so, and each other as before.

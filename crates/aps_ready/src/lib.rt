@@ -1,19 +1,17 @@
-//! The ready threads, and the greatest candidate among them. `Ready` keeps 64 brackets, one for each partition
-//! and mark, so that a thread is put in, changed and taken out in a few steps; `Gates` keeps which of them are candidates.
+//! The ready threads, and the greatest candidate among them. `Ready` keeps a list for each priority, partition and mark, in order
+//! of stamps, so that most calls take a few steps; `Gates` keeps which partitions' threads are candidates.
 #![tactic(auto)]
 
 mod ahead;
-mod bracket;
-mod brackets;
-mod choice;
-mod contest;
 mod entrant;
 mod gates;
-mod index;
 mod leaders;
+mod lists;
 mod look;
+mod parts;
 mod ready;
-mod seat;
+mod ring;
+mod table;
 
 pub use ahead::Ahead;
 pub use gates::Gates;

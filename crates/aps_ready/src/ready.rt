@@ -1,27 +1,20 @@
 //! The ready threads, and the greatest candidate among them.
-ghost use Rattle.std.specs.Prelude.{◌≡◌, ◌≢◌, ℕ, ◌<◌, ◌≤◌, ◌||◌, nat_eq, nat_lt, All, List, length, slice_set, slice_index_or, replicate, IfOk, IfSome, Some, None};
+ghost use Rattle.std.specs.Prelude.{◌≡◌, ◌≢◌, ◌<◌, ◌≤◌, All, List, length, slice_set, slice_index_or, replicate, IfOk, IfSome, Some, None};
 ghost use Rattle.std.specs.Option.{option_map};
 ghost use Rattle.aps_model.specs.Pick.{greatest, missing};
 ghost use Rattle.aps_model.specs.declared.merit.Contender.{Contender};
 ghost use Rattle.aps_model.specs.declared.merit.PartFacts.{PartFacts};
 ghost use Rattle.aps_model.specs.declared.shape.Free.{Free};
-ghost use Rattle.aps_levels.specs.Bits.{has};
 ghost use Rattle.aps_ready.specs.Ahead.{IsAhead};
-ghost use Rattle.aps_ready.specs.Entrant.{vacant};
 ghost use Rattle.aps_ready.specs.Gates.{AreGates};
-ghost use Rattle.aps_ready.specs.Index.{level_of};
 ghost use Rattle.aps_ready.specs.Ready.{contender_of, members, seat_of, without, IsFree, with_facts};
 ghost use Rattle.aps_ready.specs.Small.{IsSmall};
 
 use crate::ahead::{Ahead, ahead_at, highest};
-use crate::brackets::Brackets;
-use crate::contest::{wins, wins_first};
-use crate::entrant::{Entrant, entrant_of, seat_of, vacant};
+use crate::entrant::{Entrant, entrant_of, seat_of};
 use crate::gates::{Gates, PARTITIONS};
-use crate::index::Index;
+use crate::lists::Lists;
 use crate::look::{look, near};
-use crate::seat::{enter, leave};
-use aps_levels::Bits64;
 use aps_model::{Contender, Facts, Free, NoMemory, PartFacts, PartitionId, ThreadId};
 use std::alloc::Global;
 use std::marker::Model;
@@ -36,63 +29,39 @@ pub struct Drawn {
 /// The ready threads, each with its inherited values and its stamp. Contracts see a row with a place for each thread: what
 /// is known of it where it is in.
 ///
-/// Threads of one partition, critical or not, are a group, and all of a group are candidates or none. Each group has a
-/// bracket, whose first has its highest priority and the smallest stamp there. The thread that was put in last stands
-/// aside: it is in the row and in no bracket, so that one that runs on is put in and drawn at no bracket's cost.
+/// Threads of one partition, critical or not, are a group, and all of a group are candidates or none. For each priority each group
+/// has a list of its threads in order of their stamps.
 pub struct Ready {
-    row: Vec<Entrant>,
-    /// nobody, or who was put in last
-    aside: Entrant,
-    brackets: Brackets,
-    /// the first of each bracket, and the groups by its level
-    index: Index,
+    lists: Lists,
 }
 
 // Written out, so that it is proved here alone: a derived drop is proved again in each crate that lets a value go.
 impl Drop for Ready {
     fn drop(self) {
-        let Self {
-            row: _,
-            aside: _,
-            brackets: _,
-            index: _,
-        } = self;
+        let Self { lists: _ } = self;
     }
 }
 
 impl Model for Ready {
-    ghost use Rattle.std.specs.Prelude.{List, Option, map};
+    ghost use Rattle.std.specs.Prelude.{◌≤◌, List, Option, length, map};
     ghost use Rattle.aps_model.specs.declared.merit.Contender.{Contender};
-    ghost use Rattle.aps_ready.specs.Aside.{IsDrawnBut};
     ghost use Rattle.aps_ready.specs.Ready.{seat_of, IsQueued};
-    ghost use Rattle.aps_ready.specs.Topped.{AreTopped};
 
     ghost Value = { List (Option Contender) };
 
-    ghost view = { λ r. map seat_of r.row.items };
+    ghost view = { λ r. map seat_of r.lists };
 
-    ghost invariant = { λ r. IsDrawnBut r.row.items r.aside r.brackets × IsQueued r.row.items × AreTopped r.brackets r.index };
+    ghost invariant = { λ r. IsQueued r.lists × (length r.lists ≤ 1024) };
 }
 
 impl Ready {
-    /// Nobody is in. All room is taken here, 16 bytes for each thread in each of 64 groups, and 18 more for each.
+    /// Nobody is in. All room is taken here: 16 bytes for each thread, and 73,728 besides.
     pub fn new(alloc: Global, threads: u16) -> Result<Ready, NoMemory>
         requires { threads ≤ 1024 }
         ensures { IfOk result (λ ready. ready ≡ replicate threads None) }
     {
-        let count = threads as usize;
-        let mut row = Vec::with_capacity(alloc, count)?;
-        'row: for _ in 0..count {
-            row.push(vacant())?;
-        }
-        let brackets = Brackets::new(alloc, count)?;
-        let index = Index::new(alloc)?;
-        Ok(Ready {
-            row,
-            aside: vacant(),
-            brackets,
-            index,
-        })
+        let lists = Lists::new(alloc, threads as usize)?;
+        Ok(Ready { lists })
     }
 
     /// What is known of a thread, if it is in.
@@ -100,8 +69,8 @@ impl Ready {
         ensures { result ≡ slice_index_or self.now x None }
     {
         let index = x.index();
-        if index < self.row.len() {
-            seat_of(&self.row[index], x)
+        if index < self.lists.len() {
+            seat_of(&self.lists.at(index), x)
         } else {
             None
         }
@@ -114,10 +83,7 @@ impl Ready {
         requires stamp { All (IsFree stamp) self.old }
         ensures { self.new ≡ slice_set self.old x (Some (record { thread = x; facts = facts; stamp = stamp })) }
     {
-        enter(&mut self.brackets, &mut self.index, self.aside);
-        let entrant = entrant_of(x, facts, stamp);
-        self.row[x.index()] = entrant;
-        self.aside = entrant;
+        self.lists.enter(entrant_of(x, facts, stamp));
     }
 
     /// Takes a thread out.
@@ -126,15 +92,7 @@ impl Ready {
         requires present { slice_index_or self.old x None ≢ None }
         ensures { self.new ≡ slice_set self.old x None }
     {
-        let index = x.index();
-        let entrant = self.row[index];
-        leave(
-            &mut self.brackets,
-            &mut self.index,
-            &mut self.aside,
-            entrant,
-        );
-        self.row[index] = vacant();
+        self.lists.leave(x.index());
     }
 
     /// Gives a thread that is in other values: the same as `take` and then `put` with the stamp that it has.
@@ -143,7 +101,7 @@ impl Ready {
         requires present { slice_index_or self.old x None ≢ None }
         ensures { self.new ≡ slice_set self.old x (option_map (with_facts facts) (slice_index_or self.old x None)) }
     {
-        let stamp = self.row[x.index()].stamp;
+        let stamp = self.lists.at(x.index()).stamp;
         self.take(x);
         self.put(x, facts, stamp);
     }
@@ -151,8 +109,8 @@ impl Ready {
 
 impl Ready {
     /// The greatest candidate, none exactly where there is none. Used times are at most 100,000,000,000,000 ns and budgets
-    /// at most 1,000 parts, so that no product overflows. It tests the groups at the highest priority first, and makes the
-    /// gates of all partitions only where none of these is a candidate of class 1.
+    /// at most 1,000 parts, so that no product overflows. It looks at the groups at the highest priority first, and makes the
+    /// gates of all partitions only where the best of these isn't a candidate of class 1.
     pub fn best(&self, parts: &[PartFacts], free: Free) -> Option<ThreadId>
         requires { All IsSmall parts.now }
         ensures greatest { result ≡ option_map (λ c. c.thread) (greatest free parts.now (members self.now)) }
@@ -201,11 +159,11 @@ impl Ready {
         ensures { (parts : List PartFacts) (free : Free) → AreGates parts gates
             → IsAhead free parts (greatest free parts (members self.now)) result }
     {
-        let first = highest(&self.index, &self.aside, gates.first);
+        let first = highest(&self.lists, gates.first);
         if first < 256 {
             return Some(ahead_at(1, first));
         }
-        let second = highest(&self.index, &self.aside, gates.second);
+        let second = highest(&self.lists, gates.second);
         if second < 256 {
             Some(ahead_at(0, second))
         } else {
@@ -262,7 +220,8 @@ impl Ready {
         seat_of(one, x)
     }
 
-    /// The greatest candidate of those in the brackets and the one who stands aside; nobody where there is none.
+    /// The greatest candidate, as it is kept; nobody where there is none.
+    #[inline(always)]
     fn greatest(&self, gates: Gates, parts: &[PartFacts], free: Free) -> Entrant
         requires gates { AreGates parts.now gates }
         requires small { All IsSmall parts.now }
@@ -271,15 +230,11 @@ impl Ready {
         ensures inside { result.group < 64 → result.thread < length self.now }
         ensures present { result.group < 64 → slice_index_or self.now result.thread None ≢ None }
     {
-        let found = look(&self.index, gates, parts, free);
-        if wins(gates, parts, free, &self.aside, &found) {
-            self.aside
-        } else {
-            found
-        }
+        look(&self.lists, gates, parts, free)
     }
 
-    /// The greatest candidate, where somebody of class 1 is at the highest priority of those in the brackets; else nobody.
+    /// The greatest candidate, where the best of those at the highest priority of all is a candidate of class 1; else nobody.
+    #[inline(always)]
     fn nearest(&self, parts: &[PartFacts]) -> Entrant
         requires small { All IsSmall parts.now }
         ensures greatest { (free : Free) → result.group < 64 → seat_of result ≡ greatest free parts.now (members self.now) }
@@ -287,15 +242,7 @@ impl Ready {
         ensures inside { result.group < 64 → result.thread < length self.now }
         ensures present { result.group < 64 → slice_index_or self.now result.thread None ≢ None }
     {
-        let found = near(&self.index, parts);
-        if found.group >= 64 {
-            return found;
-        }
-        if wins_first(parts, &self.aside, &found) {
-            self.aside
-        } else {
-            found
-        }
+        near(&self.lists, parts)
     }
 
     /// The lowest partition with a budget above 0 that has no candidate; none exactly where each of these has one.
@@ -311,26 +258,12 @@ impl Ready {
     pub fn missing_by(&self, gates: Gates) -> Option<PartitionId>
         ensures { (parts : List PartFacts) → AreGates parts gates → length parts ≤ 32 → result ≡ missing parts (members self.now) }
     {
-        let occupied = occupied(&self.index, &self.aside);
-        let groups = gates.first.join(gates.second).meet(occupied);
+        let groups = gates.first.join(gates.second).meet(self.lists.occupied());
         let starved = gates.budgeted.minus(groups.join(groups.upper_half()));
         match starved.least() {
             Some(p) if p < PARTITIONS => Some(PartitionId::at(p)),
             _ => None,
         }
-    }
-}
-
-/// The groups that somebody is of: in their brackets, or the one who stands aside.
-#[inline(always)]
-fn occupied(index: &Index, aside: &Entrant) -> Bits64
-    ensures { (g : ℕ) → g < 64 → has result g ≡ (nat_eq g aside.now.group || nat_lt (level_of index.now g) 256) }
-{
-    let groups = index.occupied();
-    if aside.group < 64 {
-        groups.with(aside.group as usize)
-    } else {
-        groups
     }
 }
 

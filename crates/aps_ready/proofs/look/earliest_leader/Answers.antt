@@ -1,9 +1,12 @@
-use Rattle.std.proofs.Common.{rules, ◌≡◌, ℕ, ◌<◌, Bool, true, false, ◌&&◌, ◌||◌, not, sym, ◌∙◌, arith}
+use Rattle.std.proofs.Common.{rules, ◌≡◌, ℕ, ◌<◌, List, Bool, true, false, ◌&&◌, not, sym, ◌∙◌, arith}
+use Rattle.aps_levels.specs.declared.bits.Bits64.{Bits64}
 use Rattle.aps_levels.specs.Bits.{has}
-use Rattle.aps_ready.specs.Best.{is_wanted}
-use Rattle.aps_ready.specs.Gates.{open_first}
-use Rattle.aps_ready.specs.Leaders.{is_less_than}
+use Rattle.aps_model.specs.declared.merit.PartFacts.{PartFacts}
+use Rattle.aps_ready.specs.declared.leaders.Leaders.{Leaders}
+use Rattle.aps_ready.specs.Firsts.{firsts_of}
+use Rattle.aps_ready.specs.Leaders.{is_less_than, AreLeaders}
 use Rattle.aps_ready.proofs.Among.{best_of_leaders, best_of_nobody, least_at_level}
+use Rattle.aps_ready.proofs.Tops.{kept}
 use Rattle.aps_ready.proofs.look.earliest_leader.Goals as goal
 
 first : (a b : Bool) → (a && b) ≡ true → a ≡ true
@@ -13,28 +16,36 @@ first false b h = absurd cc
 clash : (t : Bool) → t ≡ true → t ≡ false → ⊥
 clash t p q = cc
 
+-- the leaders are of these groups
+leads_among : (parts : List PartFacts) (groups : Bits64) (leaders : Leaders) (g : ℕ) → AreLeaders parts (has groups) leaders → g < 64
+    → has leaders.groups g ≡ true → has groups g ≡ true
+leads_among parts groups leaders g are below h =
+    first (has groups g) (not (is_less_than parts leaders.used leaders.budget g)) (sym (are.these g below) ∙ h)
+
 pub returns-then-is_empty : goal.returns-then-is_empty
-returns-then-is_empty c row brackets drawn queued topped =
-    let wanted = c.args.wanted in
-    let parts = c.args.parts.now in
-    let index = c.args.index.now in
+returns-then-is_empty c =
+    let row = c.args.lists.now in
     let leaders = c.least_used-leaders.result in
-    best_of_nobody parts row index (is_wanted parts wanted) leaders c.vacant.result c.vacant.ensures c.least_used-leaders.ensures
-    (λ g below h.
-    let at = c.requires.level.same g below (first (has wanted.groups g) (not wanted.first_alone || open_first parts g) h) in
-    omega (arith, at, c.requires.level.below))
+    best_of_nobody c.args.parts.now row (firsts_of row) (has c.args.groups) leaders c.vacant.result c.vacant.ensures c.least_used-leaders.ensures
+    (λ g below h. omega (arith, c.requires.level.same g below h, c.requires.level.below))
     (λ g below h. absurd (clash (has leaders.groups g) h (c.if-is_empty.ensures.empty (search rules) g)))
 
+pub earliest-requires : goal.earliest-requires
+earliest-requires c = record {
+  below = c.requires.level.below;
+  same = λ g below h.
+      c.requires.level.same g below (leads_among c.args.parts.now c.args.groups c.least_used-leaders.result g c.least_used-leaders.ensures below h);
+}
+
 pub returns-else-is_empty : goal.returns-else-is_empty
-returns-else-is_empty c row brackets drawn queued topped =
-    let wanted = c.args.wanted in
+returns-else-is_empty c =
+    let row = c.args.lists.now in
     let parts = c.args.parts.now in
     let leaders = c.least_used-leaders.result in
     let some = c.if-is_empty.ensures.some (search rules) in
-    let inside : (g : ℕ) → g < 64 → has leaders.groups g ≡ true → has wanted.groups g ≡ true = λ g below h.
-    first (has wanted.groups g) (not wanted.first_alone || open_first parts g)
-    (first (is_wanted parts wanted g) (not (is_less_than parts leaders.used leaders.budget g)) (sym (c.least_used-leaders.ensures.these g below) ∙ h)) in
-    best_of_leaders parts row brackets c.args.index.now (is_wanted parts wanted) (has leaders.groups) leaders
-    c.earliest.result (record { drawn = drawn; queued = queued; topped = topped }) c.least_used-leaders.ensures
-    (least_at_level c.args.index.now (has wanted.groups) (has leaders.groups) some.0 c.requires.level inside some.1 some.2)
+    let inside : (g : ℕ) → g < 64 → has leaders.groups g ≡ true → has c.args.groups g ≡ true =
+    λ g below h. leads_among parts c.args.groups leaders g c.least_used-leaders.ensures below h in
+    best_of_leaders parts row (firsts_of row) (has c.args.groups) (has leaders.groups) leaders
+    c.earliest.result (kept row c.requires.queued) c.least_used-leaders.ensures
+    (least_at_level (firsts_of row) (has c.args.groups) (has leaders.groups) c.args.level some.0 c.requires.level inside some.1 some.2)
     (c.earliest.ensures.some some.0 some.1 some.2)

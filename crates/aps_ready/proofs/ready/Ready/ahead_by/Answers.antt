@@ -9,27 +9,27 @@ use Rattle.aps_ready.proofs.ready.Ready.ahead_by.Goals as goal
 
 pub returns-then-first-lt256 : goal.returns-then-first-lt256
 returns-then-first-lt256 c parts free are =
-    let row = c.self.inside.row.items in
-    let highest = c.highest-first.ensures row c.self.inside.brackets c.self.invariant.0 c.self.invariant.1 c.self.invariant.2 in
+    let row = c.self.inside.lists in
+    let highest = c.highest-first.ensures in
     subst (λ (seats : List (Option Contender)). IsAhead free parts (greatest free parts (members seats)) (Some c.ahead_at.result)) c.self.view_is
     (subst (λ (ahead : Ahead). IsAhead free parts (greatest free parts (members (map seat_of row))) (Some ahead)) (sym c.ahead_at.ensures)
-    (first_ahead free parts row c.args.gates c.highest-first.result are c.self.invariant.1 highest c.if-first-lt256.true))
+    (first_ahead free parts row c.args.gates c.highest-first.result are c.self.invariant.0 highest c.if-first-lt256.true))
 
 pub returns-then-second-lt256 : goal.returns-then-second-lt256
 returns-then-second-lt256 c parts free are =
-    let row = c.self.inside.row.items in
-    let first = c.highest-first.ensures row c.self.inside.brackets c.self.invariant.0 c.self.invariant.1 c.self.invariant.2 in
-    let second = c.highest-second.ensures row c.self.inside.brackets c.self.invariant.0 c.self.invariant.1 c.self.invariant.2 in
+    let row = c.self.inside.lists in
+    let first = c.highest-first.ensures in
+    let second = c.highest-second.ensures in
     subst (λ (seats : List (Option Contender)). IsAhead free parts (greatest free parts (members seats)) (Some c.ahead_at-then-second-lt256.result)) c.self.view_is
     (subst (λ (ahead : Ahead). IsAhead free parts (greatest free parts (members (map seat_of row))) (Some ahead)) (sym c.ahead_at-then-second-lt256.ensures)
-    (second_ahead free parts row c.args.gates c.highest-first.result c.highest-second.result are c.self.invariant.1
+    (second_ahead free parts row c.args.gates c.highest-first.result c.highest-second.result are c.self.invariant.0
     first c.if-first-lt256.false second c.if-second-lt256.true))
 
 pub returns-else-second-lt256 : goal.returns-else-second-lt256
 returns-else-second-lt256 c parts free are =
-    let row = c.self.inside.row.items in
-    let first = c.highest-first.ensures row c.self.inside.brackets c.self.invariant.0 c.self.invariant.1 c.self.invariant.2 in
-    let second = c.highest-second.ensures row c.self.inside.brackets c.self.invariant.0 c.self.invariant.1 c.self.invariant.2 in
+    let row = c.self.inside.lists in
+    let first = c.highest-first.ensures in
+    let second = c.highest-second.ensures in
     subst (λ (seats : List (Option Contender)). IsAhead free parts (greatest free parts (members seats)) None) c.self.view_is
-    (nobody_ahead free parts row c.args.gates c.highest-first.result c.highest-second.result are c.self.invariant.1
+    (nobody_ahead free parts row c.args.gates c.highest-first.result c.highest-second.result are c.self.invariant.0
     first c.if-first-lt256.false second c.if-second-lt256.false)

@@ -12,11 +12,10 @@ clash t p q = cc
 
 pub returns-in-Some : goal.returns-in-Some
 returns-in-Some c parts are few =
-    let row = c.self.inside.row.items in
+    let row = c.self.inside.lists in
     let found = starved_found parts row c.args.gates
-    c.join.result c.occupied-occupied.result c.meet-groups.result c.upper_half.result c.join-2.result c.minus-starved.result c.in-Some.p
-    are (groups_occupied c.self.inside.row.items c.self.inside.aside c.self.inside.brackets c.self.inside.index c.occupied-occupied.result
-    c.self.invariant.0 c.self.invariant.1 c.self.invariant.2 c.occupied-occupied.ensures)
+    c.join.result c.occupied.result c.meet-groups.result c.upper_half.result c.join-2.result c.minus-starved.result c.in-Some.p
+    are (groups_occupied c.self.inside.lists c.occupied.result c.self.invariant.0 c.occupied.ensures)
     (record {
       opened = c.join.ensures;
       groups = c.meet-groups.ensures;
@@ -38,10 +37,9 @@ returns-in_default c parts are few =
       | in_default-via-in_default w ↦ λ k below. w.in_default.ensures.none k
     ] in
     sym (ap (λ (seats : List (Option Contender)). missing parts (members seats)) (sym c.self.view_is)
-    ∙ none_starved parts c.self.inside.row.items c.args.gates
-    c.join.result c.occupied-occupied.result c.meet-groups.result c.upper_half.result c.join-2.result c.minus-starved.result
-    are (groups_occupied c.self.inside.row.items c.self.inside.aside c.self.inside.brackets c.self.inside.index c.occupied-occupied.result
-    c.self.invariant.0 c.self.invariant.1 c.self.invariant.2 c.occupied-occupied.ensures)
+    ∙ none_starved parts c.self.inside.lists c.args.gates
+    c.join.result c.occupied.result c.meet-groups.result c.upper_half.result c.join-2.result c.minus-starved.result
+    are (groups_occupied c.self.inside.lists c.occupied.result c.self.invariant.0 c.occupied.ensures)
     (record {
       opened = c.join.ensures;
       groups = c.meet-groups.ensures;

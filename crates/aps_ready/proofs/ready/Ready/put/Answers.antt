@@ -1,42 +1,48 @@
-use Rattle.std.proofs.Common.{◌<◌, ◌≤◌, ◌∙◌, ap, sym, arith, length, refl}
+use Rattle.std.proofs.Common.{◌≡◌, ◌<◌, ◌≤◌, ◌∙◌, length, ap, sym, subst, refl, arith, length-set}
 use Rattle.aps_ready.specs.declared.entrant.Entrant.{Entrant}
 use Rattle.aps_ready.specs.Entrant.{entrant_at}
-use Rattle.aps_ready.specs.Ready.{seat_of}
-use Rattle.aps_ready.proofs.Aside.{put_aside, aside_level, aside_out}
+use Rattle.aps_ready.specs.Ready.{seat_of, IsQueued}
 use Rattle.aps_ready.proofs.Queued.{seats_set, seen, seen_at, queued_set, free_stamp, place_in_row, in_group, is_out}
+use Rattle.aps_ready.proofs.Rings.{within_row}
 use Rattle.aps_ready.proofs.ready.Ready.put.Goals as goal
 
-pub enter-requires-clause-level : goal.enter-requires-clause-level
-enter-requires-clause-level c there =
-    aside_level c.self.inside.row.items c.self.inside.aside c.self.inside.brackets c.self.invariant.0 c.self.invariant.1 there
-
-pub enter-requires-clause-out : goal.enter-requires-clause-out
-enter-requires-clause-out c there = aside_out c.self.inside.row.items c.self.inside.aside c.self.inside.brackets c.self.invariant.0 there
+pub enter-requires : goal.enter-requires
+enter-requires c =
+    let row = c.self.inside.lists in
+    let e = c.entrant_of.result in
+    let is = c.entrant_of.ensures.same in
+    let x : e.thread ≡ c.args.x = ap (λ (f : Entrant). f.thread) is in
+    let out : 64 ≤ (entrant_at row e.thread).group =
+    is_out (entrant_at row e.thread) (seen_at row c.args.self.now c.args.x e.thread c.self.view_is c.requires.inside x ∙ c.requires.out) in
+    record {
+      group = omega (arith, ap (λ (f : Entrant). f.group) is, in_group c.args.facts c.entrant_of.ensures.partition);
+      level = omega (arith, ap (λ (f : Entrant). f.level) is);
+      inside = place_in_row row c.args.self.now c.args.x e.thread c.self.view_is c.requires.inside x;
+      out = out;
+      stamp = λ y there same.
+          free_stamp row c.args.self.now c.args.stamp y c.self.view_is c.requires.stamp (within_row row y there) there
+          (same ∙ ap (λ (f : Entrant). f.stamp) is);
+    }
 
 pub invariant_of-self : goal.invariant_of-self
 invariant_of-self c =
-    let row = c.self.inside.row.items in
-    let i = c.index.result in
-    let e = c.entrant_of-entrant.result in
-    let is = c.entrant_of-entrant.ensures.same in
-    let within : i < length row = place_in_row row c.args.self.now c.args.x i c.self.view_is c.requires.inside c.index.ensures.same in
-    let out : 64 ≤ (entrant_at row i).group =
-    is_out (entrant_at row i) (seen_at row c.args.self.now c.args.x i c.self.view_is c.requires.inside c.index.ensures.same ∙ c.requires.out) in
-    let there : e.group < 64 =
-    omega (arith, ap (λ (f : Entrant). f.group) is, in_group c.args.facts c.entrant_of-entrant.ensures.partition) in
-    let thread = ap (λ (f : Entrant). f.thread) is ∙ sym c.index.ensures.same in (
-      put_aside row c.enter.new.brackets i e (c.enter.ensures.drawn row c.self.invariant.0) within out there thread,
-      queued_set row i e c.self.invariant.1 within (λ g. record {
-        level = rw is (omega arith);
-        thread = thread;
-        stamp = λ y below ne h. rw is (free_stamp row c.args.self.now c.args.stamp y c.self.view_is c.requires.stamp below h);
-      }),
-      c.enter.ensures.topped,
+    let row = c.self.inside.lists in
+    let e = c.entrant_of.result in
+    let is = c.entrant_of.ensures.same in
+    let x : e.thread ≡ c.args.x = ap (λ (f : Entrant). f.thread) is in
+    let within : e.thread < length row = place_in_row row c.args.self.now c.args.x e.thread c.self.view_is c.requires.inside x in (
+      subst IsQueued (sym c.enter.ensures) (queued_set row e.thread e c.self.invariant.0 within (λ g. record {
+        level = omega (arith, ap (λ (f : Entrant). f.level) is);
+        thread = refl;
+        stamp = λ y below ne h same.
+            free_stamp row c.args.self.now c.args.stamp y c.self.view_is c.requires.stamp below h (same ∙ ap (λ (f : Entrant). f.stamp) is);
+      })),
+      omega (arith, ap length c.enter.ensures, length-set row e.thread e, c.self.invariant.1),
     )
 
 pub returns : goal.returns
 returns c =
-    let e = c.entrant_of-entrant in
-    seats_set c.self.inside.row.items c.args.self.now _ c.args.x c.index.result e.result _
-    c.self.view_is refl c.index.ensures.same
+    let e = c.entrant_of in
+    seats_set c.self.inside.lists c.args.self.now c.enter.new.self c.args.x e.result.thread e.result _
+    c.self.view_is c.enter.ensures (ap (λ (f : Entrant). f.thread) e.ensures.same)
     (ap seat_of e.ensures.same ∙ seen c.args.x c.args.facts c.args.stamp e.ensures.partition e.ensures.priority)

@@ -1,0 +1,348 @@
+use Rattle.std.proofs.Common.{◌≡◌, ◌≢◌, ◌⊎◌, inl, inr, ℕ, ◌+◌, ◌<◌, ◌≤◌, Bool, true, false, not, ◌&&◌, ◌||◌, nat_eq, List, length, get_or, set, replicate, refl, sym, ◌∙◌, ap, arith, get_or-set_same, get_or-set_other}
+use Rattle.std.proofs.lemmas.Bool.{cases_eq}
+use Rattle.std.proofs.lemmas.Bool.Decides.{nat_tests}
+use Rattle.std.proofs.lemmas.List.{get_or_read, get_or_past, get_or-replicate, length-replicate}
+use Rattle.aps_levels.specs.declared.bits.Bits64.{Bits64}
+use Rattle.aps_levels.specs.declared.levels.Levels.{Levels}
+use Rattle.aps_levels.specs.Bits.{has}
+use Rattle.aps_levels.specs.Levels.{has_level}
+use Rattle.aps_ready.specs.Table.{bits_at, levels_at, no_bits, no_levels, AreAtLeast, IsFree, IsTable}
+
+equal_self : (g : ℕ) → nat_eq g g ≡ true
+equal_self g = grind (arith, nat_tests)
+
+not_equal : (g k : ℕ) → g ≢ k → nat_eq g k ≡ false
+not_equal g k ne = grind (arith, nat_tests)
+
+-- ---- one place of a row is set
+
+flat : (t : Bool) → (t && false) ≡ false
+flat true = refl
+flat false = refl
+
+whole : (t : Bool) → (t && true) ≡ t
+whole true = refl
+whole false = refl
+
+-- the levels of a group get, or lose, one
+pub with_in : (of_group : List Levels) (before after : Levels) (level group : ℕ) → group < length of_group → before ≡ get_or of_group group before
+    → ((k : ℕ) → has_level after k ≡ (nat_eq k level || has_level before k))
+    → (l g : ℕ) → has_level (levels_at (set of_group group after) g) l ≡ ((nat_eq l level && nat_eq g group) || has_level (levels_at of_group g) l)
+with_in of_group before after level group within read with l g = elim (cases_eq g group) [
+  | inl same ↦
+      let here : levels_at (set of_group group after) g ≡ after =
+      ap (levels_at (set of_group group after)) same ∙ get_or-set_same of_group group after no_levels within in
+      let was : before ≡ levels_at of_group g = get_or_read of_group group before within read no_levels ∙ ap (levels_at of_group) (sym same) in
+      ap (λ (s : Levels). has_level s l) here ∙ with l ∙ ap (λ (s : Levels). nat_eq l level || has_level s l) was
+      ∙ ap (λ (t : Bool). t || has_level (levels_at of_group g) l)
+      (sym (ap (λ (t : Bool). nat_eq l level && t) (ap (λ (k : ℕ). nat_eq k group) same ∙ equal_self group) ∙ whole (nat_eq l level)))
+  | inr ne ↦
+      ap (λ (s : Levels). has_level s l) (get_or-set_other of_group group g after no_levels ne)
+      ∙ ap (λ (t : Bool). t || has_level (levels_at of_group g) l)
+      (sym (ap (λ (t : Bool). nat_eq l level && t) (not_equal g group ne) ∙ flat (nat_eq l level)))
+]
+
+pub without_in : (of_group : List Levels) (before after : Levels) (level group : ℕ) → group < length of_group → before ≡ get_or of_group group before
+    → ((k : ℕ) → has_level after k ≡ (not (nat_eq k level) && has_level before k))
+    → (l g : ℕ) → has_level (levels_at (set of_group group after) g) l ≡ (not (nat_eq l level && nat_eq g group) && has_level (levels_at of_group g) l)
+without_in of_group before after level group within read without l g = elim (cases_eq g group) [
+  | inl same ↦
+      let here : levels_at (set of_group group after) g ≡ after =
+      ap (levels_at (set of_group group after)) same ∙ get_or-set_same of_group group after no_levels within in
+      let was : before ≡ levels_at of_group g = get_or_read of_group group before within read no_levels ∙ ap (levels_at of_group) (sym same) in
+      ap (λ (s : Levels). has_level s l) here ∙ without l ∙ ap (λ (s : Levels). not (nat_eq l level) && has_level s l) was
+      ∙ ap (λ (t : Bool). not t && has_level (levels_at of_group g) l)
+      (sym (ap (λ (t : Bool). nat_eq l level && t) (ap (λ (k : ℕ). nat_eq k group) same ∙ equal_self group) ∙ whole (nat_eq l level)))
+  | inr ne ↦
+      ap (λ (s : Levels). has_level s l) (get_or-set_other of_group group g after no_levels ne)
+      ∙ ap (λ (t : Bool). not t && has_level (levels_at of_group g) l)
+      (sym (ap (λ (t : Bool). nat_eq l level && t) (not_equal g group ne) ∙ flat (nat_eq l level)))
+]
+
+-- ---- a group comes to a level, or goes
+
+left_is : (a b : Bool) → a ≡ true → (a || b) ≡ true
+left_is a b h = rw h refl
+
+right_is : (a b : Bool) → b ≡ true → (a || b) ≡ true
+right_is true b h = refl
+right_is false b h = h
+
+either : (a b : Bool) → (a || b) ≡ true → (a ≡ true) ⊎ (b ≡ true)
+either true b h = inl refl
+either false b h = inr h
+
+both : (a b : Bool) → (a && b) ≡ true → (a ≡ true) × (b ≡ true)
+both true b h = (refl, h)
+both false b h = absurd cc
+
+is_same : (a b : ℕ) → nat_eq a b ≡ true → a ≡ b
+is_same a b h = grind (arith, nat_tests)
+
+pub entered : (at_level new : List Bits64) (levels more : Levels) (of_group new_of : List Levels) (some all : Bits64) (level group : ℕ)
+    → IsTable at_level levels of_group some → level < 256 → group < 64 → length new ≡ length at_level → length new_of ≡ length of_group
+    → ((l g : ℕ) → has (bits_at new l) g ≡ ((nat_eq l level && nat_eq g group) || has (bits_at at_level l) g))
+    → ((l g : ℕ) → has_level (levels_at new_of g) l ≡ ((nat_eq l level && nat_eq g group) || has_level (levels_at of_group g) l))
+    → ((k : ℕ) → has_level more k ≡ (nat_eq k level || has_level levels k))
+    → ((k : ℕ) → has all k ≡ (nat_eq k group || has some k))
+    → IsTable new more new_of all
+entered at_level new levels more of_group new_of some all level group table l_below g_below each groups at in_group with_level with_group = record {
+  each = each ∙ table.each;
+  groups = groups ∙ table.groups;
+  in_use = λ l g l_in g_in h. with_level l ∙ (elim (either (nat_eq l level && nat_eq g group) (has (bits_at at_level l) g) (sym (at l g) ∙ h)) [
+    | inl this ↦ left_is (nat_eq l level) (has_level levels l) (both (nat_eq l level) (nat_eq g group) this).0
+    | inr old ↦ right_is (nat_eq l level) (has_level levels l) (table.in_use l g l_in g_in old)
+  ]);
+  used = λ l l_in h. elim (either (nat_eq l level) (has_level levels l) (sym (with_level l) ∙ h)) [
+    | inl this ↦ record {
+      group = group;
+      below = g_below;
+      here = at l group ∙ left_is (nat_eq l level && nat_eq group group) (has (bits_at at_level l) group)
+          (ap (λ (t : Bool). t && nat_eq group group) this ∙ equal_self group);
+    }
+    | inr old ↦
+        let was = table.used l l_in old in
+        record {
+          group = was.group;
+          below = was.below;
+          here = at l was.group ∙ right_is (nat_eq l level && nat_eq was.group group) (has (bits_at at_level l) was.group) was.here;
+        }
+  ];
+  same = λ l g l_in g_in. in_group l g ∙ ap (λ (t : Bool). (nat_eq l level && nat_eq g group) || t) (table.same l g l_in g_in) ∙ sym (at l g);
+  all = λ l g l_in g_in h. with_group g ∙ (elim (either (nat_eq l level && nat_eq g group) (has (bits_at at_level l) g) (sym (at l g) ∙ h)) [
+    | inl this ↦ left_is (nat_eq g group) (has some g) (both (nat_eq l level) (nat_eq g group) this).1
+    | inr old ↦ right_is (nat_eq g group) (has some g) (table.all l g l_in g_in old)
+  ]);
+  some = λ g g_in h. elim (either (nat_eq g group) (has some g) (sym (with_group g) ∙ h)) [
+    | inl this ↦ record {
+      level = level;
+      below = l_below;
+      here = at level g ∙ left_is (nat_eq level level && nat_eq g group) (has (bits_at at_level level) g)
+          (ap (λ (t : Bool). t && nat_eq g group) (equal_self level) ∙ this);
+    }
+    | inr old ↦
+        let was = table.some g g_in old in
+        record {
+          level = was.level;
+          below = was.below;
+          here = at was.level g ∙ right_is (nat_eq was.level level && nat_eq g group) (has (bits_at at_level was.level) g) was.here;
+        }
+  ];
+}
+
+pub left : (at_level new : List Bits64) (levels fewer : Levels) (of_group new_of : List Levels) (some rest : Bits64) (level group : ℕ)
+    → IsTable at_level levels of_group some → level < 256 → group < 64 → length new ≡ 256 → length new_of ≡ 64
+    → ((l g : ℕ) → has (bits_at new l) g ≡ (not (nat_eq l level && nat_eq g group) && has (bits_at at_level l) g))
+    → ((l g : ℕ) → l < 256 → g < 64 → has (bits_at new l) g ≡ true → has_level levels l ≡ true → has_level fewer l ≡ true)
+    → ((l : ℕ) → has_level fewer l ≡ true → has_level levels l ≡ true)
+    → (has_level fewer level ≡ true → (g : ℕ) × (g < 64) × (has (bits_at new level) g ≡ true))
+    → ((l g : ℕ) → has_level (levels_at new_of g) l ≡ (not (nat_eq l level && nat_eq g group) && has_level (levels_at of_group g) l))
+    → ((l g : ℕ) → l < 256 → g < 64 → has_level (levels_at new_of g) l ≡ true → has some g ≡ true → has rest g ≡ true)
+    → ((g : ℕ) → has rest g ≡ true → has some g ≡ true)
+    → (has rest group ≡ true → (l : ℕ) × (l < 256) × (has_level (levels_at new_of group) l ≡ true))
+    → IsTable new fewer new_of rest
+left at_level new levels fewer of_group new_of some rest level group table l_below g_below each groups at in_fewer before_level own_level in_group all before own = record {
+  each = each;
+  groups = groups;
+  in_use = λ l g l_in g_in h. in_fewer l g l_in g_in h
+      (table.in_use l g l_in g_in (both (not (nat_eq l level && nat_eq g group)) (has (bits_at at_level l) g) (sym (at l g) ∙ h)).1);
+  used = λ l l_in h. elim (cases_eq l level) [
+    | inl is ↦
+        let one = own_level (ap (has_level fewer) (sym is) ∙ h) in
+        record { group = one.0; below = one.1; here = ap (λ (k : ℕ). has (bits_at new k) one.0) is ∙ one.2 }
+    | inr ne ↦
+        let was = table.used l l_in (before_level l h) in
+        record {
+          group = was.group;
+          below = was.below;
+          here = at l was.group
+              ∙ ap (λ (t : Bool). not (t && nat_eq was.group group) && has (bits_at at_level l) was.group) (not_equal l level ne) ∙ was.here;
+        }
+  ];
+  same = same;
+  all = λ l g l_in g_in h. all l g l_in g_in (same l g l_in g_in ∙ h)
+      (table.all l g l_in g_in (both (not (nat_eq l level && nat_eq g group)) (has (bits_at at_level l) g) (sym (at l g) ∙ h)).1);
+  some = λ g g_in h. elim (cases_eq g group) [
+    | inl is ↦
+        let one = own (ap (has rest) (sym is) ∙ h) in
+        record {
+          level = one.0;
+          below = one.1;
+          here = ap (λ (k : ℕ). has (bits_at new one.0) k) is ∙ sym (same one.0 group one.1 g_below) ∙ one.2;
+        }
+    | inr ne ↦
+        let was = table.some g g_in (before g h) in
+        record {
+          level = was.level;
+          below = was.below;
+          here = at was.level g
+              ∙ ap (λ (t : Bool). not (nat_eq was.level level && t) && has (bits_at at_level was.level) g) (not_equal g group ne)
+              ∙ ap (λ (t : Bool). not t && has (bits_at at_level was.level) g) (flat (nat_eq was.level level)) ∙ was.here;
+        }
+  ];
+}
+  where
+    same : (l g : ℕ) → l < 256 → g < 64 → has_level (levels_at new_of g) l ≡ has (bits_at new l) g
+    same l g l_in g_in =
+        in_group l g ∙ ap (λ (t : Bool). not (nat_eq l level && nat_eq g group) && t) (table.same l g l_in g_in) ∙ sym (at l g)
+
+-- a level that is left by its last group is no longer in use
+pub left_in_use : (at_level : List Bits64) (levels fewer : Levels) (rest : Bits64) (level l g : ℕ) → length at_level ≡ 256 → level < 256
+    → ((k : ℕ) → has rest k ≡ false) → ((k : ℕ) → has_level fewer k ≡ (not (nat_eq k level) && has_level levels k))
+    → has (bits_at (set at_level level rest) l) g ≡ true → has_level levels l ≡ true → has_level fewer l ≡ true
+left_in_use at_level levels fewer rest level l g count below empty without still kept = elim (cases_eq l level) [
+  | inl same ↦
+      let here : bits_at (set at_level level rest) l ≡ rest =
+      ap (bits_at (set at_level level rest)) same ∙ get_or-set_same at_level level rest no_bits (omega (arith, count, below)) in
+      absurd (clash (has rest g) (ap (λ (b : Bits64). has b g) (sym here) ∙ still) (empty g))
+  | inr ne ↦ without l ∙ ap (λ (t : Bool). not t && has_level levels l) (not_equal l level ne) ∙ kept
+]
+  where
+    clash : (t : Bool) → t ≡ true → t ≡ false → ⊥
+    clash t p q = cc
+
+-- ---- the search
+
+below_or_not : (a b : ℕ) → (a < b) ⊎ (b ≤ a)
+below_or_not a b = search arith
+
+-- a level that isn't in use has no group
+unused : (at_level : List Bits64) (levels : Levels) (of_group : List Levels) (some : Bits64) (l g : ℕ) → IsTable at_level levels of_group some → l < 256 → g < 64 → has_level levels l ≡ false → has (bits_at at_level l) g ≡ false
+unused at_level levels of_group some l g index l_below g_below none = by_test (has (bits_at at_level l) g) refl
+  where
+    by_test : (t : Bool) → has (bits_at at_level l) g ≡ t → has (bits_at at_level l) g ≡ false
+    by_test true h = absurd (clash (has_level levels l) (index.in_use l g l_below g_below h) none)
+      where
+        clash : (u : Bool) → u ≡ true → u ≡ false → ⊥
+        clash u p q = cc
+    by_test false h = h
+
+-- what is known when all levels below `from` are done
+pub record IsDone (at_level : List Bits64) (levels left : Levels) (set : Bits64) (from : ℕ) : Type 0 where
+  pub inside : from ≤ 256
+  pub later : (k : ℕ) → k < from → has_level left k ≡ false
+  pub kept : (k : ℕ) → from ≤ k → has_level left k ≡ has_level levels k
+  pub none : (k g : ℕ) → k < from → g < 64 → (has (bits_at at_level k) g && has set g) ≡ false
+
+and_false : (a b : Bool) → a ≡ false → (a && b) ≡ false
+and_false a b h = rw h refl
+
+-- no level from `from` up to `next` is left
+skipped : (at_level : List Bits64) (levels left : Levels) (of_group : List Levels) (some set : Bits64) (from k g : ℕ) → IsTable at_level levels of_group some → IsDone at_level levels left set from
+    → k < 256 → g < 64 → has_level left k ≡ false → (has (bits_at at_level k) g && has set g) ≡ false
+skipped at_level levels left of_group some set from k g index done k_below g_below none = elim (below_or_not k from) [
+  | inl early ↦ done.none k g early g_below
+  | inr late ↦ and_false (has (bits_at at_level k) g) (has set g) (unused at_level levels of_group some k g index k_below g_below (sym (done.kept k late) ∙ none))
+]
+
+pub all_done : (at_level : List Bits64) (levels left : Levels) (of_group : List Levels) (some set : Bits64) (from : ℕ) → IsTable at_level levels of_group some → IsDone at_level levels left set from
+    → ((k : ℕ) → has_level left k ≡ false) → IsDone at_level levels left set 256
+all_done at_level levels left of_group some set from index done none = record {
+  inside = omega arith;
+  later = λ k _. none k;
+  kept = λ k past. done.kept k (omega (arith, past, done.inside));
+  none = λ k g below g_below. skipped at_level levels left of_group some set from k g index done below g_below (none k);
+}
+
+pub more_done : (at_level : List Bits64) (levels left rest : Levels) (of_group : List Levels) (some set : Bits64) (from level : ℕ) → IsTable at_level levels of_group some → IsDone at_level levels left set from
+    → level < 256 → has_level left level ≡ true → ((k : ℕ) → k < level → has_level left k ≡ false)
+    → ((g : ℕ) → (has (bits_at at_level level) g && has set g) ≡ false)
+    → ((k : ℕ) → has_level rest k ≡ (not (nat_eq k level) && has_level left k))
+    → IsDone at_level levels rest set (level + 1)
+more_done at_level levels left rest of_group some set from level index done below here earlier empty without = record {
+  inside = omega (arith, below);
+  later = λ k more. without k ∙ (elim (cases_eq k level) [
+    | inl same ↦ rw (ap (λ (j : ℕ). nat_eq j level) same ∙ equal_self level) refl
+    | inr ne ↦ rw (earlier k (omega (arith, more, ne))) (and_no (not (nat_eq k level)))
+  ]);
+  kept = λ k past. without k ∙ rw (not_equal k level (λ e. omega (arith, e, past))) (done.kept k (from_before k past));
+  none = λ k g more g_below. elim (cases_eq k level) [
+    | inl same ↦ ap (λ (j : ℕ). has (bits_at at_level j) g && has set g) same ∙ empty g
+    | inr ne ↦ skipped at_level levels left of_group some set from k g index done (omega (arith, more, below)) g_below (earlier k (omega (arith, more, ne)))
+  ];
+}
+  where
+    and_no : (a : Bool) → (a && false) ≡ false
+    and_no true = refl
+    and_no false = refl
+
+    -- the level itself was left, so it isn't below `from`
+    from_level : from ≤ level
+    from_level = elim (below_or_not level from) [
+      | inl low ↦ absurd (clash (has_level left level) here (done.later level low))
+      | inr high ↦ high
+    ]
+      where
+        clash : (u : Bool) → u ≡ true → u ≡ false → ⊥
+        clash u p q = cc
+
+    from_before : (k : ℕ) → level + 1 ≤ k → from ≤ k
+    from_before k past = omega (arith, past, from_level)
+
+pub are_at_least : (at_level : List Bits64) (levels left : Levels) (of_group : List Levels) (some set found : Bits64) (from level group : ℕ)
+    → IsTable at_level levels of_group some → IsDone at_level levels left set from → level < 256
+    → ((k : ℕ) → k < level → has_level left k ≡ false) → ((g : ℕ) → has found g ≡ (has (bits_at at_level level) g && has set g))
+    → group < 64 → has found group ≡ true → AreAtLeast at_level (has set) level (has found)
+are_at_least at_level levels left of_group some set found from level group table done below earlier these g_small among = record {
+  below = below;
+  group = group;
+  inside = g_small;
+  some = among;
+  these = λ g _. these g;
+  free = λ l low g g_below. skipped at_level levels left of_group some set from l g table done (omega (arith, low, below)) g_below (earlier l low);
+}
+
+pub none_at : (at_level : List Bits64) (levels left : Levels) (set : Bits64) (from : ℕ) → IsDone at_level levels left set from → 256 ≤ from
+    → (l : ℕ) → l < 256 → IsFree at_level (has set) l
+none_at at_level levels left set from done past l below g g_below = done.none l g (omega (arith, below, past)) g_below
+
+-- ---- nobody is anywhere
+
+no_bit : (k : ℕ) → has no_bits k ≡ false
+no_bit k = grind (arith, nat_tests)
+
+no_level : (k : ℕ) → has_level no_levels k ≡ false
+no_level k = grind (arith, nat_tests)
+
+pub nowhere : (b : Bits64) (n l g : ℕ) → ((k : ℕ) → has b k ≡ false) → has (bits_at (replicate n b) l) g ≡ false
+nowhere b n l g none = elim (below_or_not l n) [
+  | inl low ↦ ap (λ (c : Bits64). has c g) (get_or-replicate n l b no_bits low) ∙ none g
+  | inr past ↦ ap (λ (c : Bits64). has c g) (get_or_past (replicate n b) l no_bits (omega (arith, past, length-replicate n b))) ∙ no_bit g
+]
+
+pub at_none : (s : Levels) (n g l : ℕ) → ((k : ℕ) → has_level s k ≡ false) → has_level (levels_at (replicate n s) g) l ≡ false
+at_none s n g l none = elim (below_or_not g n) [
+  | inl low ↦ ap (λ (t : Levels). has_level t l) (get_or-replicate n g s no_levels low) ∙ none l
+  | inr past ↦ ap (λ (t : Levels). has_level t l) (get_or_past (replicate n s) g no_levels (omega (arith, past, length-replicate n s))) ∙ no_level l
+]
+
+pub empty_table : (b some : Bits64) (s levels : Levels) → ((k : ℕ) → has b k ≡ false) → ((k : ℕ) → has_level s k ≡ false)
+    → ((k : ℕ) → has_level levels k ≡ false)
+    → ((k : ℕ) → has some k ≡ false) → IsTable (replicate 256 b) levels (replicate 64 s) some
+empty_table b some s levels none no_levels idle nobody = record {
+  used = λ l _ h. absurd (clash (has_level levels l) h (idle l));
+  each = length-replicate 256 b;
+  groups = length-replicate 64 s;
+  in_use = λ l g l_below g_below h. absurd (clash (has (bits_at (replicate 256 b) l) g) h (nowhere b 256 l g none));
+  same = λ l g l_below g_below. at_none s 64 g l no_levels ∙ sym (nowhere b 256 l g none);
+  all = λ l g l_below g_below h. absurd (clash (has (bits_at (replicate 256 b) l) g) h (nowhere b 256 l g none));
+  some = λ g g_below h. absurd (clash (has some g) h (nobody g));
+}
+  where
+    clash : (t : Bool) → t ≡ true → t ≡ false → ⊥
+    clash t p q = cc
+
+-- a group without a level is at none
+pub left_occupied : (of_group : List Levels) (after : Levels) (occupied rest : Bits64) (group l g : ℕ) → group < length of_group
+    → ((k : ℕ) → has_level after k ≡ false) → ((k : ℕ) → has rest k ≡ (not (nat_eq k group) && has occupied k))
+    → has_level (levels_at (set of_group group after) g) l ≡ true → has occupied g ≡ true → has rest g ≡ true
+left_occupied of_group after occupied rest group l g within none without still was = elim (cases_eq g group) [
+  | inl same ↦
+      let here : levels_at (set of_group group after) g ≡ after =
+      ap (levels_at (set of_group group after)) same ∙ get_or-set_same of_group group after no_levels within in
+      absurd (clash (has_level after l) (ap (λ (s : Levels). has_level s l) (sym here) ∙ still) (none l))
+  | inr ne ↦ without g ∙ ap (λ (t : Bool). not t && has occupied g) (not_equal g group ne) ∙ was
+]
+  where
+    clash : (t : Bool) → t ≡ true → t ≡ false → ⊥
+    clash t p q = cc

@@ -1,0 +1,52 @@
+use Rattle.std.specs.Prelude.{◌≡◌, ℕ, ◌<◌, Bool, ◌&&◌, true, false, List, length, slice_index_or}
+use Rattle.aps_levels.specs.declared.bits.Bits64.{Bits64}
+use Rattle.aps_levels.specs.declared.levels.Levels.{Levels}
+use Rattle.aps_levels.specs.Bits.{has}
+use Rattle.aps_levels.specs.Levels.{has_level}
+
+abbrev pub no_bits : Bits64
+no_bits = record { word = 0 }
+
+abbrev pub no_levels : Levels
+no_levels = record { first = no_bits; second = no_bits; third = no_bits; fourth = no_bits }
+
+abbrev pub bits_at : List Bits64 → ℕ → Bits64
+bits_at at_level l = slice_index_or at_level l no_bits
+
+abbrev pub levels_at : List Levels → ℕ → Levels
+levels_at of_group g = slice_index_or of_group g no_levels
+
+-- a level at which the group is
+pub record HasLevel (at_level : List Bits64) (g : ℕ) : Type 0 where
+  pub level : ℕ
+  pub below : level < 256
+  pub here : has (bits_at at_level level) g ≡ true
+
+-- a group that is at the level
+pub record HasGroup (at_level : List Bits64) (l : ℕ) : Type 0 where
+  pub group : ℕ
+  pub below : group < 64
+  pub here : has (bits_at at_level l) group ≡ true
+
+-- the levels at which groups are, the levels of each group, and the groups that are at any level
+pub record IsTable (at_level : List Bits64) (levels : Levels) (of_group : List Levels) (occupied : Bits64) : Type 0 where
+  pub each : length at_level ≡ 256
+  pub groups : length of_group ≡ 64
+  pub in_use : (l g : ℕ) → l < 256 → g < 64 → has (bits_at at_level l) g ≡ true → has_level levels l ≡ true
+  pub used : (l : ℕ) → l < 256 → has_level levels l ≡ true → HasGroup at_level l
+  pub same : (l g : ℕ) → l < 256 → g < 64 → has_level (levels_at of_group g) l ≡ has (bits_at at_level l) g
+  pub all : (l g : ℕ) → l < 256 → g < 64 → has (bits_at at_level l) g ≡ true → has occupied g ≡ true
+  pub some : (g : ℕ) → g < 64 → has occupied g ≡ true → HasLevel at_level g
+
+-- no group of the set is at the level
+abbrev pub IsFree : List Bits64 → (ℕ → Bool) → ℕ → Type 0
+IsFree at_level set l = (g : ℕ) → g < 64 → (has (bits_at at_level l) g && set g) ≡ false
+
+-- the groups of the set at the least level at which any of them is
+pub record AreAtLeast (at_level : List Bits64) (set : ℕ → Bool) (level : ℕ) (found : ℕ → Bool) : Type 0 where
+  pub below : level < 256
+  pub group : ℕ
+  pub inside : group < 64
+  pub some : found group ≡ true
+  pub these : (g : ℕ) → g < 64 → found g ≡ (has (bits_at at_level level) g && set g)
+  pub free : (l : ℕ) → l < level → IsFree at_level set l

@@ -1,0 +1,183 @@
+//! Which groups have somebody at which level.
+ghost use Rattle.std.specs.Prelude.{◌≡◌, ℕ, ◌<◌, ◌&&◌, ◌||◌, not, length, nat_eq, IfOk, IfSome, IfNone, true, false};
+ghost use Rattle.aps_levels.specs.Bits.{has};
+ghost use Rattle.aps_levels.specs.Levels.{has_level};
+ghost use Rattle.aps_ready.specs.Table.{bits_at, levels_at, AreAtLeast, HasLevel, IsFree};
+
+use aps_levels::{Bits64, Levels};
+use aps_model::NoMemory;
+use std::alloc::Global;
+use std::marker::Model;
+
+/// Groups that are at one level.
+#[derive(Clone, Copy)]
+pub struct Found {
+    pub level: usize,
+    pub groups: Bits64,
+}
+
+/// For each level the groups that have somebody there. Contracts see these sets.
+#[derive(Drop)]
+pub struct Table {
+    at_level: Vec<Bits64>,
+    /// the levels at which any group is
+    levels: Levels,
+    /// the levels of each group
+    of_group: Vec<Levels>,
+    /// the groups that are at any level
+    occupied: Bits64,
+}
+
+impl Model for Table {
+    ghost use Rattle.std.specs.Prelude.{List};
+    ghost use Rattle.aps_levels.specs.declared.bits.Bits64.{Bits64};
+    ghost use Rattle.aps_ready.specs.Table.{IsTable};
+
+    ghost Value = { List Bits64 };
+
+    ghost view = { λ t. t.at_level.items };
+
+    ghost invariant = { λ t. IsTable t.at_level.items t.levels t.of_group.items t.occupied };
+}
+
+impl Table {
+    /// No group is at any level.
+    pub fn new(alloc: Global) -> Result<Table, NoMemory>
+        ensures { IfOk result (λ table. (l g : ℕ) → has (bits_at table l) g ≡ false) }
+    {
+        let at_level = vec![in alloc; Bits64::none(); 256]?;
+        let of_group = vec![in alloc; Levels::none(); 64]?;
+        Ok(Table {
+            at_level,
+            levels: Levels::none(),
+            of_group,
+            occupied: Bits64::none(),
+        })
+    }
+
+    /// A group is at a level from now on.
+    #[inline(always)]
+    pub fn enter(&mut self, level: usize, group: usize)
+        requires level { level < 256 }
+        requires group { group < 64 }
+        ensures { (l g : ℕ) → l < 256 → has (bits_at self.new l) g ≡ ((nat_eq l level && nat_eq g group) || has (bits_at self.old l) g) }
+    {
+        add_group(&mut self.at_level, level, group);
+        add_level(&mut self.of_group, level, group);
+        self.levels = self.levels.with(level);
+        self.occupied = self.occupied.with(group);
+    }
+
+    /// A group is no longer at a level.
+    #[inline(always)]
+    pub fn leave(&mut self, level: usize, group: usize)
+        requires level { level < 256 }
+        requires group { group < 64 }
+        ensures { (l g : ℕ) → l < 256 → has (bits_at self.new l) g ≡ (not (nat_eq l level && nat_eq g group) && has (bits_at self.old l) g) }
+    {
+        self.levels = remove_group(&mut self.at_level, self.levels, level, group);
+        self.occupied = remove_level(&mut self.of_group, self.occupied, level, group);
+    }
+
+    /// The groups that are at any level.
+    #[inline(always)]
+    pub fn occupied(&self) -> Bits64
+        ensures some { (g : ℕ) → g < 64 → has result g ≡ true → HasLevel self.now g }
+        ensures all { (l g : ℕ) → l < 256 → g < 64 → has (bits_at self.now l) g ≡ true → has result g ≡ true }
+    {
+        self.occupied
+    }
+
+    /// Of the groups of a set those at the least level at which any of them is; none exactly where none is at any.
+    #[inline(always)]
+    pub fn least(&self, set: Bits64) -> Option<Found>
+        ensures some { IfSome result (λ found. AreAtLeast self.now (has set) found.level (has found.groups)) }
+        ensures none { IfNone result ((l : ℕ) → l < 256 → IsFree self.now (has set) l) }
+    {
+        let mut left = self.levels;
+        let mut from = 0;
+        while from < 256 {
+            match left.least() {
+                None => from = 256,
+                Some(level) => {
+                    let groups = self.at_level[level].meet(set);
+                    if !groups.is_empty() {
+                        return Some(Found { level, groups });
+                    }
+                    left = left.without(level);
+                    from = level + 1;
+                }
+            }
+        }
+        None
+    }
+}
+
+/// A group is at a level from now on.
+#[inline(always)]
+fn add_group(at_level: &mut Vec<Bits64>, level: usize, group: usize)
+    requires level { level < length at_level.old.items }
+    requires group { group < 64 }
+    ensures count { length at_level.new.items ≡ length at_level.old.items }
+    ensures at { (l g : ℕ) → has (bits_at at_level.new.items l) g
+        ≡ ((nat_eq l level && nat_eq g group) || has (bits_at at_level.old.items l) g) }
+{
+    at_level[level] = at_level[level].with(group);
+}
+
+/// A level is one of those of a group from now on.
+#[inline(always)]
+fn add_level(of_group: &mut Vec<Levels>, level: usize, group: usize)
+    requires level { level < 256 }
+    requires group { group < length of_group.old.items }
+    ensures count { length of_group.new.items ≡ length of_group.old.items }
+    ensures at { (l g : ℕ) → has_level (levels_at of_group.new.items g) l
+        ≡ ((nat_eq l level && nat_eq g group) || has_level (levels_at of_group.old.items g) l) }
+{
+    of_group[group] = of_group[group].with(level);
+}
+
+/// A group is no longer at a level. The answer are the levels at which groups are afterwards.
+#[inline(always)]
+fn remove_group(at_level: &mut Vec<Bits64>, levels: Levels, level: usize, group: usize) -> Levels
+    requires level { level < 256 }
+    requires group { group < 64 }
+    requires count { length at_level.old.items ≡ 256 }
+    ensures count { length at_level.new.items ≡ 256 }
+    ensures at { (l g : ℕ) → has (bits_at at_level.new.items l) g
+        ≡ (not (nat_eq l level && nat_eq g group) && has (bits_at at_level.old.items l) g) }
+    ensures in_use { (l g : ℕ) → l < 256 → g < 64 → has (bits_at at_level.new.items l) g ≡ true → has_level levels l ≡ true
+        → has_level result l ≡ true }
+    ensures before { (l : ℕ) → has_level result l ≡ true → has_level levels l ≡ true }
+    ensures own { has_level result level ≡ true → (g : ℕ) × (g < 64) × (has (bits_at at_level.new.items level) g ≡ true) }
+{
+    let rest = at_level[level].without(group);
+    at_level[level] = rest;
+    if rest.is_empty() {
+        levels.without(level)
+    } else {
+        levels
+    }
+}
+
+/// A level is no longer one of those of a group. The answer are the groups that are at any level afterwards.
+#[inline(always)]
+fn remove_level(of_group: &mut Vec<Levels>, occupied: Bits64, level: usize, group: usize) -> Bits64
+    requires level { level < 256 }
+    requires group { group < 64 }
+    requires count { length of_group.old.items ≡ 64 }
+    ensures count { length of_group.new.items ≡ 64 }
+    ensures at { (l g : ℕ) → has_level (levels_at of_group.new.items g) l
+        ≡ (not (nat_eq l level && nat_eq g group) && has_level (levels_at of_group.old.items g) l) }
+    ensures all { (l g : ℕ) → l < 256 → g < 64 → has_level (levels_at of_group.new.items g) l ≡ true → has occupied g ≡ true
+        → has result g ≡ true }
+    ensures before { (g : ℕ) → has result g ≡ true → has occupied g ≡ true }
+    ensures own { has result group ≡ true → (l : ℕ) × (l < 256) × (has_level (levels_at of_group.new.items group) l ≡ true) }
+{
+    let rest = of_group[group].without(level);
+    of_group[group] = rest;
+    match rest.least() {
+        None => occupied.without(group),
+        Some(_) => occupied,
+    }
+}
