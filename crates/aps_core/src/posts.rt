@@ -1,7 +1,7 @@
-//! What each processor runs, as far as its rank goes by it, kept from step to step.
-ghost use Rattle.std.specs.Prelude.{◌≡◌, ◌≢◌, ℕ, ◌+◌, ◌<◌, ◌≤◌, if◌then◌else◌};
-ghost use Rattle.aps_levels.specs.Bits.{has};
-ghost use Rattle.aps_core.specs.Posts.{IsPost, IsPostOf, no_post, post_at};
+//! What each processor runs, as far as its rank goes by it, and how high it stands, kept from step to step.
+ghost use Rattle.std.specs.Prelude.{◌≡◌, ◌≢◌, ℕ, ◌+◌, ◌<◌, ◌≤◌, Option};
+ghost use Rattle.aps_model.specs.declared.state.Facts.{Facts as FactsOf};
+ghost use Rattle.aps_core.specs.Posts.{AreHigh, IsHigh, IsPost, IsPostOf, post_at};
 
 use crate::classes::{Classes, group_of};
 use aps_model::{CpuId, Facts};
@@ -14,12 +14,13 @@ const CPUS: usize = 16;
 const CLASS: u16 = 256;
 
 /// A processor's thread: its group, where it stands if that is of class 0, and how much higher if it is of class 1. An idle
-/// processor stands at 0 in any case.
+/// processor stands at 0 in any case. Beside that, where it stands by the classes at hand.
 #[derive(Clone, Copy, Debug, PartialEq, Eq)]
 pub struct Post {
     group: u16,
     base: u16,
     more: u16,
+    pub height: u16,
 }
 
 impl Post {
@@ -28,30 +29,38 @@ impl Post {
         group: 0,
         base: 0,
         more: 0,
+        height: 0,
     };
 
     /// That of a processor that runs a thread with these values.
-    fn of(facts: &Facts) -> Post
-        ensures { IsPostOf facts.now result }
+    fn of(facts: &Facts, classes: Classes) -> Post
+        ensures is { IsPostOf facts.now result }
+        ensures high { IsHigh classes result }
     {
-        Post {
+        let post = Post {
             group: group_of(facts.partition, facts.critical) as u16,
             base: base_of(facts.priority),
             more: CLASS,
-        }
+            height: 0,
+        };
+        post.by(classes)
     }
 
-    /// How high the processor stands.
+    /// The same, standing by these classes.
     #[inline(always)]
-    pub fn height(self, classes: Classes) -> u16
+    fn by(self, classes: Classes) -> Post
         requires group { self.group < 64 }
         requires base { self.base ≤ 256 }
         requires more { self.more ≤ 256 }
-        ensures { result ≡ (if has classes.first self.group then self.base + self.more else self.base) }
+        ensures high { IsHigh classes result }
+        ensures same { (o : Option FactsOf) → IsPost o self → IsPost o result }
     {
         // a product, since a branch here would be foretold wrongly often
         let first = u16::from(classes.first.has(usize::from(self.group)));
-        self.base + first * self.more
+        Post {
+            height: self.base + first * self.more,
+            ..self
+        }
     }
 }
 
@@ -59,6 +68,8 @@ impl Post {
 #[derive(Drop)]
 pub struct Posts {
     row: [Post; CPUS],
+    /// those by which all stand
+    classes: Classes,
 }
 
 impl Model for Posts {
@@ -70,8 +81,9 @@ impl Model for Posts {
     ghost view = { λ p. p.row };
 
     ghost use Rattle.std.specs.Prelude.{◌≡◌, length};
+    ghost use Rattle.aps_core.specs.Posts.{AreHigh};
 
-    ghost invariant = { λ p. length p.row ≡ 16 };
+    ghost invariant = { λ p. (length p.row ≡ 16) × AreHigh p.classes p.row };
 }
 
 impl Posts {
@@ -79,6 +91,7 @@ impl Posts {
     pub fn new() -> Self {
         Posts {
             row: [Post::IDLE; CPUS],
+            classes: Classes::none(),
         }
     }
 
@@ -99,8 +112,32 @@ impl Posts {
     {
         self.row[d.index()] = match facts {
             None => Post::IDLE,
-            Some(facts) => Post::of(&facts),
+            Some(facts) => Post::of(&facts, self.classes),
         };
+    }
+
+    /// All processors stand by these classes. Where they did before, there is nothing to do.
+    #[inline(always)]
+    pub fn go_by(&mut self, classes: Classes)
+        ensures high { AreHigh classes self.new }
+        ensures same { (d : ℕ) (o : Option FactsOf) → IsPost o (post_at self.old d) → IsPost o (post_at self.new d) }
+    {
+        if self.classes != classes {
+            self.stand_anew(classes);
+        }
+    }
+
+    /// The same, whatever they stood by.
+    fn stand_anew(&mut self, classes: Classes)
+        ensures high { AreHigh classes self.new }
+        ensures same { (d : ℕ) (o : Option FactsOf) → IsPost o (post_at self.old d) → IsPost o (post_at self.new d) }
+    {
+        let mut row = self.row;
+        for d in 0..CPUS {
+            row[d] = row[d].by(classes);
+        }
+        self.row = row;
+        self.classes = classes;
     }
 }
 

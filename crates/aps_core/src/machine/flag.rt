@@ -7,7 +7,7 @@ ghost use Rattle.aps_ready.specs.Gates.{AreGates, is_first};
 ghost use Rattle.aps_core.specs.Classes.{AreClasses};
 ghost use Rattle.aps_core.specs.Lowest.{IsNoLess, IsRank, IsTold, height, height_of, height_or, limit, lowest, rank_now, ranked_at};
 ghost use Rattle.aps_core.specs.NextDues.{AreOthersDues};
-ghost use Rattle.aps_core.specs.Posts.{ArePosts};
+ghost use Rattle.aps_core.specs.Posts.{AreHigh, ArePosts};
 ghost use Rattle.aps_core.specs.Seats.{seats_of};
 
 use super::Machine;
@@ -20,7 +20,8 @@ use aps_ready::{Gates, Ready};
 /// Past the heights of all processors.
 const PAST_ALL: u16 = 1000;
 
-/// Of the other processors that aren't due yet the one of least rank, and how high that stands.
+/// Of the other processors that aren't due yet the one of least rank, and how high that stands. Where there is none, the
+/// processor is any, and the height is past all.
 #[derive(Clone, Copy, Debug, PartialEq, Eq)]
 struct Lowest {
     cpu: CpuId,
@@ -33,16 +34,18 @@ impl Machine {
     fn height_now(&self, parts: &[PartFacts], posts: &Posts, classes: Classes, d: usize) -> u16
         requires posts { ArePosts self.now posts.now }
         requires classes { AreClasses parts.now classes }
+        requires high { AreHigh classes posts.now }
         requires d { d < length self.now.cpus }
         ensures same { result ≡ height (rank_now self.now parts.now (cpu_at self.now d).running) }
         ensures rank { IsRank (Some (rank_now self.now parts.now (cpu_at self.now d).running)) }
     {
         // the check wants to see that there are 16 processors at most
         let _count = self.cpus.len();
-        posts.at(d).height(classes)
+        posts.at(d).height
     }
 
-    /// How high another processor stands that isn't due yet. The own one is due no later than now.
+    /// How high the processor stands, if it is another one and isn't due yet; else the height is past all. The own one is due
+    /// no later than now.
     #[inline(always)]
     fn height_at(
         &self,
@@ -57,6 +60,7 @@ impl Machine {
     ) -> u16
         requires posts { ArePosts self.now posts.now }
         requires classes { AreClasses parts.now classes }
+        requires high { AreHigh classes posts.now }
         requires dues { AreOthersDues self.now entries.now c dues.now }
         requires own { slice_index dues.now c ≤ now }
         requires d { d < length self.now.cpus }
@@ -69,7 +73,8 @@ impl Machine {
         if now < dues.at(d) { height } else { PAST_ALL }
     }
 
-    /// Of the other processors that aren't due yet the one of least rank, and of equal ranks the last.
+    /// Of the other processors that aren't due yet the one of least rank, and of equal ranks the last; where there is none, the
+    /// height is past all.
     #[inline(always)]
     fn lowest(
         &self,
@@ -83,6 +88,7 @@ impl Machine {
     ) -> Lowest
         requires posts { ArePosts self.now posts.now }
         requires classes { AreClasses parts.now classes }
+        requires high { AreHigh classes posts.now }
         requires dues { AreOthersDues self.now entries.now c dues.now }
         requires own { slice_index dues.now c ≤ now }
         ensures same { IsTold (lowest self.now entries.now parts.now c now self.now.shape.cpus) result.cpu result.height }
@@ -122,6 +128,7 @@ impl Machine {
         requires posts { ArePosts self.now posts.now }
         requires gates { AreGates parts.now gates }
         requires classes { AreClasses parts.now classes }
+        requires high { AreHigh classes posts.now }
         requires dues { AreOthersDues self.now entries.now c dues.now }
         requires own { slice_index dues.now c ≤ now }
         requires seats { ready.now ≡ seats_of self.now }

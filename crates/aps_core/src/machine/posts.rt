@@ -38,7 +38,7 @@ impl Machine {
         }
     }
 
-    /// What each other processor runs is kept as it stands, where it was unless a command was done, or an operation that
+    /// What each other processor runs is kept as it stands. It was so before, unless a command was done, or an operation that
     /// may change what threads inherit.
     #[inline(always)]
     pub fn post_others(&self, posts: &mut Posts, cpu: CpuId, commanded: bool, done: &Done)

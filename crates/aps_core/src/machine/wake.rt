@@ -152,7 +152,7 @@ impl Machine {
 
     /// The work of this tick, if it begins with this step: the commands of the tick, and then the wakes, from the timer,
     /// which then has the sleepers that are left. The answer is whether there was a command; else no thread's seat changes
-    /// but of those who woke, who are told.
+    /// but of those who woke, who are told, and no thread inherits other values than before.
     pub fn work_tick(
         &mut self,
         scenario: &Scenario,

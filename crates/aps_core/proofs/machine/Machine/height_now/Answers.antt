@@ -1,15 +1,17 @@
-use Rattle.std.proofs.Common.{◌∙◌, subst, sym}
-use Rattle.aps_model.specs.SchedulerState.{cpu_at}
-use Rattle.aps_core.specs.Posts.{IsPost, facts_now}
+use Rattle.std.proofs.Common.{◌<◌, ◌∙◌, ap, arith, length}
+use Rattle.aps_model.specs.SchedulerState.{SchedulerState, cpu_at}
+use Rattle.aps_core.specs.declared.posts.Post.{Post}
+use Rattle.aps_core.specs.Posts.{post_at}
 use Rattle.aps_core.proofs.Heights.{post_height, post_rank}
 use Rattle.aps_core.proofs.machine.Machine.height_now.Goals as goal
 
 pub returns-clause-same : goal.returns-clause-same
 returns-clause-same c =
     let s = c.args.self.now in
-    let running = (cpu_at s c.args.d).running in
-    let is : IsPost (facts_now s running) c.at.result = subst (IsPost (facts_now s running)) (sym c.at.ensures) (c.requires.posts c.args.d c.requires.d) in
-    c.height.ensures ∙ post_height s c.args.parts.now c.args.classes running c.at.result c.requires.classes is
+    let few = c.self.invariant.shape.few_cpus in
+    let inside : c.args.d < 16 = omega (arith, few, c.requires.d, c.self.invariant.cpus, ap (λ (s : SchedulerState). length s.cpus) c.self.view_is) in
+    ap (λ (p : Post). p.height) c.at.ensures ∙ (c.requires.high c.args.d inside).same
+    ∙ post_height s c.args.parts.now c.args.classes (cpu_at s c.args.d).running (post_at c.args.posts.now c.args.d) c.requires.classes (c.requires.posts c.args.d c.requires.d)
 
 pub returns-clause-rank : goal.returns-clause-rank
 returns-clause-rank c =
