@@ -1,8 +1,9 @@
 -- Who is flagged for the greatest candidate left: the lowest of all processors, where that stands below the candidate; and nobody where it doesn't stand below
 -- the pick itself, than which the candidate is no greater.
-use Rattle.std.proofs.Common.{◌≡◌, ℕ, zero, suc, ◌+◌, ◌<◌, ◌≤◌, List, [], ◌∷◌, set, refl, sym, ◌∙◌, ap, subst, Bool, true, false, cond, not, ◌&&◌, nat_eq, nat_le, nat_lt, Option, Some, None, arith}
+use Rattle.std.proofs.Common.{◌≡◌, ◌≢◌, ℕ, zero, suc, ◌+◌, ◌<◌, ◌≤◌, List, [], ◌∷◌, set, refl, sym, ◌∙◌, ap, subst, Bool, true, false, cond, not, ◌&&◌, nat_eq, nat_le, nat_lt, Option, Some, None, arith, inl, inr}
 use Rattle.std.specs.List.{AllByRecursion, filter, fold, range_with_len}
 use Rattle.std.specs.Option.{option_map}
+use Rattle.std.proofs.lemmas.Bool.{cases_eq, cases_lt}
 use Rattle.std.proofs.lemmas.Bool.Decides.{nat_tests}
 use Rattle.std.proofs.lemmas.List.Elements.{All-contains, All-from_recursion}
 use Rattle.aps_model.specs.declared.entry.Entry.{Entry}
@@ -28,7 +29,7 @@ use Rattle.aps_ready.specs.Ready.{members, without}
 use Rattle.aps_ready.specs.declared.ahead.Ahead.{Ahead}
 use Rattle.aps_ready.specs.Ahead.{IsAhead, IsAheadOf}
 use Rattle.aps_ready.specs.Gates.{is_first}
-use Rattle.aps_core.specs.Lowest.{IsNoLess, IsRank, IsTold, height, height_or, limit, lowest, rank_now, ranked_at}
+use Rattle.aps_core.specs.Lowest.{IsNoLess, IsRank, IsTold, IsHeight, height, limit, lowest, rank_now, ranked_at}
 use Rattle.aps_core.specs.Seats.{seats_of}
 use Rattle.aps_core.proofs.Seats.{missing_in}
 
@@ -82,9 +83,9 @@ height_higher (Running (suc zero) priority) (Running (suc zero) other) is_a is_b
 -- ---- the scan
 
 -- one more processor stands no higher than the lowest so far
-pub told_lower : (d : ℕ) (o : Option Rank) (best : Option (ℕ × Rank)) (at least number : ℕ) → IsTold best at least → IsRank o → number ≡ height_or o → number ≤ least
+pub told_lower : (d : ℕ) (o : Option Rank) (best : Option (ℕ × Rank)) (at least number : ℕ) → IsTold best at least → IsRank o → IsHeight o number → number ≤ least
     → IsTold (lower_ranked d o best) d number
-told_lower d None None at least number told rank is low = is
+told_lower d None None at least number told rank is low = omega (arith, told, is, low)
 told_lower d None (Some b) at least number told rank is low =
     let small = height_small b.1 told.2 in
     let there = told.1 in
@@ -94,8 +95,42 @@ told_lower d (Some r) (Some b) at least number told rank is low =
     let there = told.1 in
     subst (λ t. IsTold (cond t (Some (d, r)) (Some b)) d number) (sym (height_lower r b.1 rank told.2 (omega (arith, there, is, low)))) (refl, is, rank)
 
+-- where a processor stands, if it is another one that isn't due yet
+pub told_height : (s : SchedulerState) (h : List Entry) (parts : List PartFacts) (c now d next own past : ℕ) → (d ≢ c → next ≡ due s h d) → (d ≡ c → next ≤ now)
+    → own ≡ height (rank_now s parts (cpu_at s d).running) → past ≡ cond (nat_le next now) 1000 0 → IsHeight (ranked_at s h parts c now d) (own + past)
+told_height s h parts c now d next own past others at is more = elim (cases_eq d c) [
+  | inl same ↦ subst (λ t. IsHeight (cond (not t && nat_lt now (due s h d)) (Some rank) None) (own + past)) (sym (eq_true d c same)) (is_past (at same))
+  | inr ne ↦ subst (λ t. IsHeight (cond (not t && nat_lt now (due s h d)) (Some rank) None) (own + past)) (sym (eq_false d c ne))
+      (elim (cases_lt now next) [
+        | inl less ↦ subst (λ t. IsHeight (cond t (Some rank) None) (own + past)) (sym (lt_true now (due s h d) (subst (λ n. now < n) (others ne) less))) (is_later less)
+        | inr most ↦ subst (λ t. IsHeight (cond t (Some rank) None) (own + past)) (sym (lt_false now (due s h d) (subst (λ n. n ≤ now) (others ne) most))) (is_past most)
+      ])
+]
+  where
+    rank : Rank
+    rank = rank_now s parts (cpu_at s d).running
+
+    eq_true : (a b : ℕ) → a ≡ b → nat_eq a b ≡ true
+    eq_true a b same = grind (arith, nat_tests)
+
+    eq_false : (a b : ℕ) → a ≢ b → nat_eq a b ≡ false
+    eq_false a b other = grind (arith, nat_tests)
+
+    le_false : (a b : ℕ) → b < a → nat_le a b ≡ false
+    le_false a b less = grind (arith, nat_tests)
+
+    is_past : next ≤ now → 1000 ≤ own + past
+    is_past most =
+        let there : past ≡ 1000 = more ∙ ap (λ t. cond t 1000 0) (le_true next now most) in
+        omega (arith, there)
+
+    is_later : now < next → own + past ≡ height rank
+    is_later less =
+        let there : past ≡ 0 = more ∙ ap (λ t. cond t 1000 0) (le_false next now less) in
+        omega (arith, there, is)
+
 -- or higher
-pub told_stays : (d : ℕ) (o : Option Rank) (best : Option (ℕ × Rank)) (at least number : ℕ) → IsTold best at least → IsRank o → number ≡ height_or o → least < number
+pub told_stays : (d : ℕ) (o : Option Rank) (best : Option (ℕ × Rank)) (at least number : ℕ) → IsTold best at least → IsRank o → IsHeight o number → least < number
     → IsTold (lower_ranked d o best) at least
 told_stays d None best at least number told rank is high = told
 told_stays d (Some r) None at least number told rank is high =

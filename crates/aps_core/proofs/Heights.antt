@@ -12,7 +12,7 @@ use Rattle.aps_core.specs.declared.classes.Classes.{Classes}
 use Rattle.aps_core.specs.declared.posts.Post.{Post}
 use Rattle.aps_core.specs.Classes.{AreClasses}
 use Rattle.aps_core.specs.Lowest.{IsRank, height, height_of, rank_now}
-use Rattle.aps_core.specs.Posts.{IsPost, facts_now}
+use Rattle.aps_core.specs.Posts.{IsHigh, IsPost, facts_now}
 
 -- what is kept has its ranges
 pub record IsSmallPost (post : Post) : Type 0 where
@@ -31,6 +31,17 @@ small_post (Some f) post is = record {
   base = let same = is.base in let few = is.few in omega (arith, same, few);
   more = let same = is.more in omega (arith, same);
 }
+
+-- and nobody stands higher than this
+pub high_few : (classes : Classes) (post : Post) → IsHigh classes post → post.height ≤ 512
+high_few classes post is =
+    let same = is.same in
+    let few = by_test (has classes.first post.group) in
+    omega (arith, same, few)
+  where
+    by_test : (t : Bool) → cond t (post.base + post.more) post.base ≤ 512
+    by_test true = let base = is.base in let more = is.more in omega (arith, base, more)
+    by_test false = let base = is.base in omega (arith, base)
 
 pub post_height : (s : SchedulerState) (parts : List PartFacts) (classes : Classes) (o : Option Pick) (post : Post) → AreClasses parts classes → IsPost (facts_now s o) post
     → cond (has classes.first post.group) (post.base + post.more) post.base ≡ height (rank_now s parts o)

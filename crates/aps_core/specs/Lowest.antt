@@ -38,10 +38,10 @@ abbrev pub height : Rank → ℕ
 height Idle = 0
 height (Running class priority) = height_of (nat_eq class 1) priority
 
--- the same, and past all ranks where there is none
-abbrev pub height_or : Option Rank → ℕ
-height_or None = 1000
-height_or (Some rank) = height rank
+-- this is where it stands, or past all ranks where there is none
+abbrev pub IsHeight : Option Rank → ℕ → Type 0
+IsHeight None number = 1000 ≤ number
+IsHeight (Some rank) number = number ≡ height rank
 
 -- the class and the priority of a rank have their ranges
 abbrev pub IsRank : Option Rank → Type 0

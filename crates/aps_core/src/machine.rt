@@ -233,6 +233,7 @@ impl Machine {
     }
 
     /// One step of the processor, at its due moment, by its parts.
+    #[inline(always)]
     pub fn step(
         &mut self,
         scenario: &Scenario,

@@ -128,6 +128,7 @@ impl Posts {
     }
 
     /// The same, whatever they stood by.
+    #[inline(never)]
     fn stand_anew(&mut self, classes: Classes)
         ensures high { AreHigh classes self.new }
         ensures same { (d : ℕ) (o : Option FactsOf) → IsPost o (post_at self.old d) → IsPost o (post_at self.new d) }

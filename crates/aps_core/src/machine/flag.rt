@@ -1,11 +1,11 @@
-ghost use Rattle.std.specs.Prelude.{◌≡◌, ◌<◌, ◌≤◌, length, slice_index, IfSome, Some};
+ghost use Rattle.std.specs.Prelude.{◌≡◌, ◌<◌, ◌≤◌, if◌then◌else◌, length, slice_index, IfSome, Some};
 ghost use Rattle.aps_model.specs.Flag.{flag_for, with_flag};
 ghost use Rattle.aps_model.specs.Budget.{part_at};
 ghost use Rattle.aps_model.specs.SchedulerState.{cpu_at};
 ghost use Rattle.aps_model.specs.Pick.{contenders, greatest, merit_among};
 ghost use Rattle.aps_ready.specs.Gates.{AreGates, is_first};
 ghost use Rattle.aps_core.specs.Classes.{AreClasses};
-ghost use Rattle.aps_core.specs.Lowest.{IsNoLess, IsRank, IsTold, height, height_of, height_or, limit, lowest, rank_now, ranked_at};
+ghost use Rattle.aps_core.specs.Lowest.{IsHeight, IsNoLess, IsRank, IsTold, height, height_of, limit, lowest, rank_now, ranked_at};
 ghost use Rattle.aps_core.specs.NextDues.{AreOthersDues};
 ghost use Rattle.aps_core.specs.Posts.{AreHigh, ArePosts};
 ghost use Rattle.aps_core.specs.Seats.{seats_of};
@@ -38,14 +38,15 @@ impl Machine {
         requires d { d < length self.now.cpus }
         ensures same { result ≡ height (rank_now self.now parts.now (cpu_at self.now d).running) }
         ensures rank { IsRank (Some (rank_now self.now parts.now (cpu_at self.now d).running)) }
+        ensures few { result ≤ 512 }
     {
         // the check wants to see that there are 16 processors at most
         let _count = self.cpus.len();
         posts.at(d).height
     }
 
-    /// How high the processor stands, if it is another one and isn't due yet; else the height is past all. The own one is due
-    /// no later than now.
+    /// How high the processor stands, if it is another one and isn't due yet; else past all. The own one is due no later than
+    /// now.
     #[inline(always)]
     fn height_at(
         &self,
@@ -64,13 +65,13 @@ impl Machine {
         requires dues { AreOthersDues self.now entries.now c dues.now }
         requires own { slice_index dues.now c ≤ now }
         requires d { d < length self.now.cpus }
-        ensures same { result ≡ height_or (ranked_at self.now entries.now parts.now c now d) }
+        ensures same { IsHeight (ranked_at self.now entries.now parts.now c now d) result }
         ensures rank { IsRank (ranked_at self.now entries.now parts.now c now d) }
     {
         // as in height_now
         let _count = self.cpus.len();
-        let height = self.height_now(parts, posts, classes, d);
-        if now < dues.at(d) { height } else { PAST_ALL }
+        let past = past_if(dues.at(d) <= now);
+        self.height_now(parts, posts, classes, d) + past
     }
 
     /// Of the other processors that aren't due yet the one of least rank, and of equal ranks the last; where there is none, the
@@ -162,6 +163,15 @@ impl Machine {
             self.cpus[d.index()].flag = Some(now);
         }
     }
+}
+
+/// How much is added to a height where this holds, so that it is past all.
+#[inline(always)]
+fn past_if(holds: bool) -> u16
+    ensures { result ≡ (if holds then 1000 else 0) }
+{
+    // a product, since a branch here would be foretold wrongly often
+    u16::from(holds) * PAST_ALL
 }
 
 /// Where threads of this class and priority stand: the class counts first.

@@ -29,6 +29,7 @@ impl Machine {
     }
 
     /// What each processor runs is kept as it stands, whatever was.
+    #[inline(never)]
     pub fn post_all(&self, posts: &mut Posts)
         ensures { ArePosts self.now posts.new }
     {

@@ -44,6 +44,7 @@ impl Machine {
     }
 
     /// The same of each thread.
+    #[inline(never)]
     fn time_all(&self, timer: &mut Timer)
         requires count { length timer.old ≡ length self.now.threads }
         ensures { timer.new ≡ sleepers_of self.now }

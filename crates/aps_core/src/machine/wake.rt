@@ -115,6 +115,7 @@ fn take_due(timer: &mut Timer, now: Nanos, woken: &mut Woken)
 
 impl Machine {
     /// The sleepers whose moment has come go on. One whose next operation is a sleep is in the timer again.
+    #[inline(never)]
     fn wake_all(&mut self, scenario: &Scenario, now: Nanos, timer: &mut Timer, woken: &mut Woken)
         requires now { now ≤ 10000000000000 }
         requires room { HasRoomToWake last_place stamps_before self.old }
