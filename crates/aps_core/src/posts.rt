@@ -1,7 +1,7 @@
-//! What each processor runs, as far as its rank goes by it, and how high it stands, kept from step to step.
-ghost use Rattle.std.specs.Prelude.{◌≡◌, ◌≢◌, ℕ, ◌+◌, ◌<◌, ◌≤◌, Option};
+//! What each processor runs, as far as its rank goes by it, and the key by which it is looked at, kept from step to step.
+ghost use Rattle.std.specs.Prelude.{◌≡◌, ◌≢◌, ℕ, ◌+◌, ◌<◌, ◌≤◌, length, Option};
 ghost use Rattle.aps_model.specs.declared.state.Facts.{Facts as FactsOf};
-ghost use Rattle.aps_core.specs.Posts.{AreHigh, IsHigh, IsPost, IsPostOf, post_at};
+ghost use Rattle.aps_core.specs.Posts.{AreHigh, AreSmall, IsHigh, IsPost, IsPostOf, post_at};
 
 use crate::classes::{Classes, group_of};
 use aps_model::{CpuId, Facts};
@@ -14,13 +14,14 @@ const CPUS: usize = 16;
 const CLASS: u16 = 256;
 
 /// A processor's thread: its group, where it stands if that is of class 0, and how much higher if it is of class 1. An idle
-/// processor stands at 0 in any case. Beside that, where it stands by the classes at hand.
+/// processor stands at 0 in any case. Beside that its key by the classes at hand, which is the lesser the lower it stands, and
+/// of equal ones the later it comes.
 #[derive(Clone, Copy, Debug, PartialEq, Eq)]
 pub struct Post {
     group: u16,
     base: u16,
     more: u16,
-    pub height: u16,
+    pub key: u16,
 }
 
 impl Post {
@@ -29,36 +30,39 @@ impl Post {
         group: 0,
         base: 0,
         more: 0,
-        height: 0,
+        key: 0,
     };
 
-    /// That of a processor that runs a thread with these values.
-    fn of(facts: &Facts, classes: Classes) -> Post
+    /// That of the processor of this number, which runs a thread with these values.
+    fn of(facts: &Facts, classes: Classes, d: usize) -> Post
+        requires { d < 16 }
         ensures is { IsPostOf facts.now result }
-        ensures high { IsHigh classes result }
+        ensures high { IsHigh classes d result }
     {
         let post = Post {
             group: group_of(facts.partition, facts.critical) as u16,
             base: base_of(facts.priority),
             more: CLASS,
-            height: 0,
+            key: 0,
         };
-        post.by(classes)
+        post.by(classes, d)
     }
 
-    /// The same, standing by these classes.
+    /// The same, with its key by these classes, for the processor of this number.
     #[inline(always)]
-    fn by(self, classes: Classes) -> Post
+    fn by(self, classes: Classes, d: usize) -> Post
+        requires d { d < 16 }
         requires group { self.group < 64 }
         requires base { self.base ≤ 256 }
         requires more { self.more ≤ 256 }
-        ensures high { IsHigh classes result }
+        ensures high { IsHigh classes d result }
         ensures same { (o : Option FactsOf) → IsPost o self → IsPost o result }
     {
         // a product, since a branch here would be foretold wrongly often
         let first = u16::from(classes.first.has(usize::from(self.group)));
+        let height = self.base + first * self.more;
         Post {
-            height: self.base + first * self.more,
+            key: height * 16 + (15 - d as u16),
             ..self
         }
     }
@@ -89,9 +93,10 @@ impl Model for Posts {
 impl Posts {
     /// Nobody runs.
     pub fn new() -> Self {
+        let classes = Classes::none();
         Posts {
-            row: [Post::IDLE; CPUS],
-            classes: Classes::none(),
+            row: stand([Post::IDLE; CPUS], classes),
+            classes,
         }
     }
 
@@ -111,8 +116,8 @@ impl Posts {
         ensures others { (e : ℕ) → e ≢ d → post_at self.new e ≡ post_at self.old e }
     {
         self.row[d.index()] = match facts {
-            None => Post::IDLE,
-            Some(facts) => Post::of(&facts, self.classes),
+            None => Post::IDLE.by(self.classes, d.index()),
+            Some(facts) => Post::of(&facts, self.classes, d.index()),
         };
     }
 
@@ -133,13 +138,23 @@ impl Posts {
         ensures high { AreHigh classes self.new }
         ensures same { (d : ℕ) (o : Option FactsOf) → IsPost o (post_at self.old d) → IsPost o (post_at self.new d) }
     {
-        let mut row = self.row;
-        for d in 0..CPUS {
-            row[d] = row[d].by(classes);
-        }
-        self.row = row;
+        self.row = stand(self.row, classes);
         self.classes = classes;
     }
+}
+
+/// What each processor runs, with the keys by these classes.
+fn stand(posts: [Post; CPUS], classes: Classes) -> [Post; CPUS]
+    requires { AreSmall posts }
+    ensures count { length result ≡ 16 }
+    ensures high { AreHigh classes result }
+    ensures same { (d : ℕ) (o : Option FactsOf) → IsPost o (post_at posts d) → IsPost o (post_at result d) }
+{
+    let mut row = posts;
+    for d in 0..CPUS {
+        row[d] = row[d].by(classes, d);
+    }
+    row
 }
 
 /// Where a thread of class 0 and this priority stands.

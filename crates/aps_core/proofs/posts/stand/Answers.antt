@@ -3,7 +3,7 @@ use Rattle.std.proofs.lemmas.Bool.{cases_eq}
 use Rattle.std.proofs.lemmas.List.{get_or-set_other, get_or-set_same}
 use Rattle.aps_core.specs.declared.posts.Post.{Post}
 use Rattle.aps_core.specs.Posts.{IsHigh, IsPost, no_post, post_at}
-use Rattle.aps_core.proofs.posts.Posts.stand_anew.Goals as goal
+use Rattle.aps_core.proofs.posts.stand.Goals as goal
 
 pub loop-d-preserved : goal.loop-d-preserved
 loop-d-preserved c =
@@ -14,9 +14,9 @@ loop-d-preserved c =
     record {
       count = length-set l.row l.d c.by.result ∙ l.invariant.count;
       high = λ e below. elim (cases_eq e l.d) [
-        | inl same ↦ subst (IsHigh c.args.classes) (sym (ap (post_at row) same ∙ here)) c.by.ensures.high
+        | inl same ↦ subst (λ k. IsHigh c.args.classes k (post_at row k)) (sym same) (subst (IsHigh c.args.classes l.d) (sym here) c.by.ensures.high)
         | inr other ↦
-            subst (IsHigh c.args.classes) (sym (get_or-set_other l.row l.d e c.by.result no_post other))
+            subst (IsHigh c.args.classes e) (sym (get_or-set_other l.row l.d e c.by.result no_post other))
             (l.invariant.high e (omega (arith, below, other)))
       ];
       rest = λ e past.
