@@ -144,6 +144,7 @@ impl Posts {
 }
 
 /// What each processor runs, with the keys by these classes.
+#[inline(always)]
 fn stand(posts: [Post; CPUS], classes: Classes) -> [Post; CPUS]
     requires { AreSmall posts }
     ensures count { length result ≡ 16 }

@@ -1,7 +1,6 @@
 ghost use Rattle.std.specs.Prelude.{◌≡◌, ◌<◌, ◌≤◌, if◌then◌else◌, length, slice_index, IfSome, Some};
 ghost use Rattle.aps_model.specs.Flag.{flag_for, with_flag};
 ghost use Rattle.aps_model.specs.Budget.{part_at};
-ghost use Rattle.aps_model.specs.SchedulerState.{cpu_at};
 ghost use Rattle.aps_model.specs.Pick.{contenders, greatest, merit_among};
 ghost use Rattle.aps_ready.specs.Gates.{AreGates, is_first};
 ghost use Rattle.aps_core.specs.Classes.{AreClasses};
@@ -17,9 +16,10 @@ use crate::posts::Posts;
 use aps_model::{Contender, CpuId, CpuNow, Entry, Facts, Free, Nanos, PartFacts};
 use aps_ready::{Gates, Ready};
 
-/// The most processors, and half of them.
+/// The most processors.
 const CPUS: usize = 16;
 
+/// Half of them.
 const HALF: usize = 8;
 
 /// Past the keys of all processors.

@@ -1,9 +1,9 @@
-use Rattle.std.proofs.Common.{◌≡◌, ◌≤◌, ◌<◌, ◌+◌, ◌*◌, ◌-◌, ◌∙◌, ap, arith, cond, nat_le, ◌||◌, length, slice_index}
+use Rattle.std.proofs.Common.{◌+◌, ◌*◌, ◌-◌, ◌∙◌, ap, arith, cond, nat_le, ◌||◌, length, slice_index}
 use Rattle.aps_model.specs.SchedulerState.{SchedulerState, cpu_at}
 use Rattle.aps_core.specs.declared.posts.Post.{Post}
 use Rattle.aps_core.specs.Posts.{post_at}
 use Rattle.aps_core.proofs.FlagAfter.{key_of, le_false, le_true, rank_of_look}
-use Rattle.aps_core.proofs.Heights.{key_few, post_height, post_rank}
+use Rattle.aps_core.proofs.Heights.{post_height, post_rank}
 use Rattle.aps_core.proofs.machine.Machine.key_at.Goals as goal
 
 pub returns-clause-key : goal.returns-clause-key
