@@ -16,19 +16,19 @@ pub fn by_recount(history: &History, audit: &Audit, from: u64, end: u64) -> Audi
     let allowed = allowed_of(history);
     let mut audit = *audit;
     for a in from..end {
-        audit = with_window(history, &allowed, &audit, a);
+        with_window(history, &allowed, &mut audit, a);
     }
     audit
 }
 
-/// The audit so far, with the window from tick `a` on.
-fn with_window(history: &History, allowed: &Allowed, audit: &Audit, a: u64) -> Audit
+/// The audit goes on with the window from tick `a` on.
+fn with_window(history: &History, allowed: &Allowed, audit: &mut Audit, a: u64)
     requires allowed { AreAllowed history.now allowed.now }
     requires a { a ≤ 100000000 }
-    ensures { result ≡ with_window history.now audit.now a }
+    ensures { audit.new ≡ with_window history.now audit.old a }
 {
     let shape = history.shape();
     let b = a + u64::from(shape.window);
     let usage = Usage::of(history.entries(), shape.tick, a, b);
-    with_partitions(history, allowed, &usage, audit, a)
+    with_partitions(history, allowed, &usage, audit, a);
 }

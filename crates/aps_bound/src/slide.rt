@@ -22,7 +22,7 @@ pub fn by_slide(history: &History, audit: &Audit, from: u64, end: u64) -> Audit
     let allowed = allowed_of(history);
     let mut audit = *audit;
     for a in from..end {
-        audit = with_partitions(history, &allowed, &window.usage, &audit, a);
+        with_partitions(history, &allowed, &window.usage, &mut audit, a);
         window.slide(entries, shape.tick);
     }
     audit

@@ -1,5 +1,6 @@
 //! The greatest amounts over windows and partitions.
-ghost use Rattle.std.specs.Prelude.{◌≡◌, ◌+◌, ◌≤◌, ◌<◌, ◌*◌, ◌/◌, length, Some};
+ghost use Rattle.std.specs.Prelude.{◌≡◌, ◌+◌, ◌≤◌, ◌<◌, ◌*◌, ◌/◌, length, if◌then◌else◌, Some};
+ghost use Rattle.aps_model.specs.declared.audit.Worst.{Worst as WorstOf};
 ghost use Rattle.aps_model.specs.Audit.{worse};
 ghost use Rattle.aps_model.specs.Sums.{IsUsage};
 ghost use Rattle.aps_bound.specs.Allowed.{AreAllowed};
@@ -8,40 +9,39 @@ ghost use Rattle.aps_bound.specs.Worst.{with_partition, with_window};
 use crate::allowed::{Allowed, allowed_at};
 use aps_model::{Audit, History, Nanos, PartitionId, Usage, Worst};
 
-/// The audit so far, with all partitions' usage of the window from tick `a` on.
+/// The audit goes on with all partitions' usage of the window from tick `a` on.
 pub fn with_partitions(
     history: &History,
     allowed: &Allowed,
     usage: &Usage,
-    audit: &Audit,
+    audit: &mut Audit,
     a: u64,
-) -> Audit
+)
     requires allowed { AreAllowed history.now allowed.now }
     requires usage { IsUsage history.now.shape.tick a (a + history.now.shape.window) history.now.entries usage.now }
     requires a { a ≤ 100000000 }
-    ensures { result ≡ with_window history.now audit.now a }
+    ensures { audit.new ≡ with_window history.now audit.old a }
 {
-    let mut audit = *audit;
     for p in 0..history.rows().len() {
-        audit = with_partition(history, allowed, usage, &audit, a, p);
+        with_partition(history, allowed, usage, audit, a, p);
     }
-    audit
 }
 
-/// The audit so far, with one partition's usage of the window from tick `a` on.
+/// The audit goes on with one partition's usage of the window from tick `a` on.
+#[inline(always)]
 fn with_partition(
     history: &History,
     allowed: &Allowed,
     usage: &Usage,
-    audit: &Audit,
+    audit: &mut Audit,
     a: u64,
     p: usize,
-) -> Audit
+)
     requires p { p < length history.now.rows }
     requires allowed { AreAllowed history.now allowed.now }
     requires usage { IsUsage history.now.shape.tick a (a + history.now.shape.window) history.now.entries usage.now }
     requires a { a ≤ 100000000 }
-    ensures { result ≡ with_partition history.now audit.now a p }
+    ensures { audit.new ≡ with_partition history.now audit.old a p }
 {
     let row = &history.rows()[p];
     let allowed = allowed_at(allowed, history, p);
@@ -51,24 +51,33 @@ fn with_partition(
     let critical = usage.critical[p].saturating_sub(row.critical);
     let partition = PartitionId::at(p);
     let window = a as u32;
-    Audit {
-        loaded_from: audit.loaded_from,
-        worst_over: worse(&audit.worst_over, over, partition, window),
-        worst_short: worse(&audit.worst_short, short, partition, window),
-        critical_worst: worse(&audit.critical_worst, critical, partition, window),
-    }
+    raise(&mut audit.worst_over, over, partition, window);
+    raise(&mut audit.worst_short, short, partition, window);
+    raise(&mut audit.critical_worst, critical, partition, window);
 }
 
-/// The worst so far, unless this amount is greater.
-fn worse(best: &Option<Worst>, amount: Nanos, partition: PartitionId, window: u32) -> Option<Worst>
-    ensures { result ≡ worse best.now (record { amount = amount; partition = partition; window = window }) }
+/// The worst stays unless this amount is greater.
+#[inline(always)]
+fn raise(worst: &mut Option<Worst>, amount: Nanos, partition: PartitionId, window: u32)
+    ensures { worst.new ≡ worse worst.old (record { amount = amount; partition = partition; window = window }) }
 {
-    match best {
-        Some(best) if best.amount >= amount => Some(*best),
-        _ => Some(Worst {
-            amount,
-            partition,
-            window,
-        }),
+    if !is_worse(worst, amount) {
+        return;
+    }
+    *worst = Some(Worst {
+        amount,
+        partition,
+        window,
+    });
+}
+
+/// Whether this amount is greater than the worst so far, if there is one.
+#[inline(always)]
+fn is_worse(worst: &Option<Worst>, amount: Nanos) -> bool
+    ensures { (one : WorstOf) → one.amount ≡ amount → worse worst.now one ≡ (if result then Some one else worst.now) }
+{
+    match worst {
+        Some(worst) => worst.amount < amount,
+        None => true,
     }
 }

@@ -1,8 +1,9 @@
 -- Who is flagged for the greatest candidate left: the lowest of all processors, where that stands below the candidate; and nobody where it doesn't stand below
 -- the pick itself, than which the candidate is no greater.
-use Rattle.std.proofs.Common.{◌≡◌, ℕ, zero, suc, ◌+◌, ◌<◌, ◌≤◌, List, [], ◌∷◌, set, refl, sym, ◌∙◌, ap, subst, Bool, true, false, cond, not, ◌&&◌, nat_eq, nat_le, nat_lt, Option, Some, None, arith}
+use Rattle.std.proofs.Common.{◌≡◌, ◌≢◌, ℕ, zero, suc, ◌+◌, ◌-◌, ◌*◌, ◌/◌, ◌%◌, min, ◌<◌, ◌≤◌, List, [], ◌∷◌, set, refl, sym, ◌∙◌, ap, subst, Bool, true, false, cond, not, ◌&&◌, nat_eq, nat_le, nat_lt, Option, Some, None, length, arith, inl, inr}
 use Rattle.std.specs.List.{AllByRecursion, filter, fold, range_with_len}
 use Rattle.std.specs.Option.{option_map}
+use Rattle.std.proofs.lemmas.Bool.{cases_eq, cases_lt}
 use Rattle.std.proofs.lemmas.Bool.Decides.{nat_tests}
 use Rattle.std.proofs.lemmas.List.Elements.{All-contains, All-from_recursion}
 use Rattle.aps_model.specs.declared.entry.Entry.{Entry}
@@ -22,13 +23,14 @@ use Rattle.aps_model.specs.Merit.{is_below, is_candidate, is_greater}
 use Rattle.aps_model.specs.Pick.{candidates, contenders, greatest, merit_among}
 use Rattle.aps_model.specs.SchedulerState.{SchedulerState, cpu_at}
 use Rattle.aps_model.specs.Step.{chosen}
+use Rattle.aps_model.proofs.Ranges.{fold_more}
 use Rattle.aps_model.proofs.GreatestLaws.{IsUnbeaten, beats, greatest-is, greatest-unbeaten}
 use Rattle.aps_laws.proofs.PickSays.{chosen_shape}
 use Rattle.aps_ready.specs.Ready.{members, without}
 use Rattle.aps_ready.specs.declared.ahead.Ahead.{Ahead}
 use Rattle.aps_ready.specs.Ahead.{IsAhead, IsAheadOf}
 use Rattle.aps_ready.specs.Gates.{is_first}
-use Rattle.aps_core.specs.Lowest.{IsNoLess, IsRank, IsTold, height, height_or, limit, lowest, rank_now, ranked_at}
+use Rattle.aps_core.specs.Lowest.{IsNoLess, IsRank, IsTold, IsKey, IsLeast, IsLeastOf, height, limit, lowest, rank_now, ranked_at}
 use Rattle.aps_core.specs.Seats.{seats_of}
 use Rattle.aps_core.proofs.Seats.{missing_in}
 
@@ -40,10 +42,10 @@ lt_true a b less = grind (arith, nat_tests)
 lt_false : (a b : ℕ) → b ≤ a → nat_lt a b ≡ false
 lt_false a b most = grind (arith, nat_tests)
 
-le_true : (a b : ℕ) → a ≤ b → nat_le a b ≡ true
+pub le_true : (a b : ℕ) → a ≤ b → nat_le a b ≡ true
 le_true a b most = grind (arith, nat_tests)
 
-le_false : (a b : ℕ) → b < a → nat_le a b ≡ false
+pub le_false : (a b : ℕ) → b < a → nat_le a b ≡ false
 le_false a b less = grind (arith, nat_tests)
 
 -- ---- heights
@@ -81,29 +83,102 @@ height_higher (Running (suc zero) priority) (Running (suc zero) other) is_a is_b
 
 -- ---- the scan
 
--- one more processor stands no higher than the lowest so far
-pub told_lower : (d : ℕ) (o : Option Rank) (best : Option (ℕ × Rank)) (at least number : ℕ) → IsTold best at least → IsRank o → number ≡ height_or o → number ≤ least
-    → IsTold (lower_ranked d o best) d number
-told_lower d None None at least number told rank is low = is
-told_lower d None (Some b) at least number told rank is low =
+-- the key of a processor, if it is another one that isn't due yet
+pub key_of : (s : SchedulerState) (h : List Entry) (parts : List PartFacts) (c now d next own past : ℕ) → (d ≢ c → next ≡ due s h d) → (d ≡ c → next ≤ now)
+    → own ≡ height (rank_now s parts (cpu_at s d).running) * 16 + (15 - d) → (next ≤ now → past ≡ 16000) → (now < next → past ≡ 0) → IsKey (ranked_at s h parts c now d) d (own + past)
+key_of s h parts c now d next own past others at is high low = elim (cases_eq d c) [
+  | inl same ↦ subst (λ t. IsKey (cond (not t && nat_lt now (due s h d)) (Some rank) None) d (own + past)) (sym (eq_true d c same)) (is_past (at same))
+  | inr ne ↦ subst (λ t. IsKey (cond (not t && nat_lt now (due s h d)) (Some rank) None) d (own + past)) (sym (eq_false d c ne))
+      (elim (cases_lt now next) [
+        | inl less ↦ subst (λ t. IsKey (cond t (Some rank) None) d (own + past)) (sym (lt_true now (due s h d) (subst (λ n. now < n) (others ne) less))) (is_later less)
+        | inr most ↦ subst (λ t. IsKey (cond t (Some rank) None) d (own + past)) (sym (lt_false now (due s h d) (subst (λ n. n ≤ now) (others ne) most))) (is_past most)
+      ])
+]
+  where
+    rank : Rank
+    rank = rank_now s parts (cpu_at s d).running
+
+    eq_true : (a b : ℕ) → a ≡ b → nat_eq a b ≡ true
+    eq_true a b same = grind (arith, nat_tests)
+
+    eq_false : (a b : ℕ) → a ≢ b → nat_eq a b ≡ false
+    eq_false a b other = grind (arith, nat_tests)
+
+    is_past : next ≤ now → 16000 ≤ own + past
+    is_past most = let there = high most in omega (arith, there)
+
+    is_later : now < next → own + past ≡ height rank * 16 + (15 - d)
+    is_later less = let there = low less in omega (arith, there, is)
+
+pub rank_of_look : (s : SchedulerState) (h : List Entry) (parts : List PartFacts) (c now d : ℕ) → IsRank (Some (rank_now s parts (cpu_at s d).running)) → IsRank (ranked_at s h parts c now d)
+rank_of_look s h parts c now d is = by_test (not (nat_eq d c) && nat_lt now (due s h d))
+  where
+    by_test : (t : Bool) → IsRank (cond t (Some (rank_now s parts (cpu_at s d).running)) None)
+    by_test true = is
+    by_test false = tt
+
+-- with one processor more
+pub least_more : (d : ℕ) (o : Option Rank) (best : Option (ℕ × Rank)) (least key next : ℕ) → d < 16 → IsLeast best d least → IsRank o → IsKey o d key → next ≡ min least key
+    → IsLeast (lower_ranked d o best) (d + 1) next
+least_more d None None least key next inside told rank is more = omega (arith, told, is, more)
+least_more d None (Some b) least key next inside told rank is more =
+    let small = height_small b.1 told.2 in
+    let below = told.0 in
+    let there = told.1 in
+    (omega (arith, below), omega (arith, small, there, is, more), told.2)
+least_more d (Some r) None least key next inside told rank is more =
+    let small = height_small r rank in
+    (omega arith, omega (arith, small, told, is, more), rank)
+least_more d (Some r) (Some b) least key next inside told rank is more =
+    let below = told.0 in
+    let there = told.1 in
+    elim (cases_lt (height b.1) (height r)) [
+      | inl less ↦ subst (λ t. IsLeast (cond t (Some (d, r)) (Some b)) (d + 1) next) (sym (height_higher r b.1 rank told.2 less)) (omega (arith, below), omega (arith, inside, below, there, is, more, less), told.2)
+      | inr most ↦ subst (λ t. IsLeast (cond t (Some (d, r)) (Some b)) (d + 1) next) (sym (height_lower r b.1 rank told.2 most)) (omega arith, omega (arith, inside, below, there, is, more, most), rank)
+    ]
+
+pub least_small : (best : Option (ℕ × Rank)) (count least : ℕ) → IsLeast best count least → least ≤ 16000
+least_small None count least told = omega (arith, told)
+least_small (Some b) count least told =
     let small = height_small b.1 told.2 in
     let there = told.1 in
-    absurd (omega (arith, small, there, is, low))
-told_lower d (Some r) None at least number told rank is low = (refl, is, rank)
-told_lower d (Some r) (Some b) at least number told rank is low =
-    let there = told.1 in
-    subst (λ t. IsTold (cond t (Some (d, r)) (Some b)) d number) (sym (height_lower r b.1 rank told.2 (omega (arith, there, is, low)))) (refl, is, rank)
+    omega (arith, small, there)
 
--- or higher
-pub told_stays : (d : ℕ) (o : Option Rank) (best : Option (ℕ × Rank)) (at least number : ℕ) → IsTold best at least → IsRank o → number ≡ height_or o → least < number
-    → IsTold (lower_ranked d o best) at least
-told_stays d None best at least number told rank is high = told
-told_stays d (Some r) None at least number told rank is high =
-    let small = height_small r rank in
-    absurd (omega (arith, small, told, is, high))
-told_stays d (Some r) (Some b) at least number told rank is high =
+-- the same, where there may be no such processor
+pub least_of_more : (s : SchedulerState) (h : List Entry) (parts : List PartFacts) (c now d least key next : ℕ) → d < 16 → IsLeastOf s h parts c now d least
+    → (d < length s.cpus → IsRank (ranked_at s h parts c now d)) → (d < length s.cpus → IsKey (ranked_at s h parts c now d) d key) → (length s.cpus ≤ d → 16000 ≤ key)
+    → next ≡ min least key → IsLeastOf s h parts c now (d + 1) next
+least_of_more s h parts c now d least key next below told rank is past more = elim (cases_lt d (length s.cpus)) [
+  | inl inside ↦
+      let before : min d (length s.cpus) ≡ d = omega (arith, inside) in
+      let after : min (d + 1) (length s.cpus) ≡ d + 1 = omega (arith, inside) in
+      let one : lowest s h parts c now (d + 1) ≡ lower_ranked d (ranked_at s h parts c now d) (lowest s h parts c now d) =
+      fold_more (λ (best : Option (ℕ × Rank)) k. lower_ranked k (ranked_at s h parts c now k) best) _ 0 d d (omega arith) in
+      subst (λ k. IsLeast (lowest s h parts c now k) k next) (sym after)
+      (subst (λ o. IsLeast o (d + 1) next) (sym one)
+      (least_more d (ranked_at s h parts c now d) (lowest s h parts c now d) least key next below (subst (λ k. IsLeast (lowest s h parts c now k) k least) before told) (rank inside) (is inside) more))
+  | inr outside ↦
+      let same : min (d + 1) (length s.cpus) ≡ min d (length s.cpus) = omega (arith, outside) in
+      let small = least_small (lowest s h parts c now (min d (length s.cpus))) (min d (length s.cpus)) least told in
+      let great = past outside in
+      let stays : next ≡ least = omega (arith, more, small, great) in
+      subst (λ k. IsLeast (lowest s h parts c now k) k next) (sym same) (subst (IsLeast (lowest s h parts c now (min d (length s.cpus))) (min d (length s.cpus))) (sym stays) told)
+]
+
+-- the processor and its height are read from its key
+pub least_told : (best : Option (ℕ × Rank)) (count least : ℕ) → count ≤ 16 → IsLeast best count least → IsTold best (15 - least % 16) (least / 16)
+least_told None count least few told = omega (arith, told)
+least_told (Some b) count least few told =
+    let below = told.0 in
     let there = told.1 in
-    subst (λ t. IsTold (cond t (Some (d, r)) (Some b)) at least) (sym (height_higher r b.1 rank told.2 (omega (arith, there, is, high)))) told
+    (omega (arith, few, below, there), omega (arith, few, below, there), told.2)
+
+pub least_within : (best : Option (ℕ × Rank)) (count least : ℕ) → count ≤ 16 → IsLeast best count least → least / 16 < 1000 → 15 - least % 16 < count
+least_within None count least few told low = absurd (omega (arith, told, low))
+least_within (Some b) count least few told low =
+    let below = told.0 in
+    let there = told.1 in
+    omega (arith, few, below, there)
 
 -- ---- who is below a candidate
 
@@ -217,6 +292,13 @@ pub short_of : (free : Free) (first : Bool) (priority : ℕ) → priority ≤ 25
 short_of Priority first priority few = few
 short_of Ratio true priority few = few
 short_of Ratio false priority few = tt
+
+-- a limit is never past all
+pub limit_few : (free : Free) (first : Bool) (priority : ℕ) → priority ≤ 255 → limit free first priority ≤ 512
+limit_few Priority true priority few = omega (arith, few)
+limit_few Priority false priority few = omega (arith, few)
+limit_few Ratio true priority few = omega (arith, few)
+limit_few Ratio false priority few = omega arith
 
 -- who is below a candidate stands below its limit
 below_limit : (free : Free) (r : Rank) (left : Merit) (first : Bool) → IsRank (Some r) → IsShort free first left.priority → left.class ≡ cond first 1 0

@@ -1,5 +1,5 @@
 -- How high a processor stands, by what is kept of it.
-use Rattle.std.proofs.Common.{◌≡◌, ◌+◌, ◌<◌, ◌≤◌, nat_eq, nat_lt, List, ◌∙◌, ap, cond, Bool, true, false, Option, Some, None, arith}
+use Rattle.std.proofs.Common.{◌≡◌, ℕ, ◌+◌, ◌≤◌, nat_eq, nat_lt, List, ◌∙◌, ap, cond, Bool, true, false, Option, Some, None, arith}
 use Rattle.aps_model.specs.declared.merit.PartFacts.{PartFacts}
 use Rattle.aps_model.specs.declared.state.Facts.{Facts}
 use Rattle.aps_model.specs.declared.state.Pick.{Pick}
@@ -12,13 +12,7 @@ use Rattle.aps_core.specs.declared.classes.Classes.{Classes}
 use Rattle.aps_core.specs.declared.posts.Post.{Post}
 use Rattle.aps_core.specs.Classes.{AreClasses}
 use Rattle.aps_core.specs.Lowest.{IsRank, height, height_of, rank_now}
-use Rattle.aps_core.specs.Posts.{IsPost, facts_now}
-
--- what is kept has its ranges
-pub record IsSmallPost (post : Post) : Type 0 where
-  pub group : post.group < 64
-  pub base : post.base ≤ 256
-  pub more : post.more ≤ 256
+use Rattle.aps_core.specs.Posts.{IsHigh, IsPost, IsSmallPost, facts_now}
 
 pub small_post : (o : Option Facts) (post : Post) → IsPost o post → IsSmallPost post
 small_post None post is = record {
@@ -31,6 +25,17 @@ small_post (Some f) post is = record {
   base = let same = is.base in let few = is.few in omega (arith, same, few);
   more = let same = is.more in omega (arith, same);
 }
+
+-- and no key is greater than this
+pub key_few : (classes : Classes) (d : ℕ) (post : Post) → IsHigh classes d post → post.key ≤ 8207
+key_few classes d post is =
+    let same = is.same in
+    let few = by_test (has classes.first post.group) in
+    omega (arith, same, few)
+  where
+    by_test : (t : Bool) → cond t (post.base + post.more) post.base ≤ 512
+    by_test true = let base = is.small.base in let more = is.small.more in omega (arith, base, more)
+    by_test false = let base = is.small.base in omega (arith, base)
 
 pub post_height : (s : SchedulerState) (parts : List PartFacts) (classes : Classes) (o : Option Pick) (post : Post) → AreClasses parts classes → IsPost (facts_now s o) post
     → cond (has classes.first post.group) (post.base + post.more) post.base ≡ height (rank_now s parts o)

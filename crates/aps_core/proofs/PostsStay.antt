@@ -84,6 +84,10 @@ posts_picked s s1 free parts c best facts seats posts after same greatest_is sit
     let found : best ≡ greatest free parts (contenders s) = greatest_is ∙ ap (greatest free parts) (missing_in s seats sit) in
     posts_chosen s s1 parts c best facts posts after chose inside are (λ b is. (greatest_ready s free parts b (sym found ∙ is)).same) others here rest
 
+-- where all stand by other classes
+pub posts_raised : (s : SchedulerState) (posts after : List Post) → ((d : ℕ) (o : Option Facts) → IsPost o (post_at posts d) → IsPost o (post_at after d)) → ArePosts s posts → ArePosts s after
+posts_raised s posts after same are = λ d inside. same d (facts_now s (cpu_at s d).running) (are d inside)
+
 -- ---- after the flag
 
 flagged_facts : (s : SchedulerState) (now : ℕ) (o : Option ℕ) (running : Option Pick) → facts_now (with_flag s now o) running ≡ facts_now s running

@@ -98,10 +98,6 @@ pub where_it_runs : (running kept : Option Pick) (R : Type 0) → running ≡ ke
 where_it_runs None kept R same holds some = absurd cc
 where_it_runs (Some p) kept R same holds some = holds p (sym same)
 
-pub none_is : (o : Option ℕ) → is_some o ≡ false → o ≡ None
-none_is None e = refl
-none_is (Some p) e = absurd cc
-
 -- what they leave is the state after the bill
 tested_is : (scenario : Scenario) (s : SchedulerState) (h : List Entry) (c now : ℕ) (running : Option Pick) (e : Entry) (t : SchedulerState) (reboot : Option ℕ)
     → IsTested scenario s h c now running e t reboot → t ≡ after_bill scenario s h c

@@ -1,5 +1,5 @@
 -- Who may be flagged.
-use Rattle.std.specs.Prelude.{◌≡◌, ℕ, ◌+◌, ◌≤◌, ◌&&◌, not, nat_eq, nat_lt, ⊤, List, Bool, false, if◌then◌else◌, Option, Some, None}
+use Rattle.std.specs.Prelude.{◌≡◌, ℕ, ◌+◌, ◌-◌, ◌*◌, ◌<◌, ◌≤◌, ◌&&◌, not, nat_eq, nat_lt, min, length, ⊤, List, Bool, false, if◌then◌else◌, Option, Some, None}
 use Rattle.std.specs.List.{fold, range_with_len}
 use Rattle.aps_model.specs.declared.entry.Entry.{Entry}
 use Rattle.aps_model.specs.declared.merit.Contender.{Contender}
@@ -38,10 +38,10 @@ abbrev pub height : Rank → ℕ
 height Idle = 0
 height (Running class priority) = height_of (nat_eq class 1) priority
 
--- the same, and past all ranks where there is none
-abbrev pub height_or : Option Rank → ℕ
-height_or None = 1000
-height_or (Some rank) = height rank
+-- the processor d of this rank, if it has one, has this key: the lesser the lower it stands, and of equal ones the later it comes
+abbrev pub IsKey : Option Rank → ℕ → ℕ → Type 0
+IsKey None d key = 16000 ≤ key
+IsKey (Some rank) d key = key ≡ height rank * 16 + (15 - d)
 
 -- the class and the priority of a rank have their ranges
 abbrev pub IsRank : Option Rank → Type 0
@@ -53,6 +53,15 @@ IsRank (Some (Running class priority)) = (class ≤ 1) × (priority ≤ 255)
 abbrev pub IsTold : Option (ℕ × Rank) → ℕ → ℕ → Type 0
 IsTold None d least = least ≡ 1000
 IsTold (Some best) d least = (best.0 ≡ d) × (least ≡ height best.1) × IsRank (Some best.1)
+
+-- this is the least key of the first processors, among which this one, if there is one, is lowest
+abbrev pub IsLeast : Option (ℕ × Rank) → ℕ → ℕ → Type 0
+IsLeast None count least = least ≡ 16000
+IsLeast (Some best) count least = (best.0 < count) × (least ≡ height best.1 * 16 + (15 - best.0)) × IsRank (Some best.1)
+
+-- the same, among as many of the first as there are
+abbrev pub IsLeastOf : SchedulerState → List Entry → List PartFacts → ℕ → ℕ → ℕ → ℕ → Type 0
+IsLeastOf s h parts c now count least = IsLeast (lowest s h parts c now (min count (length s.cpus))) (min count (length s.cpus)) least
 
 -- a processor is flagged for a candidate of this class and priority where it stands lower than this; under the policy by ratio
 -- only an idle one is for a candidate of class 0

@@ -1,9 +1,11 @@
 -- What each processor runs, as far as its rank goes by it, kept from step to step.
-use Rattle.std.specs.Prelude.{◌≡◌, ◌≢◌, ℕ, ◌+◌, ◌<◌, ◌≤◌, ◌%◌, nat_lt, List, length, slice_index_or, Option, Some, None}
+use Rattle.std.specs.Prelude.{◌≡◌, ◌≢◌, ℕ, ◌+◌, ◌-◌, ◌*◌, ◌<◌, ◌≤◌, ◌%◌, nat_lt, if◌then◌else◌, List, length, slice_index_or, Option, Some, None}
 use Rattle.aps_model.specs.declared.state.Facts.{Facts}
 use Rattle.aps_model.specs.declared.state.Pick.{Pick}
 use Rattle.aps_model.specs.Inherit.{facts_of}
 use Rattle.aps_model.specs.SchedulerState.{SchedulerState, cpu_at}
+use Rattle.aps_levels.specs.Bits.{has}
+use Rattle.aps_core.specs.declared.classes.Classes.{Classes}
 use Rattle.aps_core.specs.declared.posts.Post.{Post}
 
 -- the values now of the thread that a processor runs, if it runs one
@@ -31,7 +33,7 @@ IsPost None post = IsIdlePost post
 IsPost (Some facts) post = IsPostOf facts post
 
 abbrev pub no_post : Post
-no_post = record { group = 0; base = 0; more = 0 }
+no_post = record { group = 0; base = 0; more = 0; key = 0 }
 
 abbrev pub post_at : List Post → ℕ → Post
 post_at posts d = slice_index_or posts d no_post
@@ -43,3 +45,26 @@ ArePosts s posts = (d : ℕ) → d < length s.cpus → IsPost (facts_now s (cpu_
 -- that of each but one
 abbrev pub AreOthersPosts : SchedulerState → ℕ → List Post → Type 0
 AreOthersPosts s c posts = (d : ℕ) → d < length s.cpus → d ≢ c → IsPost (facts_now s (cpu_at s d).running) (post_at posts d)
+
+-- what is kept has its ranges
+pub record IsSmallPost (post : Post) : Type 0 where
+  pub group : post.group < 64
+  pub base : post.base ≤ 256
+  pub more : post.more ≤ 256
+
+-- that of each processor has
+abbrev pub AreSmall : List Post → Type 0
+AreSmall posts = (d : ℕ) → d < 16 → IsSmallPost (post_at posts d)
+
+-- where the thread stands by these classes
+abbrev pub height_by : Classes → Post → ℕ
+height_by classes post = if has classes.first post.group then post.base + post.more else post.base
+
+-- what is kept of the processor d has its ranges, and its key goes by these classes
+pub record IsHigh (classes : Classes) (d : ℕ) (post : Post) : Type 0 where
+  pub small : IsSmallPost post
+  pub same : post.key ≡ height_by classes post * 16 + (15 - d)
+
+-- that of each processor
+abbrev pub AreHigh : Classes → List Post → Type 0
+AreHigh classes posts = (d : ℕ) → d < 16 → IsHigh classes d (post_at posts d)

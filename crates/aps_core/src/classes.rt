@@ -1,5 +1,5 @@
-//! Which threads are of class 1, kept beside the gates: these tell of ready threads, and a processor's look at the others is at
-//! those that run.
+//! Which threads are of class 1, kept beside the gates: these tell who of the ready threads are candidates, and how high a
+//! processor stands goes by the class of the thread that it runs.
 ghost use Rattle.std.specs.Prelude.{◌≡◌, ◌<◌, ◌%◌, ◌++◌, [], ◌∷◌, List, length, nat_lt, slice_set};
 ghost use Rattle.aps_model.specs.Budget.{part_at};
 ghost use Rattle.aps_model.specs.declared.merit.PartFacts.{PartFacts as PartFactsOf};

@@ -1,4 +1,4 @@
-ghost use Rattle.std.specs.Prelude.{◌≡◌, ◌-◌, ◌<◌, ◌≤◌, ◌/◌, ◌++◌, [], ◌∷◌, length, slice_index, All, IfSome, None, false};
+ghost use Rattle.std.specs.Prelude.{◌≡◌, ◌≢◌, ◌⊎◌, ◌-◌, ◌<◌, ◌≤◌, ◌/◌, ◌++◌, [], ◌∷◌, length, slice_index, is_some, All, IfSome, None, true, false};
 ghost use Rattle.std.specs.Option.{option_map};
 ghost use Rattle.aps_model.specs.After.{is_at_horizon};
 ghost use Rattle.aps_model.specs.Budget.{all_parts};
@@ -187,6 +187,7 @@ impl Machine {
         let picked = thread_of(&best);
         self.choose(parts, cpu, best);
         posts.set(cpu, facts_of(&best));
+        posts.go_by(classes);
         let flagged = self.flag_after(
             entries, dues, parts, posts, gates, classes, ready, cpu, now, &best,
         );
@@ -217,7 +218,20 @@ impl Machine {
         self.shape.horizon()
     }
 
+    /// Whether a step at this moment ends with its bill: by a reboot for the partition, or at the horizon.
+    #[inline(always)]
+    fn is_over(&self, reboot: &Option<PartitionId>, now: Nanos) -> bool
+        ensures over { result ≡ true → (is_some reboot.now ≡ true) ⊎ ((reboot.now ≡ None) × (now ≡ horizon self.now.shape)) }
+        ensures on { result ≡ false → (reboot.now ≡ None) × (now ≢ horizon self.now.shape) }
+    {
+        match reboot {
+            Some(_) => true,
+            None => now == self.horizon(),
+        }
+    }
+
     /// One step of the processor, at its due moment, by its parts.
+    #[inline(always)]
     pub fn step(
         &mut self,
         scenario: &Scenario,
@@ -267,21 +281,12 @@ impl Machine {
         let reboot = self.test(entries, window, &e);
         let is_changed = commanded | e.critical;
         self.stand_by(window, standing, is_later | is_changed, &e.billed);
-        if reboot.is_some() {
+        if self.is_over(&reboot, now) {
             self.sync_all(ready);
             self.post_all(posts);
             return Stepped {
                 entry: e,
                 reboot,
-                is_changed,
-            };
-        }
-        if now == self.horizon() {
-            self.sync_all(ready);
-            self.post_all(posts);
-            return Stepped {
-                entry: e,
-                reboot: None,
                 is_changed,
             };
         }

@@ -1,7 +1,7 @@
-//! What each processor runs, as far as its rank goes by it, kept from step to step.
-ghost use Rattle.std.specs.Prelude.{◌≡◌, ◌≢◌, ℕ, ◌+◌, ◌<◌, ◌≤◌, if◌then◌else◌};
-ghost use Rattle.aps_levels.specs.Bits.{has};
-ghost use Rattle.aps_core.specs.Posts.{IsPost, IsPostOf, no_post, post_at};
+//! What each processor runs, as far as its rank goes by it, and the key by which it is looked at, kept from step to step.
+ghost use Rattle.std.specs.Prelude.{◌≡◌, ◌≢◌, ℕ, ◌+◌, ◌<◌, ◌≤◌, length, Option};
+ghost use Rattle.aps_model.specs.declared.state.Facts.{Facts as FactsOf};
+ghost use Rattle.aps_core.specs.Posts.{AreHigh, AreSmall, IsHigh, IsPost, IsPostOf, post_at};
 
 use crate::classes::{Classes, group_of};
 use aps_model::{CpuId, Facts};
@@ -14,12 +14,14 @@ const CPUS: usize = 16;
 const CLASS: u16 = 256;
 
 /// A processor's thread: its group, where it stands if that is of class 0, and how much higher if it is of class 1. An idle
-/// processor stands at 0 in any case.
+/// processor stands at 0 in any case. Beside that its key by the classes at hand, which is the lesser the lower it stands, and
+/// of equal ones the later it comes.
 #[derive(Clone, Copy, Debug, PartialEq, Eq)]
 pub struct Post {
     group: u16,
     base: u16,
     more: u16,
+    pub key: u16,
 }
 
 impl Post {
@@ -28,30 +30,41 @@ impl Post {
         group: 0,
         base: 0,
         more: 0,
+        key: 0,
     };
 
-    /// That of a processor that runs a thread with these values.
-    fn of(facts: &Facts) -> Post
-        ensures { IsPostOf facts.now result }
+    /// That of the processor of this number, which runs a thread with these values.
+    fn of(facts: &Facts, classes: Classes, d: usize) -> Post
+        requires { d < 16 }
+        ensures is { IsPostOf facts.now result }
+        ensures high { IsHigh classes d result }
     {
-        Post {
+        let post = Post {
             group: group_of(facts.partition, facts.critical) as u16,
             base: base_of(facts.priority),
             more: CLASS,
-        }
+            key: 0,
+        };
+        post.by(classes, d)
     }
 
-    /// How high the processor stands.
+    /// The same, with its key by these classes, for the processor of this number.
     #[inline(always)]
-    pub fn height(self, classes: Classes) -> u16
+    fn by(self, classes: Classes, d: usize) -> Post
+        requires d { d < 16 }
         requires group { self.group < 64 }
         requires base { self.base ≤ 256 }
         requires more { self.more ≤ 256 }
-        ensures { result ≡ (if has classes.first self.group then self.base + self.more else self.base) }
+        ensures high { IsHigh classes d result }
+        ensures same { (o : Option FactsOf) → IsPost o self → IsPost o result }
     {
         // a product, since a branch here would be foretold wrongly often
         let first = u16::from(classes.first.has(usize::from(self.group)));
-        self.base + first * self.more
+        let height = self.base + first * self.more;
+        Post {
+            key: height * 16 + (15 - d as u16),
+            ..self
+        }
     }
 }
 
@@ -59,6 +72,8 @@ impl Post {
 #[derive(Drop)]
 pub struct Posts {
     row: [Post; CPUS],
+    /// those by which all stand
+    classes: Classes,
 }
 
 impl Model for Posts {
@@ -70,15 +85,18 @@ impl Model for Posts {
     ghost view = { λ p. p.row };
 
     ghost use Rattle.std.specs.Prelude.{◌≡◌, length};
+    ghost use Rattle.aps_core.specs.Posts.{AreHigh};
 
-    ghost invariant = { λ p. length p.row ≡ 16 };
+    ghost invariant = { λ p. (length p.row ≡ 16) × AreHigh p.classes p.row };
 }
 
 impl Posts {
     /// Nobody runs.
     pub fn new() -> Self {
+        let classes = Classes::none();
         Posts {
-            row: [Post::IDLE; CPUS],
+            row: stand([Post::IDLE; CPUS], classes),
+            classes,
         }
     }
 
@@ -98,10 +116,46 @@ impl Posts {
         ensures others { (e : ℕ) → e ≢ d → post_at self.new e ≡ post_at self.old e }
     {
         self.row[d.index()] = match facts {
-            None => Post::IDLE,
-            Some(facts) => Post::of(&facts),
+            None => Post::IDLE.by(self.classes, d.index()),
+            Some(facts) => Post::of(&facts, self.classes, d.index()),
         };
     }
+
+    /// All processors stand by these classes. Where they did before, there is nothing to do.
+    #[inline(always)]
+    pub fn go_by(&mut self, classes: Classes)
+        ensures high { AreHigh classes self.new }
+        ensures same { (d : ℕ) (o : Option FactsOf) → IsPost o (post_at self.old d) → IsPost o (post_at self.new d) }
+    {
+        if self.classes != classes {
+            self.stand_anew(classes);
+        }
+    }
+
+    /// The same, whatever they stood by.
+    #[inline(never)]
+    fn stand_anew(&mut self, classes: Classes)
+        ensures high { AreHigh classes self.new }
+        ensures same { (d : ℕ) (o : Option FactsOf) → IsPost o (post_at self.old d) → IsPost o (post_at self.new d) }
+    {
+        self.row = stand(self.row, classes);
+        self.classes = classes;
+    }
+}
+
+/// What each processor runs, with the keys by these classes.
+#[inline(always)]
+fn stand(posts: [Post; CPUS], classes: Classes) -> [Post; CPUS]
+    requires { AreSmall posts }
+    ensures count { length result ≡ 16 }
+    ensures high { AreHigh classes result }
+    ensures same { (d : ℕ) (o : Option FactsOf) → IsPost o (post_at posts d) → IsPost o (post_at result d) }
+{
+    let mut row = posts;
+    for d in 0..CPUS {
+        row[d] = row[d].by(classes, d);
+    }
+    row
 }
 
 /// Where a thread of class 0 and this priority stands.

@@ -1,5 +1,6 @@
-//! How ready threads compare: merits, which of two is greater, who is a candidate, and which picks are critical. The
-//! scheduler chooses by it; `docs/DEFINITIONS.md` has the rules in words.
+//! How ready threads compare: merits, which of two is greater, who is a candidate, and which picks are critical. Of these the
+//! core takes which picks are critical, and who is a candidate where all partitions are asked for; its queues find the
+//! greatest candidate by the same definitions. `docs/DEFINITIONS.md` has the rules in words.
 //!
 //! Used times are ns of the partition in the window, budgets are parts of all processor time, 100 or 1,000 in all.
 #![tactic(auto)]

@@ -1,13 +1,12 @@
-ghost use Rattle.std.specs.Prelude.{◌≡◌, ◌<◌, ◌≤◌, length, slice_index, IfSome, Some};
+ghost use Rattle.std.specs.Prelude.{◌≡◌, ◌<◌, ◌≤◌, if◌then◌else◌, length, slice_index, IfSome, Some};
 ghost use Rattle.aps_model.specs.Flag.{flag_for, with_flag};
 ghost use Rattle.aps_model.specs.Budget.{part_at};
-ghost use Rattle.aps_model.specs.SchedulerState.{cpu_at};
 ghost use Rattle.aps_model.specs.Pick.{contenders, greatest, merit_among};
 ghost use Rattle.aps_ready.specs.Gates.{AreGates, is_first};
 ghost use Rattle.aps_core.specs.Classes.{AreClasses};
-ghost use Rattle.aps_core.specs.Lowest.{IsNoLess, IsRank, IsTold, height, height_of, height_or, limit, lowest, rank_now, ranked_at};
+ghost use Rattle.aps_core.specs.Lowest.{IsKey, IsLeast, IsLeastOf, IsNoLess, IsRank, IsTold, height_of, limit, lowest, ranked_at};
 ghost use Rattle.aps_core.specs.NextDues.{AreOthersDues};
-ghost use Rattle.aps_core.specs.Posts.{ArePosts};
+ghost use Rattle.aps_core.specs.Posts.{AreHigh, ArePosts};
 ghost use Rattle.aps_core.specs.Seats.{seats_of};
 
 use super::Machine;
@@ -17,10 +16,17 @@ use crate::posts::Posts;
 use aps_model::{Contender, CpuId, CpuNow, Entry, Facts, Free, Nanos, PartFacts};
 use aps_ready::{Gates, Ready};
 
-/// Past the heights of all processors.
-const PAST_ALL: u16 = 1000;
+/// The most processors.
+const CPUS: usize = 16;
 
-/// Of the other processors that aren't due yet the one of least rank, and how high that stands.
+/// Half of them.
+const HALF: usize = 8;
+
+/// Past the keys of all processors.
+const PAST_ALL: u16 = 16000;
+
+/// Of the other processors that aren't due yet the one of least rank, and how high that stands. Where there is none, the
+/// processor is any, and the height is past all.
 #[derive(Clone, Copy, Debug, PartialEq, Eq)]
 struct Lowest {
     cpu: CpuId,
@@ -28,23 +34,10 @@ struct Lowest {
 }
 
 impl Machine {
-    /// How high a processor stands.
+    /// The key by which the processor of this number is looked at, if it is another one and isn't due yet; else a key past
+    /// all. The own one is due no later than now.
     #[inline(always)]
-    fn height_now(&self, parts: &[PartFacts], posts: &Posts, classes: Classes, d: usize) -> u16
-        requires posts { ArePosts self.now posts.now }
-        requires classes { AreClasses parts.now classes }
-        requires d { d < length self.now.cpus }
-        ensures same { result ≡ height (rank_now self.now parts.now (cpu_at self.now d).running) }
-        ensures rank { IsRank (Some (rank_now self.now parts.now (cpu_at self.now d).running)) }
-    {
-        // the check wants to see that there are 16 processors at most
-        let _count = self.cpus.len();
-        posts.at(d).height(classes)
-    }
-
-    /// How high another processor stands that isn't due yet. The own one is due no later than now.
-    #[inline(always)]
-    fn height_at(
+    fn key_at(
         &self,
         entries: &[Entry],
         dues: &Dues,
@@ -57,19 +50,86 @@ impl Machine {
     ) -> u16
         requires posts { ArePosts self.now posts.now }
         requires classes { AreClasses parts.now classes }
+        requires high { AreHigh classes posts.now }
         requires dues { AreOthersDues self.now entries.now c dues.now }
         requires own { slice_index dues.now c ≤ now }
-        requires d { d < length self.now.cpus }
-        ensures same { result ≡ height_or (ranked_at self.now entries.now parts.now c now d) }
-        ensures rank { IsRank (ranked_at self.now entries.now parts.now c now d) }
+        requires d { d < 16 }
+        ensures key { d < length self.now.cpus → IsKey (ranked_at self.now entries.now parts.now c now d) d result }
+        ensures rank { d < length self.now.cpus → IsRank (ranked_at self.now entries.now parts.now c now d) }
+        ensures past { length self.now.cpus ≤ d → 16000 ≤ result }
     {
-        // as in height_now
-        let _count = self.cpus.len();
-        let height = self.height_now(parts, posts, classes, d);
-        if now < dues.at(d) { height } else { PAST_ALL }
+        let past = past_if((dues.at(d) <= now) | (self.cpus.len() <= d));
+        posts.at(d).key + past
     }
 
-    /// Of the other processors that aren't due yet the one of least rank, and of equal ranks the last.
+    /// The least of this key and those of the processors from `from` to `to - 1`.
+    #[inline(always)]
+    fn least_among(
+        &self,
+        entries: &[Entry],
+        dues: &Dues,
+        parts: &[PartFacts],
+        posts: &Posts,
+        classes: Classes,
+        c: CpuId,
+        now: Nanos,
+        least: u16,
+        from: usize,
+        to: usize,
+    ) -> u16
+        requires posts { ArePosts self.now posts.now }
+        requires classes { AreClasses parts.now classes }
+        requires high { AreHigh classes posts.now }
+        requires dues { AreOthersDues self.now entries.now c dues.now }
+        requires own { slice_index dues.now c ≤ now }
+        requires forward { from ≤ to }
+        requires few { to ≤ 16 }
+        requires so_far { IsLeastOf self.now entries.now parts.now c now from least }
+        ensures { IsLeastOf self.now entries.now parts.now c now to result }
+    {
+        let mut least = least;
+        for d in from..to {
+            let key = self.key_at(entries, dues, parts, posts, classes, c, now, d);
+            least = least.min(key);
+        }
+        least
+    }
+
+    /// The least key. The look goes over as many processors as there may be, or over half of them where these are all: a
+    /// number that is known beforehand needs no branch.
+    #[inline(always)]
+    fn least_key(
+        &self,
+        entries: &[Entry],
+        dues: &Dues,
+        parts: &[PartFacts],
+        posts: &Posts,
+        classes: Classes,
+        c: CpuId,
+        now: Nanos,
+    ) -> u16
+        requires posts { ArePosts self.now posts.now }
+        requires classes { AreClasses parts.now classes }
+        requires high { AreHigh classes posts.now }
+        requires dues { AreOthersDues self.now entries.now c dues.now }
+        requires own { slice_index dues.now c ≤ now }
+        ensures least { IsLeast (lowest self.now entries.now parts.now c now self.now.shape.cpus) self.now.shape.cpus result }
+        ensures few { self.now.shape.cpus ≤ 16 }
+        ensures count { length self.now.cpus ≡ self.now.shape.cpus }
+    {
+        let near = self.least_among(
+            entries, dues, parts, posts, classes, c, now, PAST_ALL, 0, HALF,
+        );
+        if self.cpus.len() <= HALF {
+            return near;
+        }
+        self.least_among(
+            entries, dues, parts, posts, classes, c, now, near, HALF, CPUS,
+        )
+    }
+
+    /// Of the other processors that aren't due yet the one of least rank, and of equal ranks the last; where there is none, the
+    /// height is past all.
     #[inline(always)]
     fn lowest(
         &self,
@@ -83,23 +143,16 @@ impl Machine {
     ) -> Lowest
         requires posts { ArePosts self.now posts.now }
         requires classes { AreClasses parts.now classes }
+        requires high { AreHigh classes posts.now }
         requires dues { AreOthersDues self.now entries.now c dues.now }
         requires own { slice_index dues.now c ≤ now }
         ensures same { IsTold (lowest self.now entries.now parts.now c now self.now.shape.cpus) result.cpu result.height }
-        ensures within { result.cpu < length self.now.cpus }
+        ensures within { result.height < 1000 → result.cpu < length self.now.cpus }
     {
-        let mut at = 0;
-        let mut least = PAST_ALL;
-        for d in 0..self.cpus.len() {
-            let height = self.height_at(entries, dues, parts, posts, classes, c, now, d);
-            if height <= least {
-                at = d;
-                least = height;
-            }
-        }
+        let least = self.least_key(entries, dues, parts, posts, classes, c, now);
         Lowest {
-            cpu: CpuId::at(at),
-            height: least,
+            cpu: CpuId::at(usize::from(15 - least % 16)),
+            height: least / 16,
         }
     }
 
@@ -122,6 +175,7 @@ impl Machine {
         requires posts { ArePosts self.now posts.now }
         requires gates { AreGates parts.now gates }
         requires classes { AreClasses parts.now classes }
+        requires high { AreHigh classes posts.now }
         requires dues { AreOthersDues self.now entries.now c dues.now }
         requires own { slice_index dues.now c ≤ now }
         requires seats { ready.now ≡ seats_of self.now }
@@ -155,6 +209,15 @@ impl Machine {
             self.cpus[d.index()].flag = Some(now);
         }
     }
+}
+
+/// How much is added to a key where this holds, so that it is past all.
+#[inline(always)]
+fn past_if(holds: bool) -> u16
+    ensures { result ≡ (if holds then 16000 else 0) }
+{
+    // a product, since a branch here would be foretold wrongly often
+    u16::from(holds) * PAST_ALL
 }
 
 /// Where threads of this class and priority stand: the class counts first.

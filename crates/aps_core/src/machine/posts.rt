@@ -29,6 +29,7 @@ impl Machine {
     }
 
     /// What each processor runs is kept as it stands, whatever was.
+    #[inline(never)]
     pub fn post_all(&self, posts: &mut Posts)
         ensures { ArePosts self.now posts.new }
     {
@@ -38,7 +39,7 @@ impl Machine {
         }
     }
 
-    /// What each other processor runs is kept as it stands, where it was unless a command was done, or an operation that
+    /// What each other processor runs is kept as it stands. It was so before, unless a command was done, or an operation that
     /// may change what threads inherit.
     #[inline(always)]
     pub fn post_others(&self, posts: &mut Posts, cpu: CpuId, commanded: bool, done: &Done)

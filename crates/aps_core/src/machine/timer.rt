@@ -44,6 +44,7 @@ impl Machine {
     }
 
     /// The same of each thread.
+    #[inline(never)]
     fn time_all(&self, timer: &mut Timer)
         requires count { length timer.old ≡ length self.now.threads }
         ensures { timer.new ≡ sleepers_of self.now }
@@ -81,7 +82,7 @@ impl Machine {
         }
     }
 
-    /// The timer has the sleeping threads after this thread, if it is one, did its operation, where it had all others with
+    /// The timer has the sleeping threads after this thread, if there is one, did its operation, where it had all others with
     /// which that has nothing to do, and not this one.
     pub fn time_done(&self, timer: &mut Timer, own: &Option<ThreadId>, done: &Done)
         requires count { length timer.old ≡ length self.now.threads }

@@ -115,6 +115,7 @@ fn take_due(timer: &mut Timer, now: Nanos, woken: &mut Woken)
 
 impl Machine {
     /// The sleepers whose moment has come go on. One whose next operation is a sleep is in the timer again.
+    #[inline(never)]
     fn wake_all(&mut self, scenario: &Scenario, now: Nanos, timer: &mut Timer, woken: &mut Woken)
         requires now { now ≤ 10000000000000 }
         requires room { HasRoomToWake last_place stamps_before self.old }
@@ -152,7 +153,7 @@ impl Machine {
 
     /// The work of this tick, if it begins with this step: the commands of the tick, and then the wakes, from the timer,
     /// which then has the sleepers that are left. The answer is whether there was a command; else no thread's seat changes
-    /// but of those who woke, who are told.
+    /// but of those who woke, who are told, and no thread inherits other values than before.
     pub fn work_tick(
         &mut self,
         scenario: &Scenario,

@@ -1,4 +1,4 @@
-use Rattle.std.proofs.Common.{◌≡◌, ◌≤◌, ◌<◌, ap, subst, sym, List, nat_eq, Option}
+use Rattle.std.proofs.Common.{◌≡◌, ◌≤◌, ◌<◌, ap, arith, subst, sym, List, nat_eq, Option}
 use Rattle.aps_model.specs.declared.merit.Contender.{Contender}
 use Rattle.aps_model.specs.declared.merit.PartFacts.{PartFacts}
 use Rattle.aps_model.specs.declared.shape.Free.{Free}
@@ -10,7 +10,7 @@ use Rattle.aps_ready.specs.Ready.{members}
 use Rattle.aps_core.specs.Lowest.{IsNoLess, limit}
 use Rattle.aps_core.specs.Seats.{seats_of}
 use Rattle.aps_core.proofs.Seats.{missing_in}
-use Rattle.aps_core.proofs.FlagAfter.{flagged_ahead, limit_among, nobody_ahead, nobody_flagged, nobody_left, short_of}
+use Rattle.aps_core.proofs.FlagAfter.{flagged_ahead, limit_among, limit_few, nobody_ahead, nobody_flagged, nobody_left, short_of}
 use Rattle.aps_core.proofs.machine.Machine.flag_after.Goals as goal
 
 pub returns-then-limit_for-lowest-clause-same : goal.returns-then-limit_for-lowest-clause-same
@@ -71,3 +71,9 @@ returns-clause-same c =
     (subst (IsAhead s.shape.free parts cs) c.in-Some-ahead_by.is
     (ahead_of s parts c.args.ready.now c.ahead_by.result c.requires.seats (c.ahead_by.ensures parts s.shape.free c.requires.gates)))
     c.limit_of.ensures.few below)
+
+pub returns-clause-within : goal.returns-clause-within
+returns-clause-within c =
+    let top = limit_few c.self.inside.shape.free (nat_eq c.in-Some-ahead_by.ahead.class 1) c.in-Some-ahead_by.ahead.priority c.limit_of.ensures.few in
+    let same = c.limit_of.ensures.same in
+    c.lowest-lowest.ensures.within (omega (arith, top, same, c.if-limit_of-lowest.false))

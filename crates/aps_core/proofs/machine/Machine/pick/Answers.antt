@@ -12,7 +12,7 @@ use Rattle.aps_core.proofs.NextDues.{others_chosen}
 use Rattle.aps_core.specs.Kept.{IsKept}
 use Rattle.aps_core.proofs.PickStep.{pick_by_parts}
 use Rattle.aps_core.proofs.Frame.{chosen_kept, flagged_kept, kept_then}
-use Rattle.aps_core.proofs.PostsStay.{posts_flagged, posts_picked}
+use Rattle.aps_core.proofs.PostsStay.{posts_flagged, posts_picked, posts_raised}
 use Rattle.aps_core.proofs.Seats.{flagged_seats, missing_in, taken_seats}
 use Rattle.aps_core.proofs.machine.Machine.pick.Goals as goal
 
@@ -60,14 +60,16 @@ flag_after-flagged-requires-clause-picked c =
 
 pub flag_after-flagged-requires-clause-posts : goal.flag_after-flagged-requires-clause-posts
 flag_after-flagged-requires-clause-posts c =
-    posts_picked c.args.self.now c.choose.new.self c.self.inside.shape.free c.parts-parts.result.now c.args.cpu c.take_greatest-best.result c.facts_of.result c.args.ready.now c.args.posts.now c.set.new.self
-    (ap (λ (t : SchedulerState). t.shape.free) c.self.view_is) c.take_greatest-best.ensures.picked c.requires.seats c.choose.ensures c.requires.cpu c.facts_of.ensures c.requires.posts c.set.ensures.here c.set.ensures.others
+    posts_raised c.choose.new.self c.set.new.self c.go_by.new.self c.go_by.ensures.same
+    (posts_picked c.args.self.now c.choose.new.self c.self.inside.shape.free c.parts-parts.result.now c.args.cpu c.take_greatest-best.result c.facts_of.result c.args.ready.now c.args.posts.now c.set.new.self
+    (ap (λ (t : SchedulerState). t.shape.free) c.self.view_is) c.take_greatest-best.ensures.picked c.requires.seats c.choose.ensures c.requires.cpu c.facts_of.ensures c.requires.posts c.set.ensures.here c.set.ensures.others)
 
 pub returns-clause-posts : goal.returns-clause-posts
 returns-clause-posts c =
-    posts_flagged c.choose.new.self c.flag.new.self c.args.e.to c.flag_after-flagged.result c.set.new.self c.flag.ensures
+    posts_flagged c.choose.new.self c.flag.new.self c.args.e.to c.flag_after-flagged.result c.go_by.new.self c.flag.ensures
+    (posts_raised c.choose.new.self c.set.new.self c.go_by.new.self c.go_by.ensures.same
     (posts_picked c.args.self.now c.choose.new.self c.self.inside.shape.free c.parts-parts.result.now c.args.cpu c.take_greatest-best.result c.facts_of.result c.args.ready.now c.args.posts.now c.set.new.self
-    (ap (λ (t : SchedulerState). t.shape.free) c.self.view_is) c.take_greatest-best.ensures.picked c.requires.seats c.choose.ensures c.requires.cpu c.facts_of.ensures c.requires.posts c.set.ensures.here c.set.ensures.others)
+    (ap (λ (t : SchedulerState). t.shape.free) c.self.view_is) c.take_greatest-best.ensures.picked c.requires.seats c.choose.ensures c.requires.cpu c.facts_of.ensures c.requires.posts c.set.ensures.here c.set.ensures.others))
 
 pub returns-clause-kept : goal.returns-clause-kept
 returns-clause-kept c =

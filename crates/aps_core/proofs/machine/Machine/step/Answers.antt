@@ -1,4 +1,4 @@
-use Rattle.std.proofs.Common.{◌≡◌, ◌≢◌, ℕ, ◌/◌, ◌||◌, List, Option, Some, None, ◌≤◌, [], ◌∷◌, ◌++◌, sym, ◌∙◌, refl, subst, length, ap, arith}
+use Rattle.std.proofs.Common.{◌≡◌, ◌≢◌, ℕ, ◌/◌, ◌||◌, List, Option, Some, None, ◌≤◌, [], ◌∷◌, ◌++◌, sym, ◌∙◌, refl, subst, length, ap, arith, inl, inr}
 use Rattle.std.specs.Option.{option_map}
 use Rattle.aps_model.specs.declared.entry.Entry.{Entry}
 use Rattle.aps_model.specs.declared.merit.Contender.{Contender}
@@ -29,7 +29,7 @@ use Rattle.aps_core.proofs.Asleep.{running_awake, sleepers_count}
 use Rattle.aps_core.proofs.SleepersStay.{picked_sleepers, settled_timer, tested_timer}
 use Rattle.aps_core.proofs.StandsStay.{calm_kept, neither, others_stand}
 use Rattle.aps_core.proofs.StepCounts.{IsBilling, counts_begun, counts_left, done_bill, entry_of, own_bill, picked_bill, room_to_bill, settled_shape, spent_shape, tested_shape}
-use Rattle.aps_core.proofs.StepParts.{billed_by, none_is, room_after, settled_by, settled_is, step_at_horizon, step_below, step_over, tested_by, ticked_by}
+use Rattle.aps_core.proofs.StepParts.{billed_by, room_after, settled_by, settled_is, step_at_horizon, step_below, step_over, tested_by, ticked_by}
 use Rattle.aps_core.proofs.machine.Machine.step.Goals as goal
 
 -- ---- the work of the tick
@@ -81,8 +81,8 @@ returns-clause-same c =
     tested_by c.args.scenario.now c.args.self.now c.args.entries.now c.args.cpu _ _ _ _ _ _ _ _ _
     (c.of-now.ensures ∙ c.requires.dues c.args.cpu c.requires.ready.exists) c.last_end-from.ensures.same c.begin-running.ensures.running c.begin-running.ensures.same c.work_tick-commanded.ensures.same c.bill_of-e.ensures.same c.bill.ensures c.test-reboot.ensures in
     step_below c.args.scenario.now c.args.self.now c.args.entries.now c.args.cpu _ _ _ _ _ _ _ b
-    (none_is c.test-reboot.result (sym c.is_some.ensures ∙ c.if-is_some.false))
-    (λ there. c.if-now-horizon.false (there ∙ sym c.horizon.ensures.same)) c.settle-done.ensures c.bill_of-e.ensures.to c.pick-entry.ensures.same
+    (c.is_over.ensures.on c.if-is_over.false).0
+    (c.is_over.ensures.on c.if-is_over.false).1 c.settle-done.ensures c.bill_of-e.ensures.to c.pick-entry.ensures.same
 
 -- ---- the window
 
@@ -153,41 +153,13 @@ test-reboot-requires-clause-counts c =
     counts_left c.args.scenario.now c.args.self.now c.args.entries.now c.args.cpu c.of-now.result c.last_end-from.result c.tick_of-tick.result c.begin-running.result c.begin-running.new.self s2 e c.add_time.new.window
     c.requires.ready b with_bill c.bill.new.self e (spent) (own_bill e)
 
-pub returns-then-is_some-clause-pending : goal.returns-then-is_some-clause-pending
-returns-then-is_some-clause-pending c =
+pub returns-then-is_over-clause-pending : goal.returns-then-is_over-clause-pending
+returns-then-is_over-clause-pending c =
     subst (λ n. IsPending c.args.scenario.now n (c.args.entries.now ++ c.bill_of-e.result ∷ []) c.work_tick-commanded.new.ctl) (ap (λ (u : SchedulerState). u.shape.tick) c.begin-running.ensures.same)
     (c.work_tick-commanded.ensures.pending c.bill_of-e.result (c.bill_of-e.ensures.to))
 
-pub returns-then-is_some-clause-counts : goal.returns-then-is_some-clause-counts
-returns-then-is_some-clause-counts c =
-    let s2 = state_of c.self.inside in
-    let e = c.bill_of-e.result in
-    let b : IsBilling c.args.scenario.now c.args.self.now c.args.entries.now c.args.cpu c.of-now.result c.last_end-from.result c.tick_of-tick.result c.begin-running.result c.begin-running.new.self s2 e =
-    record {
-      at_due = (c.of-now.ensures ∙ c.requires.dues c.args.cpu c.requires.ready.exists);
-      from_end = c.last_end-from.ensures.same;
-      ran = c.begin-running.ensures.running;
-      begun = c.begin-running.ensures.same;
-      ticked = c.self.view_is ∙ c.work_tick-commanded.ensures.same;
-      entry = c.bill_of-e.ensures.same;
-      begins = c.bill_of-e.ensures.from;
-      ends = c.bill_of-e.ensures.to;
-      at_tick = c.tick_of-tick.ensures.same;
-    } in
-    let before = subst (λ (u : SchedulerState). Counts u.shape c.args.entries.now (c.of-now.result / c.begin-running.new.self.shape.tick) c.work_tick-commanded.new.window) (sym c.self.view_is) c.work_tick-commanded.ensures.counts in
-    let with_bill = c.add_time.ensures.counts c.args.entries.now (c.of-now.result / c.begin-running.new.self.shape.tick) before in
-    let spent : c.bill.new.self.shape ≡ s2.shape = spent_shape c.work_tick-commanded.new.self e c.begin-running.result c.bill.new.self c.bill.ensures ∙ ap (λ (u : SchedulerState). u.shape) (sym c.self.view_is) in
-    let tested = tested_shape c.bill.new.self c.args.entries.now e c.test-reboot.new.self c.test-reboot.result c.test-reboot.ensures in
-    counts_left c.args.scenario.now c.args.self.now c.args.entries.now c.args.cpu c.of-now.result c.last_end-from.result c.tick_of-tick.result c.begin-running.result c.begin-running.new.self s2 e c.add_time.new.window
-    c.requires.ready b with_bill c.test-reboot.new.self e (tested ∙ spent) (own_bill e)
-
-pub returns-then-now-horizon-clause-pending : goal.returns-then-now-horizon-clause-pending
-returns-then-now-horizon-clause-pending c =
-    subst (λ n. IsPending c.args.scenario.now n (c.args.entries.now ++ c.bill_of-e.result ∷ []) c.work_tick-commanded.new.ctl) (ap (λ (u : SchedulerState). u.shape.tick) c.begin-running.ensures.same)
-    (c.work_tick-commanded.ensures.pending c.bill_of-e.result (c.bill_of-e.ensures.to))
-
-pub returns-then-now-horizon-clause-counts : goal.returns-then-now-horizon-clause-counts
-returns-then-now-horizon-clause-counts c =
+pub returns-then-is_over-clause-counts : goal.returns-then-is_over-clause-counts
+returns-then-is_over-clause-counts c =
     let s2 = state_of c.self.inside in
     let e = c.bill_of-e.result in
     let b : IsBilling c.args.scenario.now c.args.self.now c.args.entries.now c.args.cpu c.of-now.result c.last_end-from.result c.tick_of-tick.result c.begin-running.result c.begin-running.new.self s2 e =
@@ -301,14 +273,6 @@ sync_all-requires-clause-count c =
     ap length c.requires.seats ∙ seats_count c.args.self.now ∙ sym c.requires.ready.count_billed
     ∙ ap (λ (s : SchedulerState). length s.threads) (sym (billed_by c.args.scenario.now c.args.self.now c.args.entries.now c.args.cpu _ _ _ _ _ b))
 
-pub sync_all-requires-then-now-horizon-clause-count : goal.sync_all-requires-then-now-horizon-clause-count
-sync_all-requires-then-now-horizon-clause-count c =
-    let b =
-    tested_by c.args.scenario.now c.args.self.now c.args.entries.now c.args.cpu _ _ _ _ _ _ _ _ _
-    (c.of-now.ensures ∙ c.requires.dues c.args.cpu c.requires.ready.exists) c.last_end-from.ensures.same c.begin-running.ensures.running c.begin-running.ensures.same c.work_tick-commanded.ensures.same c.bill_of-e.ensures.same c.bill.ensures c.test-reboot.ensures in
-    ap length c.requires.seats ∙ seats_count c.args.self.now ∙ sym c.requires.ready.count_billed
-    ∙ ap (λ (s : SchedulerState). length s.threads) (sym (billed_by c.args.scenario.now c.args.self.now c.args.entries.now c.args.cpu _ _ _ _ _ b))
-
 pub sync-requires-clause-count : goal.sync-requires-clause-count
 sync-requires-clause-count c =
     let b =
@@ -359,14 +323,8 @@ stand_by-requires c still =
     c.requires.stands kept.shape kept.rows
     (λ p apart. c.add_time.ensures.others p apart ∙ ap (λ (w : Window). total_of w p) (c.work_tick-commanded.ensures.window both.0 ∙ c.go_on-is_later.ensures.stays calm.0))
 
-pub returns-then-is_some-clause-kept : goal.returns-then-is_some-clause-kept
-returns-then-is_some-clause-kept c calm =
-    let both = neither c.work_tick-commanded.result c.bill_of-e.result.critical calm in
-    calm_kept c.args.self.now c.args.entries.now c.args.cpu c.begin-running.result c.begin-running.new.self c.work_tick-commanded.new.self c.bill.new.self c.test-reboot.new.self c.bill_of-e.result c.test-reboot.result
-    c.begin-running.ensures.same (c.work_tick-commanded.ensures.kept both.0) c.bill.ensures c.test-reboot.ensures both.1
-
-pub returns-then-now-horizon-clause-kept : goal.returns-then-now-horizon-clause-kept
-returns-then-now-horizon-clause-kept c calm =
+pub returns-then-is_over-clause-kept : goal.returns-then-is_over-clause-kept
+returns-then-is_over-clause-kept c calm =
     let both = neither c.work_tick-commanded.result c.bill_of-e.result.critical calm in
     calm_kept c.args.self.now c.args.entries.now c.args.cpu c.begin-running.result c.begin-running.new.self c.work_tick-commanded.new.self c.bill.new.self c.test-reboot.new.self c.bill_of-e.result c.test-reboot.result
     c.begin-running.ensures.same (c.work_tick-commanded.ensures.kept both.0) c.bill.ensures c.test-reboot.ensures both.1
@@ -388,20 +346,17 @@ returns-clause-stands c =
     let after = kept_then settled c.pick-entry.ensures.kept in
     c.stand_by.ensures.same ∙ (λ i. parts_in (sym after.shape i) (sym after.rows i) c.add_time.new.window)
 
-pub returns-then-is_some-clause-same : goal.returns-then-is_some-clause-same
-returns-then-is_some-clause-same c =
+pub returns-then-is_over-clause-same : goal.returns-then-is_over-clause-same
+returns-then-is_over-clause-same c =
     let b =
     tested_by c.args.scenario.now c.args.self.now c.args.entries.now c.args.cpu _ _ _ _ _ _ _ _ _
     (c.of-now.ensures ∙ c.requires.dues c.args.cpu c.requires.ready.exists) c.last_end-from.ensures.same c.begin-running.ensures.running c.begin-running.ensures.same c.work_tick-commanded.ensures.same c.bill_of-e.ensures.same c.bill.ensures c.test-reboot.ensures in
-    step_over c.args.scenario.now c.args.self.now c.args.entries.now c.args.cpu _ _ _ _ c.test-reboot.result b (sym c.is_some.ensures ∙ c.if-is_some.true)
-
-pub returns-then-now-horizon-clause-same : goal.returns-then-now-horizon-clause-same
-returns-then-now-horizon-clause-same c =
-    let b =
-    tested_by c.args.scenario.now c.args.self.now c.args.entries.now c.args.cpu _ _ _ _ _ _ _ _ _
-    (c.of-now.ensures ∙ c.requires.dues c.args.cpu c.requires.ready.exists) c.last_end-from.ensures.same c.begin-running.ensures.running c.begin-running.ensures.same c.work_tick-commanded.ensures.same c.bill_of-e.ensures.same c.bill.ensures c.test-reboot.ensures in
-    step_at_horizon c.args.scenario.now c.args.self.now c.args.entries.now c.args.cpu _ _ _ _ c.test-reboot.result b
-    (none_is c.test-reboot.result (sym c.is_some.ensures ∙ c.if-is_some.false)) (c.if-now-horizon.true ∙ c.horizon.ensures.same)
+    elim (c.is_over.ensures.over c.if-is_over.true) [
+      | inl rebooted ↦ step_over c.args.scenario.now c.args.self.now c.args.entries.now c.args.cpu _ _ _ _ c.test-reboot.result b rebooted
+      | inr end ↦
+          step_at_horizon c.args.scenario.now c.args.self.now c.args.entries.now c.args.cpu _ _ _ _ c.test-reboot.result b end.0 end.1
+          ∙ ap (λ (o : Option ℕ). record { entry = c.bill_of-e.result; state = c.test-reboot.new.self; reboot = o }) (sym end.0)
+    ]
 
 pub settle-done-requires-clause-now : goal.settle-done-requires-clause-now
 settle-done-requires-clause-now c = rw (c.of-now.ensures ∙ c.requires.dues c.args.cpu c.requires.ready.exists) c.requires.ready.early
@@ -423,14 +378,6 @@ sync_all-requires-clause-stamped c =
     subst (λ (s : SchedulerState). IsStamped s.threads s.stamps)
     (sym (billed_by c.args.scenario.now c.args.self.now c.args.entries.now c.args.cpu _ _ _ _ _ b)) c.requires.ready.stamped_billed
 
-pub sync_all-requires-then-now-horizon-clause-stamped : goal.sync_all-requires-then-now-horizon-clause-stamped
-sync_all-requires-then-now-horizon-clause-stamped c =
-    let b =
-    tested_by c.args.scenario.now c.args.self.now c.args.entries.now c.args.cpu _ _ _ _ _ _ _ _ _
-    (c.of-now.ensures ∙ c.requires.dues c.args.cpu c.requires.ready.exists) c.last_end-from.ensures.same c.begin-running.ensures.running c.begin-running.ensures.same c.work_tick-commanded.ensures.same c.bill_of-e.ensures.same c.bill.ensures c.test-reboot.ensures in
-    subst (λ (s : SchedulerState). IsStamped s.threads s.stamps)
-    (sym (billed_by c.args.scenario.now c.args.self.now c.args.entries.now c.args.cpu _ _ _ _ _ b)) c.requires.ready.stamped_billed
-
 pub sync-requires-clause-stamped : goal.sync-requires-clause-stamped
 sync-requires-clause-stamped c =
     let b =
@@ -444,13 +391,8 @@ sync-requires-clause-stamped c =
 pub work_tick-commanded-requires-clause-timed : goal.work_tick-commanded-requires-clause-timed
 work_tick-commanded-requires-clause-timed c = c.requires.timed ∙ ap sleepers_of (sym c.begin-running.ensures.same)
 
-pub returns-then-is_some-clause-timed : goal.returns-then-is_some-clause-timed
-returns-then-is_some-clause-timed c =
-    tested_timer c.work_tick-commanded.new.self c.bill.new.self c.test-reboot.new.self c.args.entries.now c.bill_of-e.result c.begin-running.result c.test-reboot.result c.work_tick-commanded.new.timer
-    c.work_tick-commanded.ensures.timed c.bill.ensures c.test-reboot.ensures
-
-pub returns-then-now-horizon-clause-timed : goal.returns-then-now-horizon-clause-timed
-returns-then-now-horizon-clause-timed c =
+pub returns-then-is_over-clause-timed : goal.returns-then-is_over-clause-timed
+returns-then-is_over-clause-timed c =
     tested_timer c.work_tick-commanded.new.self c.bill.new.self c.test-reboot.new.self c.args.entries.now c.bill_of-e.result c.begin-running.result c.test-reboot.result c.work_tick-commanded.new.timer
     c.work_tick-commanded.ensures.timed c.bill.ensures c.test-reboot.ensures
 

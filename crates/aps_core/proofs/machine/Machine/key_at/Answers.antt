@@ -1,0 +1,30 @@
+use Rattle.std.proofs.Common.{◌+◌, ◌*◌, ◌-◌, ◌∙◌, ap, arith, cond, nat_le, ◌||◌, length, slice_index}
+use Rattle.aps_model.specs.SchedulerState.{SchedulerState, cpu_at}
+use Rattle.aps_core.specs.declared.posts.Post.{Post}
+use Rattle.aps_core.specs.Posts.{post_at}
+use Rattle.aps_core.proofs.FlagAfter.{key_of, le_false, le_true, rank_of_look}
+use Rattle.aps_core.proofs.Heights.{post_height, post_rank}
+use Rattle.aps_core.proofs.machine.Machine.key_at.Goals as goal
+
+pub returns-clause-key : goal.returns-clause-key
+returns-clause-key c inside =
+    let s = c.args.self.now in
+    let high = c.requires.high c.args.d c.requires.d in
+    key_of s c.args.entries.now c.args.parts.now c.args.c c.args.now c.args.d c.at.result c.at-2.result.key c.past_if-past.result
+    (λ ne. c.at.ensures ∙ c.requires.dues c.args.d inside ne)
+    (λ same.
+    let there = c.at.ensures ∙ ap (slice_index c.args.dues.now) same in
+    let due = c.requires.own in
+    omega (arith, there, due))
+    (ap (λ (p : Post). p.key) c.at-2.ensures ∙ high.same
+    ∙ ap (λ n. n * 16 + (15 - c.args.d)) (post_height s c.args.parts.now c.args.classes (cpu_at s c.args.d).running (post_at c.args.posts.now c.args.d) c.requires.classes (c.requires.posts c.args.d inside)))
+    (λ most. c.past_if-past.ensures ∙ ap (λ t. cond (t || nat_le c.len.result c.args.d) 16000 0) (le_true c.at.result c.args.now most))
+    (λ less.
+    c.past_if-past.ensures ∙ ap (λ t. cond (t || nat_le c.len.result c.args.d) 16000 0) (le_false c.at.result c.args.now less)
+    ∙ ap (λ t. cond t 16000 0) (le_false c.len.result c.args.d (omega (arith, inside, c.len.ensures, ap (λ (s : SchedulerState). length s.cpus) c.self.view_is))))
+
+pub returns-clause-rank : goal.returns-clause-rank
+returns-clause-rank c inside =
+    let s = c.args.self.now in
+    rank_of_look s c.args.entries.now c.args.parts.now c.args.c c.args.now c.args.d
+    (post_rank s c.args.parts.now (cpu_at s c.args.d).running _ (c.requires.posts c.args.d inside))
