@@ -197,7 +197,7 @@ impl Group {
         ensures unchanged { self.new.unchanged ≡ (self.old.unchanged && sample.now.unchanged) }
         ensures points { (p : ℕ) → p < 32 → slice_index_or self.new.points p unread_point
             ≡ joined (slice_index_or self.old.points p unread_point)
-                (point_of sizes p (slice_index_or tops.now p 0) (slice_index_or lacking.now p false) sample.now) }
+            (point_of sizes p (slice_index_or tops.now p 0) (slice_index_or lacking.now p false) sample.now) }
     {
         self.points = points_with(&self.points, sample, sizes, tops, lacking);
         if !sample.unchanged {
@@ -216,7 +216,7 @@ fn points_with(
 ) -> [Point; 32]
     ensures { (p : ℕ) → p < 32 → slice_index_or result p unread_point
         ≡ joined (slice_index_or points.now p unread_point)
-            (point_of sizes p (slice_index_or tops.now p 0) (slice_index_or lacking.now p false) sample.now) }
+        (point_of sizes p (slice_index_or tops.now p 0) (slice_index_or lacking.now p false) sample.now) }
 {
     let mut all = [no_point(); PARTITIONS];
     for p in 0..PARTITIONS {

@@ -1,5 +1,5 @@
 -- The marks of a strip.
-use Rattle.std.specs.Prelude.{◌≡◌, ℕ, ◌+◌, ◌-◌, ◌<◌, List, [], ◌∷◌, ◌++◌, length, map, min, nat_lt, if◌then◌else◌, Option, Some, None, slice_get, slice_set}
+use Rattle.std.specs.Prelude.{ℕ, ◌+◌, ◌-◌, List, [], ◌∷◌, ◌++◌, length, map, min, nat_lt, if◌then◌else◌, Option, Some, None, slice_get, slice_index_or, slice_set}
 use Rattle.aps_svg.specs.Span.{has, x_of}
 use Rattle.aps_timeline.specs.declared.mark.Mark.{Mark}
 
@@ -49,5 +49,5 @@ abbrev pub end_before : Option Drawn → ℕ
 end_before None = 14000
 end_before (Some next) = next.x - 70
 
-abbrev pub room_behind : List Drawn → ℕ → Drawn → ℕ
-room_behind marks i mark = end_before (slice_get marks (i + 1)) - (mark.x + 60)
+abbrev pub room_behind : List Drawn → ℕ → ℕ
+room_behind marks i = end_before (slice_get marks (i + 1)) - ((slice_index_or marks i (new_mark 0 0)).x + 60)

@@ -1,13 +1,13 @@
 //! The strips below the lanes: overspent budgets, and changes.
-ghost use Rattle.std.specs.Prelude.{◌≡◌, ◌+◌, ◌*◌, ◌<◌, ◌≤◌, length, map, IfOk, OnOk, [], nat_lt, if◌then◌else◌, slice_index};
+ghost use Rattle.std.specs.Prelude.{◌≡◌, ◌+◌, ◌*◌, ◌<◌, ◌≤◌, length, map, IfOk, OnOk, [], nat_lt, if◌then◌else◌};
 ghost use Rattle.aps_bars.specs.declared.alteration.Alteration.{Alteration};
 ghost use Rattle.aps_bars.specs.declared.overspent.Overspent.{Overspent};
-ghost use Rattle.aps_timeline.specs.Strip.{all_drawn, drawn, marks_of, room_behind, with_mark};
+ghost use Rattle.aps_timeline.specs.Strip.{all_drawn, marks_of, room_behind, with_mark, with_moment};
 
 use crate::mark::Mark;
 use aps_bars::text::{add_alteration, row_name};
 use aps_bars::{Alteration, Overspent};
-use aps_model::{NoMemory, ThreadRow};
+use aps_model::{Nanos, NoMemory, ThreadRow};
 use aps_pictures::Scene;
 use aps_svg::element::add_text;
 use aps_svg::glyph::add_glyph;
@@ -60,21 +60,58 @@ pub fn strips_of(
     ensures changes { IfOk result (λ strips.
         all_drawn strips.changes.items ≡ marks_of span.now.from span.now.to (map (λ (one : Alteration). one.moment) alterations.now)) }
 {
-    let mut strips = Strips {
-        overspent: Vec::new(alloc),
-        changes: Vec::new(alloc),
-    };
+    Ok(Strips {
+        overspent: marks_of_overspent(alloc, span, overspent)?,
+        changes: marks_of_changes(alloc, span, alterations)?,
+    })
+}
+
+/// The marks of overspent budgets in this span.
+fn marks_of_overspent(
+    alloc: Global,
+    span: &Span,
+    overspent: &[Overspent],
+) -> Result<Vec<Mark>, NoMemory>
+    ensures { IfOk result (λ marks.
+        all_drawn marks.items ≡ marks_of span.now.from span.now.to (map (λ (one : Overspent). one.moment) overspent.now)) }
+{
+    let mut marks = Vec::new(alloc);
     for (i, one) in overspent.iter().enumerate() {
-        if span.has(one.moment) {
-            add_mark(&mut strips.overspent, span.x_of(one.moment), i)?;
-        }
+        add_moment(&mut marks, span, one.moment, i)?;
     }
+    Ok(marks)
+}
+
+/// The marks of changes in this span.
+fn marks_of_changes(
+    alloc: Global,
+    span: &Span,
+    alterations: &[Alteration],
+) -> Result<Vec<Mark>, NoMemory>
+    ensures { IfOk result (λ marks.
+        all_drawn marks.items ≡ marks_of span.now.from span.now.to (map (λ (one : Alteration). one.moment) alterations.now)) }
+{
+    let mut marks = Vec::new(alloc);
     for (i, one) in alterations.iter().enumerate() {
-        if span.has(one.moment) {
-            add_mark(&mut strips.changes, span.x_of(one.moment), i)?;
-        }
+        add_moment(&mut marks, span, one.moment, i)?;
     }
-    Ok(strips)
+    Ok(marks)
+}
+
+/// The mark of a moment, where the span has it.
+fn add_moment(
+    marks: &mut Vec<Mark>,
+    span: &Span,
+    moment: Nanos,
+    place: usize,
+) -> Result<(), NoMemory>
+    ensures { OnOk result
+        (all_drawn marks.new.items ≡ with_moment span.now.from span.now.to (all_drawn marks.old.items) moment place) }
+{
+    if span.has(moment) {
+        add_mark(marks, span.x_of(moment), place)?;
+    }
+    Ok(())
 }
 
 /// The mark of what stands at this place of its list: it is counted at the last one where it is too near that.
@@ -82,9 +119,12 @@ fn add_mark(marks: &mut Vec<Mark>, x: u64, place: usize) -> Result<(), NoMemory>
     requires { x ≤ 14000 }
     ensures { OnOk result (all_drawn marks.new.items ≡ with_mark (all_drawn marks.old.items) x place) }
 {
-    if let Some(last) = marks.last_mut() {
+    if let Some(last) = marks.last().copied() {
         if x < last.x + NEAR {
-            last.more = last.more.saturating_add(1);
+            let end = marks.len() - 1;
+            let more = last.more.saturating_add(1);
+            let Mark { x, place, .. } = last;
+            marks[end] = Mark { x, place, more };
             return Ok(());
         }
     }
@@ -201,7 +241,7 @@ fn add_marked(
 /// How much room there is for a text behind the mark at this place.
 fn room_behind(marks: &[Mark], i: usize) -> u64
     requires { i < length marks.now }
-    ensures { result ≡ room_behind (all_drawn marks.now) i (drawn (slice_index marks.now i)) }
+    ensures { result ≡ room_behind (all_drawn marks.now) i }
 {
     let end = match marks.get(i + 1) {
         Some(next) => next.x.saturating_sub(EMPTY),

@@ -1,7 +1,6 @@
 use Rattle.std.proofs.Common.{false}
 use Rattle.std.specs.Prelude.{◌&&◌, nat_lt, slice_index}
 use Rattle.aps_samples.proofs.Fill.{IsFilled}
-
 use Rattle.aps_pictures.proofs.group.lacking.Given as goal
 
 abbrev pub invariant-loop-p : goal.invariant-loop-p

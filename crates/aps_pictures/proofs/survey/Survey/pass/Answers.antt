@@ -52,7 +52,7 @@ returns c =
     let place : from + (c.take.j - from) ≡ c.take.j = omega (arith, begun) in
     let all : c.take.j - from + 1 ≡ c.args.range.end - from = omega (arith, begun, past, ends, some) in
     let kept = same_surveyed scenario h c.args.sizes from (c.take.j - from) c.take.self c.keep_rows.new.self
-        c.in_ok-keep_rows.ensures.unchanged c.in_ok-keep_rows.ensures.partial c.in_ok-keep_rows.ensures.found c.take.invariant.told in
+    c.in_ok-keep_rows.ensures.unchanged c.in_ok-keep_rows.ensures.partial c.in_ok-keep_rows.ensures.found c.take.invariant.told in
     subst (λ n. IsSurvey scenario h c.args.sizes from n c.add-2.new.self) all
     (one_surveyed scenario h c.args.sizes from (c.take.j - from) c.take.j c.keep_rows.new.self c.add-2.new.self c.next-sample-2.result place
     (c.next-sample-2.ensures.same ∙ ap (sample_of scenario h) c.take.invariant.tick) kept c.add-2.ensures.unchanged c.add-2.ensures.partial c.add-2.ensures.found)
