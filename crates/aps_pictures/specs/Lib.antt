@@ -1,0 +1,5 @@
+pub mod Scale
+pub mod Survey
+pub mod Group
+pub mod Scene
+pub mod Panel

@@ -1,7 +1,10 @@
 //! Samples in groups, each of which is drawn as one point.
-ghost use Rattle.std.specs.Prelude.{◌≡◌, ◌+◌, ◌*◌, ◌<◌, ◌≤◌, length, IfOk};
+ghost use Rattle.std.specs.Prelude.{◌≡◌, ℕ, ◌+◌, ◌*◌, ◌<◌, ◌≤◌, ◌&&◌, false, nat_lt, length, IfOk, slice_index, slice_index_or};
 ghost use Rattle.aps_model.specs.Legal.{IsLegal};
 ghost use Rattle.aps_model.specs.Loaded.{finished_ticks};
+ghost use Rattle.aps_pictures.specs.Group.{IsEmptyGroup, joined, no_point, point_of, unread_point};
+ghost use Rattle.aps_pictures.specs.Scale.{depth_of, top_at};
+ghost use Rattle.aps_pictures.specs.Survey.{no_found, whole_of};
 ghost use Rattle.aps_samples.specs.Pass.{IsAt, scenario_of};
 
 use crate::scale::{Sizes, depth_of, top_of};
@@ -71,7 +74,9 @@ pub fn groups_of(
 }
 
 /// What the top of each partition's panel stands for.
-fn tops_of(survey: &Survey) -> [u64; 32] {
+fn tops_of(survey: &Survey) -> [u64; 32]
+    ensures { (p : ℕ) → p < 32 → slice_index_or result p 0 ≡ top_at (slice_index_or survey.now.found p no_found).scale }
+{
     let mut tops = [0; PARTITIONS];
     for p in 0..PARTITIONS {
         tops[p] = top_of(survey.found[p].scale);
@@ -135,7 +140,10 @@ impl Groups {
 }
 
 /// How far below the top each partition's line begins, where it doesn't begin at 0.
-fn begins_at(sample: &Sample, sizes: Sizes, tops: &[u64; 32]) -> [u16; 32] {
+fn begins_at(sample: &Sample, sizes: Sizes, tops: &[u64; 32]) -> [u16; 32]
+    ensures { (p : ℕ) → p < 32 → slice_index_or result p 0
+        ≡ depth_of (slice_index sample.now.usage.used p) (whole_of sizes sample.now) (slice_index_or tops.now p 0) }
+{
     let whole = sizes.whole(sample.window);
     let mut begins = [0; PARTITIONS];
     for p in 0..PARTITIONS {
@@ -145,7 +153,9 @@ fn begins_at(sample: &Sample, sizes: Sizes, tops: &[u64; 32]) -> [u16; 32] {
 }
 
 /// The partitions that had no candidate at some pick of tick `j`, which the pass has just left, where so many exist in it.
-fn lacking(samples: &Samples, rows: usize, j: u64) -> [bool; 32] {
+fn lacking(samples: &Samples, rows: usize, j: u64) -> [bool; 32]
+    ensures { (p : ℕ) → p < 32 → slice_index_or result p false ≡ (nat_lt p rows && nat_lt j (slice_index samples.now.lasts.lacked p)) }
+{
     let mut all = [false; PARTITIONS];
     for p in 0..PARTITIONS {
         all[p] = p < rows && samples.lasts.lacked[p] > j;
@@ -154,39 +164,72 @@ fn lacking(samples: &Samples, rows: usize, j: u64) -> [bool; 32] {
 }
 
 /// A group without samples.
-fn empty_group(place: u64) -> Group {
-    let point = Point {
+fn empty_group(place: u64) -> Group
+    ensures { IsEmptyGroup place result }
+{
+    Group {
+        from: place,
+        end: place,
+        unchanged: true,
+        points: [no_point(); PARTITIONS],
+    }
+}
+
+/// The point of no sample.
+fn no_point() -> Point
+    ensures { result ≡ no_point }
+{
+    Point {
         high: 900,
         low: 0,
         plain: 900,
         allowance: 900,
         bound: 0,
         lacking: false,
-    };
-    Group {
-        from: place,
-        end: place,
-        unchanged: true,
-        points: [point; PARTITIONS],
     }
 }
 
 impl Group {
     /// Adds a sample.
-    fn add(&mut self, sample: &Sample, sizes: Sizes, tops: &[u64; 32], lacking: &[bool; 32]) {
-        for p in 0..PARTITIONS {
-            let next = point_of(sample, sizes, p, tops[p], lacking[p]);
-            self.points[p] = joined(&self.points[p], &next);
-        }
+    fn add(&mut self, sample: &Sample, sizes: Sizes, tops: &[u64; 32], lacking: &[bool; 32])
+        ensures from { self.new.from ≡ self.old.from }
+        ensures end { self.new.end ≡ self.old.end }
+        ensures unchanged { self.new.unchanged ≡ (self.old.unchanged && sample.now.unchanged) }
+        ensures points { (p : ℕ) → p < 32 → slice_index_or self.new.points p unread_point
+            ≡ joined (slice_index_or self.old.points p unread_point)
+            (point_of sizes p (slice_index_or tops.now p 0) (slice_index_or lacking.now p false) sample.now) }
+    {
+        self.points = points_with(&self.points, sample, sizes, tops, lacking);
         if !sample.unchanged {
             self.unchanged = false;
         }
     }
 }
 
+/// The point of each partition with one sample more.
+fn points_with(
+    points: &[Point; 32],
+    sample: &Sample,
+    sizes: Sizes,
+    tops: &[u64; 32],
+    lacking: &[bool; 32],
+) -> [Point; 32]
+    ensures { (p : ℕ) → p < 32 → slice_index_or result p unread_point
+        ≡ joined (slice_index_or points.now p unread_point)
+        (point_of sizes p (slice_index_or tops.now p 0) (slice_index_or lacking.now p false) sample.now) }
+{
+    let mut all = [no_point(); PARTITIONS];
+    for p in 0..PARTITIONS {
+        let next = point_of(sample, sizes, p, tops[p], lacking[p]);
+        all[p] = joined(&points[p], &next);
+    }
+    all
+}
+
 /// The point of one sample.
 fn point_of(sample: &Sample, sizes: Sizes, p: usize, top: u64, lacking: bool) -> Point
     requires { p < 32 }
+    ensures { result ≡ point_of sizes p top lacking sample.now }
 {
     let whole = sizes.whole(sample.window);
     let used = sample.usage.used[p];
@@ -202,7 +245,9 @@ fn point_of(sample: &Sample, sizes: Sizes, p: usize, top: u64, lacking: bool) ->
 }
 
 /// The point of a group with one sample more.
-fn joined(point: &Point, next: &Point) -> Point {
+fn joined(point: &Point, next: &Point) -> Point
+    ensures { result ≡ joined point.now next.now }
+{
     Point {
         high: point.high.min(next.high),
         low: point.low.max(next.low),

@@ -22,7 +22,8 @@ const TOP: u64 = 420;
 /// Where the next line begins below the legend of so many partitions.
 pub fn below_partitions(count: usize) -> u64
     requires { count ≤ 32 }
-    ensures { result ≤ 2160 }
+    ensures same { result ≡ 420 + (count + 3) / 4 * 210 + 60 }
+    ensures few { result ≤ 2160 }
 {
     TOP + (count as u64 + CELLS - 1) / CELLS * ROW + 60
 }

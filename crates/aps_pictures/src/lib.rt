@@ -9,6 +9,7 @@ mod panel;
 mod retracing;
 mod scale;
 pub mod scene;
+mod shown;
 mod survey;
 mod threads;
 pub mod titles;

@@ -1,5 +1,5 @@
 //! The panel of one partition.
-ghost use Rattle.std.specs.Prelude.{◌≡◌, ◌+◌, ◌*◌, ◌<◌, ◌≤◌, length};
+ghost use Rattle.std.specs.Prelude.{◌≡◌, ◌+◌, ◌*◌, ◌/◌, ◌<◌, ◌≤◌, length, min};
 
 use crate::group::{Group, Groups};
 use crate::scale::{HEIGHT, Sizes, top_of};
@@ -85,7 +85,10 @@ fn frame_of(panel: &Panel) -> Frame {
 }
 
 /// The time of the ticks that are shown.
-fn span_of(range: Range, sizes: Sizes) -> Span {
+fn span_of(range: Range, sizes: Sizes) -> Span
+    ensures from { result.from ≡ range.from * sizes.tick }
+    ensures to { result.to ≡ range.end * sizes.tick }
+{
     Span {
         from: range.from * sizes.tick,
         to: range.end * sizes.tick,
@@ -209,6 +212,7 @@ fn add_decimal_or_whole(out: &mut String, share: u64) -> Result<(), NoMemory> {
 impl Plot {
     /// Where the samples before this place end.
     fn x_of(&self, place: u64) -> u64
+        ensures same { result ≡ self.now.x + min place self.now.count * self.now.width / self.now.count }
         ensures least { 1400 ≤ result }
         ensures most { result ≤ 14000 }
     {
@@ -217,7 +221,8 @@ impl Plot {
 
     /// So far below the top.
     fn y_of(&self, depth: u16) -> u64
-        ensures { result ≤ 300000 }
+        ensures same { result ≡ self.now.top + depth }
+        ensures low { result ≤ 300000 }
     {
         self.top + u64::from(depth)
     }

@@ -1,7 +1,9 @@
 //! A core that makes the steps of a recorded history again, up to a moment.
-ghost use Rattle.std.specs.Prelude.{◌≡◌, ◌≤◌, [], length};
+ghost use Rattle.std.specs.Prelude.{◌≡◌, ◌≤◌, [], length, IfOk};
+ghost use Rattle.aps_model.specs.After.{state_after};
 ghost use Rattle.aps_model.specs.Legal.{IsLegal};
 ghost use Rattle.aps_model.specs.Valid.{IsScenario};
+ghost use Rattle.aps_pictures.specs.Scene.{IsStanding, up_to};
 
 use aps_core::Core;
 use aps_model::{Entry, History, Nanos, NoMemory, Order, PartitionRow};
@@ -25,6 +27,7 @@ pub fn standing_at(
 ) -> Result<Standing, NoMemory>
     requires legal { IsLegal history.now.scenario order history.now.entries }
     requires few { length history.now.entries ≤ 4000000 }
+    ensures { IfOk result (IsStanding history.now moment) }
 {
     let mut core = boot(alloc, history, order)?;
     retrace_to(&mut core, history.entries(), moment);
@@ -32,7 +35,10 @@ pub fn standing_at(
 }
 
 /// What stands as the core has it.
-fn standing_of(alloc: Global, core: &Core) -> Result<Standing, NoMemory> {
+fn standing_of(alloc: Global, core: &Core) -> Result<Standing, NoMemory>
+    ensures rows { IfOk result (λ s. s.rows.items ≡ (state_after core.now.setup.scenario core.now.entries).rows) }
+    ensures window { IfOk result (λ s. s.window ≡ (state_after core.now.setup.scenario core.now.entries).shape.window) }
+{
     let mut rows = Vec::new(alloc);
     rows.extend_from_slice(core.history().rows())?;
     let window = core.history().shape().window;
@@ -45,6 +51,7 @@ fn retrace_to(core: &mut Core, entries: &[Entry], moment: Nanos)
     requires begins { core.old.entries ≡ [] }
     requires legal { IsLegal core.old.setup.scenario core.old.setup.order entries.now }
     requires few { length entries.now ≤ core.old.setup.limit }
+    ensures { core.new ≡ record core.old { entries = up_to moment entries.now } }
 {
     for e in entries {
         retrace(core, e);

@@ -1,5 +1,6 @@
 //! The scale of a panel.
 ghost use Rattle.std.specs.Prelude.{◌≡◌, ◌+◌, ◌*◌, ◌<◌, ◌≤◌, length};
+ghost use Rattle.aps_pictures.specs.Scale.{depth_of, scale_of, top_at};
 
 use aps_model::Nanos;
 
@@ -25,14 +26,16 @@ pub struct Sizes {
 impl Sizes {
     /// All processor time of a window of so many ticks, in ns.
     pub fn whole(&self, window: u16) -> Nanos
-        ensures { result ≤ 20000000000000 }
+        ensures same { result ≡ self.now.cpus * window * self.now.tick }
+        ensures few { result ≤ 20000000000000 }
     {
         u64::from(self.cpus) * u64::from(window) * self.tick
     }
 
     /// All processor time of a tick, in ns.
     pub fn tick_of_all(&self) -> Nanos
-        ensures { result ≤ 160000000 }
+        ensures same { result ≡ self.now.cpus * self.now.tick }
+        ensures few { result ≤ 160000000 }
     {
         u64::from(self.cpus) * self.tick
     }
@@ -40,7 +43,8 @@ impl Sizes {
 
 /// The first of the tops that is above this part of the whole, or the last.
 pub fn scale_of(part: Nanos, whole: Nanos) -> usize
-    ensures { result < 11 }
+    ensures same { result ≡ scale_of part whole }
+    ensures few { result < 11 }
 {
     for i in 0..SCALES - 1 {
         if u128::from(part) * 1000 < u128::from(TOPS[i]) * u128::from(whole) {
@@ -51,7 +55,9 @@ pub fn scale_of(part: Nanos, whole: Nanos) -> usize
 }
 
 /// What the top stands for that has this place.
-pub fn top_of(scale: usize) -> u64 {
+pub fn top_of(scale: usize) -> u64
+    ensures { result ≡ top_at scale }
+{
     match TOPS.get(scale) {
         Some(top) => *top,
         None => 1000,
@@ -60,7 +66,8 @@ pub fn top_of(scale: usize) -> u64 {
 
 /// How far this part of the whole stands below the top of a panel, in units.
 pub fn depth_of(part: Nanos, whole: Nanos, top: u64) -> u16
-    ensures { result ≤ 900 }
+    ensures same { result ≡ depth_of part whole top }
+    ensures few { result ≤ 900 }
 {
     let scale = u128::from(whole) * u128::from(top);
     if scale == 0 {

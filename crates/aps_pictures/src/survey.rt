@@ -1,7 +1,9 @@
 //! What the panels say of all samples that are shown, found in one pass over them.
-ghost use Rattle.std.specs.Prelude.{◌≡◌, ◌+◌, ◌*◌, ◌<◌, ◌≤◌, length, IfOk};
+ghost use Rattle.std.specs.Prelude.{◌≡◌, ℕ, ◌+◌, ◌-◌, ◌*◌, ◌<◌, ◌≤◌, length, IfOk, OnOk, if◌then◌else◌, slice_index, slice_index_or, Some, None};
 ghost use Rattle.aps_model.specs.Legal.{IsLegal};
 ghost use Rattle.aps_model.specs.Loaded.{finished_ticks};
+ghost use Rattle.aps_pictures.specs.Survey.{IsSurvey, bound_of, found_with, highest_of, less, more, no_found, peak_of, share_of, whole_of};
+ghost use Rattle.aps_pictures.specs.declared.scale.Sizes.{Sizes};
 ghost use Rattle.aps_samples.specs.Pass.{IsAt, scenario_of};
 
 use crate::scale::{Sizes, scale_of};
@@ -23,6 +25,7 @@ pub struct Range {
 impl Range {
     /// How many samples these are.
     pub fn count(&self) -> u64
+        ensures same { result ≡ self.now.end - self.now.from }
         ensures some { 0 < result }
         ensures few { result ≤ 100000000 }
     {
@@ -70,6 +73,7 @@ pub fn survey_of(
     requires legal { IsLegal history.now.scenario order history.now.entries }
     requires few { length history.now.entries ≤ 4000000 }
     requires finished { range.end ≤ finished_ticks history.now.scenario.shape history.now.entries }
+    ensures { IfOk result (IsSurvey history.now.scenario history.now.entries sizes range.from (range.end - range.from)) }
 {
     let mut survey = Survey::none(alloc);
     let mut samples = Samples::begin(alloc, history, order)?;
@@ -79,16 +83,15 @@ pub fn survey_of(
 
 impl Survey {
     /// Before the first sample.
-    fn none(alloc: Global) -> Survey {
+    fn none(alloc: Global) -> Survey
+        ensures unchanged { result.unchanged ≡ 0 }
+        ensures partial { result.partial ≡ None }
+        ensures found { (p : ℕ) → p < 32 → slice_index_or result.found p no_found ≡ no_found }
+    {
         Survey {
             unchanged: 0,
             partial: None,
-            found: [Found {
-                scale: 0,
-                critical: false,
-                most: None,
-                least: None,
-            }; PARTITIONS],
+            found: [Found::nothing(); PARTITIONS],
             rows: Vec::new(alloc),
         }
     }
@@ -105,52 +108,82 @@ impl Survey {
         requires of { scenario_of samples.old.cursor ≡ history.now.scenario }
         requires first { samples.old.tick ≡ 0 }
         requires finished { range.end ≤ finished_ticks history.now.scenario.shape history.now.entries }
+        requires none { IsSurvey history.now.scenario history.now.entries sizes range.from 0 self.old }
+        ensures { OnOk result (IsSurvey history.now.scenario history.now.entries sizes range.from (range.end - range.from) self.new) }
     {
-        for j in 0..range.end {
-            if j + 1 == range.end {
-                self.keep_rows(samples)?;
-            }
-            let sample = samples.next(history);
-            if range.from <= j {
-                self.add(&sample, sizes);
-            }
+        'skip: for j in 0..range.from {
+            samples.next(history);
         }
+        'take: for j in range.from..range.end - 1 {
+            let sample = samples.next(history);
+            self.add(&sample, sizes);
+        }
+        self.keep_rows(samples)?;
+        let sample = samples.next(history);
+        self.add(&sample, sizes);
         Ok(())
     }
 
     /// Keeps the rows that stand now.
-    fn keep_rows(&mut self, samples: &Samples) -> Result<(), NoMemory> {
+    fn keep_rows(&mut self, samples: &Samples) -> Result<(), NoMemory>
+        ensures unchanged { self.new.unchanged ≡ self.old.unchanged }
+        ensures partial { self.new.partial ≡ self.old.partial }
+        ensures found { self.new.found ≡ self.old.found }
+    {
         self.rows
             .extend_from_slice(samples.cursor.core.history().rows())
     }
 
     /// Adds a sample.
-    fn add(&mut self, sample: &Sample, sizes: Sizes) {
+    fn add(&mut self, sample: &Sample, sizes: Sizes)
+        requires { self.old.unchanged ≤ 100000000 }
+        ensures unchanged { self.new.unchanged
+            ≡ (if sample.now.unchanged then self.old.unchanged + 1 else self.old.unchanged) }
+        ensures partial { self.new.partial ≡ (if sample.now.full then self.old.partial else Some sample.now.tick) }
+        ensures found { (p : ℕ) → p < 32 → slice_index_or self.new.found p no_found
+            ≡ found_with sizes p (slice_index_or self.old.found p no_found) sample.now }
+    {
         if sample.unchanged {
-            self.unchanged = self.unchanged.saturating_add(1);
+            self.unchanged += 1;
         }
         if !sample.full {
             self.partial = Some(sample.tick);
         }
-        for p in 0..PARTITIONS {
-            self.found[p] = self.found[p].with(sample, sizes, p);
-        }
+        self.found = found_with(&self.found, sample, sizes);
     }
 }
 
+/// What is found of each partition with one sample more.
+fn found_with(found: &[Found; 32], sample: &Sample, sizes: Sizes) -> [Found; 32]
+    ensures { (p : ℕ) → p < 32 → slice_index_or result p no_found ≡ found_with sizes p (slice_index_or found.now p no_found) sample.now }
+{
+    let mut all = [Found::nothing(); PARTITIONS];
+    for p in 0..PARTITIONS {
+        all[p] = found[p].with(sample, sizes, p);
+    }
+    all
+}
+
 impl Found {
+    /// Before the first sample.
+    fn nothing() -> Found
+        ensures { result ≡ no_found }
+    {
+        Found {
+            scale: 0,
+            critical: false,
+            most: None,
+            least: None,
+        }
+    }
+
     /// What is found with one sample more, of the partition with this number.
     fn with(&self, sample: &Sample, sizes: Sizes, p: usize) -> Found
         requires { p < 32 }
+        ensures { result ≡ found_with sizes p self.now sample.now }
     {
         let whole = sizes.whole(sample.window);
-        let used = sample.usage.used[p];
-        let peak = Peak {
-            tick: sample.tick,
-            used,
-            whole,
-            share: share_of(used, whole),
-        };
+        let peak = peak_of(sample, whole, p);
         let highest = highest_of(sample, sizes, p);
         Found {
             scale: self.scale.max(scale_of(highest, whole)),
@@ -161,8 +194,24 @@ impl Found {
     }
 }
 
+/// What the partition used in the sample, whose window has so much processor time.
+fn peak_of(sample: &Sample, whole: Nanos, p: usize) -> Peak
+    requires { p < 32 }
+    ensures { (sizes : Sizes) → whole ≡ whole_of sizes sample.now → result ≡ peak_of sizes sample.now p }
+{
+    let used = sample.usage.used[p];
+    Peak {
+        tick: sample.tick,
+        used,
+        whole,
+        share: share_of(used, whole),
+    }
+}
+
 /// How many parts of 1,000 of the whole this is, rounded down.
-fn share_of(used: Nanos, whole: Nanos) -> u128 {
+fn share_of(used: Nanos, whole: Nanos) -> u128
+    ensures { result ≡ share_of used whole }
+{
     if whole == 0 {
         return 0;
     }
@@ -172,6 +221,7 @@ fn share_of(used: Nanos, whole: Nanos) -> u128 {
 /// The greatest of what is drawn of a partition in a sample, in ns.
 fn highest_of(sample: &Sample, sizes: Sizes, p: usize) -> Nanos
     requires { p < 32 }
+    ensures { result ≡ highest_of sizes sample.now p }
 {
     let drawn = sample.usage.used[p].max(sample.allowance[p]);
     if sample.unchanged {
@@ -185,6 +235,7 @@ fn highest_of(sample: &Sample, sizes: Sizes, p: usize) -> Nanos
 /// and a tick of each processor where it is allowed anything.
 pub fn bound_of(sample: &Sample, sizes: Sizes, p: usize) -> Nanos
     requires { p < 32 }
+    ensures { result ≡ bound_of sizes sample.now p }
 {
     let allowance = sample.allowance[p];
     let slack = if allowance > 0 {
@@ -200,7 +251,9 @@ pub fn bound_of(sample: &Sample, sizes: Sizes, p: usize) -> Nanos
 }
 
 /// The first of the greatest so far, where the peak counts.
-fn more(most: Option<Peak>, peak: Peak, counts: bool) -> Option<Peak> {
+fn more(most: Option<Peak>, peak: Peak, counts: bool) -> Option<Peak>
+    ensures { result ≡ more most peak counts }
+{
     match most {
         Some(first) if !counts || peak.share <= first.share => Some(first),
         _ => if counts { Some(peak) } else { None },
@@ -208,7 +261,9 @@ fn more(most: Option<Peak>, peak: Peak, counts: bool) -> Option<Peak> {
 }
 
 /// The first of the least so far, where the peak counts.
-fn less(least: Option<Peak>, peak: Peak, counts: bool) -> Option<Peak> {
+fn less(least: Option<Peak>, peak: Peak, counts: bool) -> Option<Peak>
+    ensures { result ≡ less least peak counts }
+{
     match least {
         Some(first) if !counts || first.share <= peak.share => Some(first),
         _ => if counts { Some(peak) } else { None },

@@ -2,6 +2,7 @@
 ghost use Rattle.std.specs.Prelude.{◌≡◌, ◌+◌, ◌*◌, ◌<◌, ◌≤◌, length};
 ghost use Rattle.aps_model.specs.Legal.{IsLegal};
 ghost use Rattle.aps_model.specs.Loaded.{finished_ticks};
+ghost use Rattle.aps_pictures.specs.Panel.{IsPlaced, rows_of_panels};
 
 use crate::group::{Groups, groups_of};
 use crate::panel::{Panel, add_panel};
@@ -168,7 +169,8 @@ fn add_top(out: &mut String, sizes: Sizes, unchanged: u64) -> Result<(), NoMemor
 /// How many panels stand below one another.
 fn height_of(count: usize) -> u64
     requires { count ≤ 32 }
-    ensures { result ≤ 32 }
+    ensures same { result ≡ rows_of_panels count }
+    ensures few { result ≤ 32 }
 {
     if count <= ONE_COLUMN {
         count as u64
@@ -199,6 +201,7 @@ fn add_panels(
 fn panel_at(p: usize, count: usize) -> Panel
     requires p { p < count }
     requires count { count ≤ 32 }
+    ensures { IsPlaced p count result }
 {
     if count <= ONE_COLUMN {
         return Panel {

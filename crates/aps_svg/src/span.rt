@@ -1,6 +1,6 @@
 //! The time that a picture shows.
 ghost use Rattle.std.specs.Prelude.{◌≡◌, ◌+◌, ◌-◌, ◌<◌, ◌≤◌};
-ghost use Rattle.aps_svg.specs.Span.{x_of};
+ghost use Rattle.aps_svg.specs.Span.{has, meets, within, x_of};
 
 use crate::sharing::share;
 use aps_model::Nanos;
@@ -30,17 +30,23 @@ impl Span {
     }
 
     /// Whether time from one moment to another meets the span.
-    pub fn meets(&self, from: Nanos, to: Nanos) -> bool {
+    pub fn meets(&self, from: Nanos, to: Nanos) -> bool
+        ensures { result ≡ meets self.now.from self.now.to from to }
+    {
         self.from < to && from < self.to
     }
 
     /// Whether the span has this moment; its end is one of it too.
-    pub fn has(&self, moment: Nanos) -> bool {
+    pub fn has(&self, moment: Nanos) -> bool
+        ensures { result ≡ has self.now.from self.now.to moment }
+    {
         self.from <= moment && moment <= self.to
     }
 
     /// How much of the time from one moment to another lies in the span.
-    pub fn within(&self, from: Nanos, to: Nanos) -> Nanos {
+    pub fn within(&self, from: Nanos, to: Nanos) -> Nanos
+        ensures { result ≡ within self.now.from self.now.to from to }
+    {
         to.min(self.to).saturating_sub(from.max(self.from))
     }
 

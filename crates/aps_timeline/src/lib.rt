@@ -3,6 +3,7 @@
 
 mod bar;
 mod lane;
+mod mark;
 mod strip;
 mod timeline;
 

@@ -1,9 +1,13 @@
 //! The strips below the lanes: overspent budgets, and changes.
-ghost use Rattle.std.specs.Prelude.{◌≡◌, ◌+◌, ◌*◌, ◌<◌, ◌≤◌, length};
+ghost use Rattle.std.specs.Prelude.{◌≡◌, ◌+◌, ◌*◌, ◌<◌, ◌≤◌, length, map, IfOk, OnOk, [], nat_lt, if◌then◌else◌};
+ghost use Rattle.aps_bars.specs.declared.alteration.Alteration.{Alteration};
+ghost use Rattle.aps_bars.specs.declared.overspent.Overspent.{Overspent};
+ghost use Rattle.aps_timeline.specs.Strip.{all_drawn, marks_of, room_behind, with_mark, with_moment};
 
+use crate::mark::Mark;
 use aps_bars::text::{add_alteration, row_name};
 use aps_bars::{Alteration, Overspent};
-use aps_model::{NoMemory, ThreadRow};
+use aps_model::{Nanos, NoMemory, ThreadRow};
 use aps_pictures::Scene;
 use aps_svg::element::add_text;
 use aps_svg::glyph::add_glyph;
@@ -24,15 +28,6 @@ const WIDTH: u64 = 14_000;
 /// How far a strip is below the last one.
 const STRIP: u64 = 240;
 
-/// A mark that is drawn: where, its place in its list, and how many of those behind it are left out.
-#[derive(Clone, Copy)]
-struct Mark {
-    x: u64,
-    place: usize,
-    more: u64,
-    ghost inside: { x ≤ 14000 },
-}
-
 /// The marks of both strips.
 #[derive(Drop)]
 pub struct Strips {
@@ -43,7 +38,9 @@ pub struct Strips {
 impl Strips {
     /// How many strips have a mark.
     pub fn count(&self) -> u64
-        ensures { result ≤ 2 }
+        ensures same { result
+            ≡ (if nat_lt 0 (length self.now.overspent.items) then 1 else 0) + (if nat_lt 0 (length self.now.changes.items) then 1 else 0) }
+        ensures few { result ≤ 2 }
     {
         let overspent = if self.overspent.is_empty() { 0 } else { 1 };
         let changes = if self.changes.is_empty() { 0 } else { 1 };
@@ -57,31 +54,77 @@ pub fn strips_of(
     span: &Span,
     alterations: &[Alteration],
     overspent: &[Overspent],
-) -> Result<Strips, NoMemory> {
-    let mut strips = Strips {
-        overspent: Vec::new(alloc),
-        changes: Vec::new(alloc),
-    };
+) -> Result<Strips, NoMemory>
+    ensures overspent { IfOk result (λ strips.
+        all_drawn strips.overspent.items ≡ marks_of span.now.from span.now.to (map (λ (one : Overspent). one.moment) overspent.now)) }
+    ensures changes { IfOk result (λ strips.
+        all_drawn strips.changes.items ≡ marks_of span.now.from span.now.to (map (λ (one : Alteration). one.moment) alterations.now)) }
+{
+    Ok(Strips {
+        overspent: marks_of_overspent(alloc, span, overspent)?,
+        changes: marks_of_changes(alloc, span, alterations)?,
+    })
+}
+
+/// The marks of overspent budgets in this span.
+fn marks_of_overspent(
+    alloc: Global,
+    span: &Span,
+    overspent: &[Overspent],
+) -> Result<Vec<Mark>, NoMemory>
+    ensures { IfOk result (λ marks.
+        all_drawn marks.items ≡ marks_of span.now.from span.now.to (map (λ (one : Overspent). one.moment) overspent.now)) }
+{
+    let mut marks = Vec::new(alloc);
     for (i, one) in overspent.iter().enumerate() {
-        if span.has(one.moment) {
-            add_mark(&mut strips.overspent, span.x_of(one.moment), i)?;
-        }
+        add_moment(&mut marks, span, one.moment, i)?;
     }
+    Ok(marks)
+}
+
+/// The marks of changes in this span.
+fn marks_of_changes(
+    alloc: Global,
+    span: &Span,
+    alterations: &[Alteration],
+) -> Result<Vec<Mark>, NoMemory>
+    ensures { IfOk result (λ marks.
+        all_drawn marks.items ≡ marks_of span.now.from span.now.to (map (λ (one : Alteration). one.moment) alterations.now)) }
+{
+    let mut marks = Vec::new(alloc);
     for (i, one) in alterations.iter().enumerate() {
-        if span.has(one.moment) {
-            add_mark(&mut strips.changes, span.x_of(one.moment), i)?;
-        }
+        add_moment(&mut marks, span, one.moment, i)?;
     }
-    Ok(strips)
+    Ok(marks)
+}
+
+/// The mark of a moment, where the span has it.
+fn add_moment(
+    marks: &mut Vec<Mark>,
+    span: &Span,
+    moment: Nanos,
+    place: usize,
+) -> Result<(), NoMemory>
+    ensures { OnOk result
+        (all_drawn marks.new.items ≡ with_moment span.now.from span.now.to (all_drawn marks.old.items) moment place) }
+{
+    if span.has(moment) {
+        add_mark(marks, span.x_of(moment), place)?;
+    }
+    Ok(())
 }
 
 /// The mark of what stands at this place of its list: it is counted at the last one where it is too near that.
 fn add_mark(marks: &mut Vec<Mark>, x: u64, place: usize) -> Result<(), NoMemory>
     requires { x ≤ 14000 }
+    ensures { OnOk result (all_drawn marks.new.items ≡ with_mark (all_drawn marks.old.items) x place) }
 {
-    if let Some(last) = marks.last_mut() {
+    if let Some(last) = marks.last().copied() {
         if x < last.x + NEAR {
-            last.more = last.more.saturating_add(1);
+            let end = marks.len() - 1;
+            let more = last.more.saturating_add(1);
+            let Mark { x, place, .. } = last;
+            marks[end] = Mark { x, place, more };
             return Ok(());
         }
     }
@@ -198,6 +241,7 @@ fn add_marked(
 /// How much room there is for a text behind the mark at this place.
 fn room_behind(marks: &[Mark], i: usize) -> u64
     requires { i < length marks.now }
+    ensures { result ≡ room_behind (all_drawn marks.now) i }
 {
     let end = match marks.get(i + 1) {
         Some(next) => next.x.saturating_sub(EMPTY),

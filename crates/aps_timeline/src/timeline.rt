@@ -1,6 +1,9 @@
 //! The picture of processors: a lane for each.
-ghost use Rattle.std.specs.Prelude.{◌≡◌, ◌+◌, ◌*◌, ◌<◌, ◌≤◌, length};
+ghost use Rattle.std.specs.Prelude.{◌≡◌, ◌+◌, ◌*◌, ◌<◌, ◌≤◌, length, IfOk};
+ghost use Rattle.std.specs.List.{filter};
+ghost use Rattle.aps_bars.specs.declared.starved.Starved.{Starved};
 ghost use Rattle.aps_model.specs.Legal.{IsLegal};
+ghost use Rattle.aps_svg.specs.Span.{meets};
 
 use crate::lane::{add_lane, add_stack_lane};
 use crate::strip::{Strips, add_strips, strips_of};
@@ -133,7 +136,9 @@ fn plan_of(
 }
 
 /// The bars without work that meet the span.
-fn shown_of(alloc: Global, span: &Span, bars: &[Starved]) -> Result<Vec<Starved>, NoMemory> {
+fn shown_of(alloc: Global, span: &Span, bars: &[Starved]) -> Result<Vec<Starved>, NoMemory>
+    ensures { IfOk result (λ shown. shown.items ≡ filter (λ (bar : Starved). meets span.now.from span.now.to bar.from bar.to) bars.now) }
+{
     let mut shown = Vec::new(alloc);
     for bar in bars {
         if span.meets(bar.from, bar.to) {

@@ -1,10 +1,21 @@
-use Rattle.std.proofs.Common.{◌≡◌}
+use Rattle.std.proofs.Common.{◌≡◌, ◌-◌}
 use Rattle.aps_samples.specs.Pass.{IsAt, scenario_of}
+use Rattle.aps_pictures.specs.Survey.{IsSurvey}
 use Rattle.aps_pictures.proofs.survey.Survey.pass.Given as goal
 
-abbrev pub invariant-loop-j : goal.invariant-loop-j
-invariant-loop-j l = record {
+-- the pass has come so far
+abbrev pub invariant-skip : goal.invariant-skip
+invariant-skip l = record {
   at : IsAt l.history.entries l.samples;
   of : scenario_of l.samples.cursor ≡ l.history.scenario;
   tick : l.samples.tick ≡ l.j;
+}
+
+-- and the survey tells of the ticks so far that are shown
+abbrev pub invariant-take : goal.invariant-take
+invariant-take l = record {
+  at : IsAt l.history.entries l.samples;
+  of : scenario_of l.samples.cursor ≡ l.history.scenario;
+  tick : l.samples.tick ≡ l.j;
+  told : IsSurvey l.history.scenario l.history.entries l.sizes l.fn.range.from (l.j - l.fn.range.from) l.self;
 }
