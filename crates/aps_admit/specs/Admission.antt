@@ -7,10 +7,11 @@ use Rattle.aps_admit.specs.declared.admission.Granted.{Granted}
 use Rattle.aps_admit.specs.declared.admission.Admission.{Admission}
 use Rattle.aps_admit.specs.declared.admission.Admission.TheVariants.{Budgets, Needs}
 use Rattle.aps_admit.specs.Least.{IsLeast, allowance, least_budget, total_slack}
+use Rattle.aps_model.specs.Limits.{most_critical}
 
 -- a need is at most all time of the longest window on all processors
 abbrev pub IsNeed : Demand → Type 0
-IsNeed demand = demand.need ≤ 64000000000
+IsNeed demand = demand.need ≤ most_critical
 
 -- ---- the answer, by computing
 

@@ -8,6 +8,7 @@ ghost use Rattle.aps_core.specs.Turn.{IsTaken, with_entry};
 ghost use Rattle.aps_bars.specs.Alteration.{altered_between};
 ghost use Rattle.aps_bars.specs.Bar.{AreLonger};
 ghost use Rattle.aps_bars.specs.Drawn.{IsDrawn};
+ghost use Rattle.aps_model.specs.Limits.{most_entries};
 
 use crate::alteration::{Alteration, add_cancels, add_commands};
 use crate::bar::{Lane, bar_of};
@@ -69,7 +70,7 @@ impl Drawn {
 /// runs out.
 pub fn drawn_of(alloc: Global, history: &History, order: Order) -> Result<Drawn, NoMemory>
     requires legal { IsLegal history.now.scenario order history.now.entries }
-    requires few { length history.now.entries ≤ 4000000 }
+    requires few { length history.now.entries ≤ most_entries }
     ensures { IfOk result (IsDrawn history.now.scenario history.now.entries) }
 {
     let scenario = history.scenario();

@@ -3,6 +3,7 @@ ghost use Rattle.std.specs.Prelude.{◌≡◌, ◌≤◌, IfOk, MatchOption};
 ghost use Rattle.aps_core.specs.Turn.{IsTaken, with_entry};
 ghost use Rattle.aps_check.specs.Breach.{IsBreach};
 ghost use Rattle.aps_check.specs.Verdict.{IsVerdict};
+ghost use Rattle.aps_model.specs.Limits.{most_entries};
 
 use crate::difference::first_difference;
 use crate::verdict::{Rule, Verdict};
@@ -25,7 +26,7 @@ pub fn check(
     journal: &[Entry],
 ) -> Result<Verdict, NoMemory>
     requires some { 1 ≤ limit }
-    requires few { limit ≤ 4000000 }
+    requires few { limit ≤ most_entries }
     ensures { IfOk result (IsVerdict (record { scenario = scenario.now; order = order; limit = limit }) journal.now) }
 {
     let mut core = Core::boot(alloc, scenario.copy(alloc)?, order, limit)?;

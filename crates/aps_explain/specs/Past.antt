@@ -20,6 +20,7 @@ use Rattle.aps_core.specs.Run.{Run}
 use Rattle.aps_core.specs.Small.{IsSmall}
 use Rattle.aps_lives.specs.Whole.{until}
 use Rattle.aps_explain.specs.Ties.{Ties, ties_of}
+use Rattle.aps_model.specs.Limits.{most_entries}
 
 -- a scenario, and the entries of its run so far
 pub record Past : Type 0 where
@@ -69,7 +70,7 @@ pub record IsScene (past : Past) (knots : Ties) (j : ℕ) (billed : Usage) (fact
   pub tied : knots ≡ ties_of (state_in past)
   pub tick : j ≡ tick_in past
   pub early : j ≤ 100000000
-  pub few : length past.entries ≤ 4000000
+  pub few : length past.entries ≤ most_entries
   pub usage : IsUsage (state_in past).shape.tick (j + 1 - (state_in past).shape.window) (j + 1) past.entries billed
   pub parts : facts ≡ parts_in past
   pub small : All IsSmall facts

@@ -5,6 +5,7 @@ ghost use Rattle.aps_model.specs.History.{IsEntry};
 ghost use Rattle.aps_model.specs.Shape.{IsShape};
 ghost use Rattle.aps_model.specs.Usage.{window_used};
 ghost use Rattle.aps_explain.specs.Again as spec;
+ghost use Rattle.aps_model.specs.Limits.{most_entries};
 
 use crate::scene::Scene;
 use aps_model::{Entry, Nanos, PartitionId, Shape, Usage, has_allowance};
@@ -41,7 +42,7 @@ impl Scene {
 fn is_back(shape: &Shape, entries: &[Entry], p: PartitionId, budget: u16, tick: u64) -> bool
     requires shape { IsShape shape.now }
     requires entries { All IsEntry entries.now }
-    requires few { length entries.now ≤ 4000000 }
+    requires few { length entries.now ≤ most_entries }
     requires budget { budget ≤ 1000 }
     requires tick { tick ≤ 100001000 }
     ensures { result ≡ in_budget shape.now (window_used shape.now entries.now tick p) budget }

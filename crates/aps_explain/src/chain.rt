@@ -4,12 +4,10 @@ ghost use Rattle.std.specs.List.{list_any};
 ghost use Rattle.aps_explain.specs.Chain as spec;
 
 use crate::scene::Scene;
+use aps_model::limits::MOST_THREADS;
 use aps_model::{NoMemory, ThreadId};
 use std::alloc::Global;
 use std::marker::Model;
-
-/// How many threads a scenario has at most.
-const MOST_THREADS: usize = 1024;
 
 /// The threads so far, and the next one, if there is one.
 #[derive(Drop)]

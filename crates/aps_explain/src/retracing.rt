@@ -9,6 +9,7 @@ ghost use Rattle.aps_core.specs.Turn.{IsTaken, with_entry};
 ghost use Rattle.aps_lives.specs.Whole.{until};
 ghost use Rattle.aps_explain.specs.Past.{past_at};
 ghost use Rattle.aps_explain.specs.Ties.{ties_of};
+ghost use Rattle.aps_model.specs.Limits.{last_moment, most_entries};
 
 use crate::scene::Scene;
 use crate::ties::Ties;
@@ -25,7 +26,7 @@ pub fn scene_at(
     at: Nanos,
 ) -> Result<Scene, NoMemory>
     requires legal { IsLegal history.now.scenario order history.now.entries }
-    requires few { length history.now.entries ≤ 4000000 }
+    requires few { length history.now.entries ≤ most_entries }
     ensures { IfOk result (λ scene. scene ≡ past_at history.now.scenario history.now.entries at) }
 {
     let scenario = history.scenario();
@@ -51,7 +52,7 @@ fn scene_of(
     requires entries { All IsEntry entries.now }
     requires legal { IsLegal core.setup.scenario core.setup.order entries.now }
     requires few { length entries.now ≤ core.setup.limit }
-    requires short { length entries.now ≤ 4000000 }
+    requires short { length entries.now ≤ most_entries }
     ensures { IfOk result (λ scene. scene ≡ record { scenario = core.setup.scenario; entries = entries.now }) }
 {
     let last = retrace(&mut core, &mut ties, entries)?;
@@ -82,7 +83,7 @@ fn retrace(core: &mut Core, ties: &mut Ties, entries: &[Entry]) -> Result<Nanos,
     ensures run { OnOk result (core.new ≡ record core.old { entries = entries.now }) }
     ensures tied { OnOk result (ties.new ≡ ties_of (state_of core.new)) }
     ensures last { IfOk result (λ last. last ≡ moment entries.now) }
-    ensures early { IfOk result (λ last. last ≤ 10000000000000) }
+    ensures early { IfOk result (λ last. last ≤ last_moment) }
 {
     let mut last = 0;
     for e in entries {

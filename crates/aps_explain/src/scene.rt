@@ -18,6 +18,7 @@ ghost use Rattle.aps_core.specs.Small.{IsSmall};
 ghost use Rattle.aps_explain.specs.Past as spec;
 ghost use Rattle.aps_explain.specs.Parts.{part_by, part_by_row};
 ghost use Rattle.aps_explain.specs.Ties.{newest_server, ties_of};
+ghost use Rattle.aps_model.specs.Limits.{last_moment, most_entries};
 
 use crate::ties::Ties;
 use aps_core::Core;
@@ -55,8 +56,8 @@ impl Scene {
     pub fn of(alloc: Global, core: Core, ties: Ties, last: Nanos) -> Result<Scene, NoMemory>
         requires tied { ties ≡ ties_of (state_of core) }
         requires last { last ≡ moment core.entries }
-        requires early { last ≤ 10000000000000 }
-        requires few { length core.entries ≤ 4000000 }
+        requires early { last ≤ last_moment }
+        requires few { length core.entries ≤ most_entries }
         ensures { IfOk result (λ scene. scene ≡ spec.past_of core) }
     {
         let tick = tick_of(&core, last);
@@ -97,7 +98,7 @@ impl Scene {
     /// The entries so far.
     pub fn entries(&self) -> &[Entry]
         ensures same { result.now ≡ self.now.entries }
-        ensures few { length result.now ≤ 4000000 }
+        ensures few { length result.now ≤ most_entries }
         ensures each { All IsEntry result.now }
     {
         self.core.history().entries()
@@ -221,7 +222,7 @@ impl Scene {
 
 /// The tick of a moment.
 fn tick_of(core: &Core, moment: Nanos) -> u64
-    requires { moment ≤ 10000000000000 }
+    requires { moment ≤ last_moment }
     ensures same { result ≡ moment / (state_of core.now).shape.tick }
     ensures early { result ≤ 100000000 }
     ensures wakes { spec.WakesSoon (state_of core.now) }
@@ -242,7 +243,7 @@ fn allowance(shape: &Shape, budget: u16) -> Nanos
 /// What each partition used in the window at a tick.
 fn usage_at(core: &Core, tick: u64) -> Usage
     requires early { tick ≤ 100000000 }
-    requires few { length core.now.entries ≤ 4000000 }
+    requires few { length core.now.entries ≤ most_entries }
     ensures same { IsUsage (state_of core.now).shape.tick (tick + 1 - (state_of core.now).shape.window) (tick + 1) core.now.entries result }
     ensures small { IsAtMost 100000000000000 result }
 {

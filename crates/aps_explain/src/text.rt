@@ -4,6 +4,7 @@ ghost use Rattle.std.specs.List.{flat_map};
 ghost use Rattle.aps_model.specs.Legal.{IsLegal};
 ghost use Rattle.aps_explain.specs.Chain.{explained};
 ghost use Rattle.aps_explain.specs.Text as spec;
+ghost use Rattle.aps_model.specs.Limits.{most_entries};
 
 use crate::chain::explained;
 use crate::lines::{add_again, add_because, add_head, add_part, add_state, add_values, since};
@@ -26,7 +27,7 @@ pub fn explain_text(
     at: Nanos,
 ) -> Result<String, NoMemory>
     requires legal { IsLegal history.now.scenario order history.now.entries }
-    requires few { length history.now.entries ≤ 4000000 }
+    requires few { length history.now.entries ≤ most_entries }
     requires thread { thread < length history.now.scenario.threads }
     ensures { IfOk result (λ text. string_bytes text ≡ spec.explain_text history.now.scenario history.now.entries thread at) }
 {

@@ -3,12 +3,9 @@ ghost use Rattle.std.specs.Prelude.{◌≡◌, ◌≤◌, ◌-◌, All, length, 
 ghost use Rattle.aps_model.specs.History.{IsEntry};
 ghost use Rattle.aps_latency.specs.Bills as spec;
 
+use aps_model::limits::{MOST_PARTITIONS, MOST_THREADS};
 use aps_model::{Entry, NoMemory, Usage};
 use std::alloc::Global;
-
-const PARTITIONS: usize = 32;
-
-const THREADS: usize = 1024;
 
 /// What each thread ran on the bill of each partition, and what of that was critical (ns), in one pass over these entries. There is
 /// a place for each number that a thread can have. `NoMemory` comes where memory runs out.
@@ -28,8 +25,8 @@ pub fn bills(alloc: Global, entries: &[Entry]) -> Result<Vec<Usage>, NoMemory>
 fn nothing(alloc: Global) -> Result<Vec<Usage>, NoMemory>
     ensures { IfOk result (λ bills. bills.items ≡ replicate 1024 spec.no_bills) }
 {
-    let mut bills = Vec::with_capacity(alloc, THREADS)?;
-    for _ in 0..THREADS {
+    let mut bills = Vec::with_capacity(alloc, MOST_THREADS)?;
+    for _ in 0..MOST_THREADS {
         bills.push(no_bills())?;
     }
     Ok(bills)
@@ -40,8 +37,8 @@ fn no_bills() -> Usage
     ensures { result ≡ spec.no_bills }
 {
     Usage {
-        used: [0; PARTITIONS],
-        critical: [0; PARTITIONS],
+        used: [0; MOST_PARTITIONS],
+        critical: [0; MOST_PARTITIONS],
     }
 }
 

@@ -7,6 +7,7 @@ ghost use Rattle.aps_steps.specs.Entry.{entry_of};
 ghost use Rattle.aps_latency.specs.Calls.{AreCalls};
 ghost use Rattle.aps_latency.specs.Followed.{AreFollowed};
 ghost use Rattle.aps_latency.specs.Following.{IsBeside};
+ghost use Rattle.aps_model.specs.Limits.{most_entries};
 
 use crate::call::Calls;
 use crate::callers::all_callers;
@@ -29,7 +30,7 @@ pub struct Followed {
 /// order of turns. `NoMemory` comes where memory runs out.
 pub fn calls(alloc: Global, history: &History, order: Order) -> Result<Vec<Calls>, NoMemory>
     requires legal { IsLegal history.now.scenario order history.now.entries }
-    requires few { length history.now.entries ≤ 4000000 }
+    requires few { length history.now.entries ≤ most_entries }
     ensures { IfOk result (λ calls. AreCalls history.now.scenario history.now.entries calls.items) }
 {
     let followed = follow_all(alloc, history, order)?;
@@ -40,7 +41,7 @@ pub fn calls(alloc: Global, history: &History, order: Order) -> Result<Vec<Calls
 /// legal in this order of turns. `NoMemory` comes where memory runs out.
 pub fn follow_all(alloc: Global, history: &History, order: Order) -> Result<Followed, NoMemory>
     requires legal { IsLegal history.now.scenario order history.now.entries }
-    requires few { length history.now.entries ≤ 4000000 }
+    requires few { length history.now.entries ≤ most_entries }
     ensures { IfOk result (AreFollowed history.now.scenario history.now.entries) }
 {
     let scenario = history.scenario();
@@ -54,7 +55,7 @@ pub fn follow_all(alloc: Global, history: &History, order: Order) -> Result<Foll
 /// steps of its run in fixed order, to the end. `NoMemory` comes where memory runs out.
 pub fn follow_run(alloc: Global, core: &mut Core) -> Result<Followed, NoMemory>
     requires begins { core.old.entries ≡ [] }
-    requires few { core.old.setup.limit ≤ 4000000 }
+    requires few { core.old.setup.limit ≤ most_entries }
     ensures setup { OnOk result (core.new.setup ≡ core.old.setup) }
     ensures ended { OnOk result (IsSome (end_of_run core.new)) }
     ensures followed { IfOk result (AreFollowed core.new.setup.scenario core.new.entries) }
@@ -72,7 +73,7 @@ fn follow(alloc: Global, core: &mut Core, entries: &[Entry]) -> Result<Followed,
     requires begins { core.old.entries ≡ [] }
     requires legal { IsLegal core.old.setup.scenario core.old.setup.order entries.now }
     requires few { length entries.now ≤ core.old.setup.limit }
-    requires short { core.old.setup.limit ≤ 4000000 }
+    requires short { core.old.setup.limit ≤ most_entries }
     ensures { IfOk result (AreFollowed core.old.setup.scenario entries.now) }
 {
     let mut following = Following::begin(alloc, core)?;
@@ -117,7 +118,7 @@ impl Following {
         requires beside { IsBeside core.old self.old }
         requires goes_on { end_of_run core.old ≡ None }
         requires turn { HasTurnIn core.old cpu }
-        requires few { core.old.setup.limit ≤ 4000000 }
+        requires few { core.old.setup.limit ≤ most_entries }
         ensures beside { OnOk result (IsBeside core.new self.new) }
         ensures run { OnOk result (core.new ≡ with_entry core.old (entry_of core.old cpu)) }
         ensures room { length core.old.entries < core.old.setup.limit }

@@ -5,6 +5,7 @@ ghost use Rattle.aps_model.specs.Legal.{IsLegal};
 ghost use Rattle.aps_laws.specs.Moments.{moment};
 ghost use Rattle.aps_latency.specs.Followed.{AreFollowed};
 ghost use Rattle.aps_latency.specs.Text as spec;
+ghost use Rattle.aps_model.specs.Limits.{most_entries};
 
 use crate::billing::bills;
 use crate::call::Calls;
@@ -37,7 +38,7 @@ impl Model for Known {
 /// turns. `NoMemory` comes where memory runs out.
 pub fn latency_text(alloc: Global, history: &History, order: Order) -> Result<String, NoMemory>
     requires legal { IsLegal history.now.scenario order history.now.entries }
-    requires few { length history.now.entries ≤ 4000000 }
+    requires few { length history.now.entries ≤ most_entries }
     ensures { IfOk result (λ text. string_bytes text ≡ spec.latency_text history.now.scenario history.now.entries) }
 {
     let followed = follow_all(alloc, history, order)?;
@@ -52,7 +53,7 @@ pub fn latency_text_of(
     followed: Followed,
 ) -> Result<String, NoMemory>
     requires followed { AreFollowed history.now.scenario history.now.entries followed }
-    requires few { length history.now.entries ≤ 4000000 }
+    requires few { length history.now.entries ≤ most_entries }
     ensures { IfOk result (λ text. string_bytes text ≡ spec.latency_text history.now.scenario history.now.entries) }
 {
     let known = known_of(alloc, history, followed)?;
@@ -68,7 +69,7 @@ pub fn latency_text_of(
 /// What is known of the threads of this history, with their lives and their calls.
 fn known_of(alloc: Global, history: &History, followed: Followed) -> Result<Known, NoMemory>
     requires followed { AreFollowed history.now.scenario history.now.entries followed }
-    requires few { length history.now.entries ≤ 4000000 }
+    requires few { length history.now.entries ≤ most_entries }
     ensures { IfOk result (spec.IsKnown history.now.scenario history.now.entries) }
 {
     let entries = history.entries();

@@ -6,18 +6,17 @@ ghost use Rattle.aps_latency.specs.Text as spec;
 use crate::answered::Answered;
 use crate::call::{Asked, Calls};
 use aps_lives::{Begun, Cycles, Doing, Life, Longest, Segment, Tally, Waits, tally_cycles};
+use aps_model::limits::MOST_PARTITIONS;
 use aps_model::{Name, Nanos, NoMemory, Usage};
 use std::alloc::Global;
 use std::fmt::Write;
 use std::str::from_utf8;
 
-const PARTITIONS: usize = 32;
-
 /// A line for each partition on whose bill the thread ran.
 pub fn add_bills(out: &mut String, bills: &Usage) -> Result<(), NoMemory>
     ensures { OnOk result (string_bytes out.new ≡ string_bytes out.old ++ spec.bill_lines (slice_index bills.now.used)) }
 {
-    for p in 0..PARTITIONS {
+    for p in 0..MOST_PARTITIONS {
         add_bill(out, p, bills.used[p])?;
     }
     Ok(())

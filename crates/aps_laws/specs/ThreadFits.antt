@@ -13,6 +13,7 @@ use Rattle.aps_model.specs.Program.{IsPriority}
 use Rattle.aps_model.specs.Scenario.{Scenario, op_at, thread_row}
 use Rattle.aps_model.specs.SchedulerState.{no_thread}
 use Rattle.aps_model.specs.Shape.{horizon}
+use Rattle.aps_model.specs.Limits.{last_moment}
 
 -- P holds of each of these threads, under its number
 abbrev pub Each : (ℕ → ThreadNow → Type 0) → List ThreadNow → Type 0
@@ -40,7 +41,7 @@ pub record IsThreadFit (scenario : Scenario) (rows x : ℕ) (t : ThreadNow) : Ty
   pub stands : StandsAt t.state (op_at scenario x t.place)
   pub endless : t.left ≡ None → op_at scenario x t.place ≡ Forever
   pub forever : op_at scenario x t.place ≡ Forever → t.left ≡ None
-  pub left_small : (n : ℕ) → t.left ≡ Some n → n ≤ 10000000000000
+  pub left_small : (n : ℕ) → t.left ≡ Some n → n ≤ last_moment
   pub wakes_soon : (u : ℕ) → t.state ≡ Sleeping u → u ≤ 20000000000000
   pub priority : IsPriority t.own.priority
   pub partition : t.own.partition < rows

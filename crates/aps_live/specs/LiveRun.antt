@@ -9,6 +9,7 @@ use Rattle.aps_live.specs.declared.turn.LiveTurn.TheVariants.{Back, Full, Took}
 use Rattle.aps_live.specs.LiveHistory.{IsLive, Taken, entries_of, latest, live_after}
 use Rattle.aps_live.specs.LiveState.{LiveState, live_opening}
 use Rattle.aps_live.specs.LiveStep.{live_step}
+use Rattle.aps_model.specs.Limits.{last_moment, most_entries}
 
 -- what a run was opened with
 pub record LiveSetup : Type 0 where
@@ -28,10 +29,10 @@ live_state_of run = live_after run.setup.scenario (live_opening run.setup.scenar
 pub record IsLiveRun (run : LiveRun) : Type 0 where
   pub valid : IsScenario run.setup.scenario
   pub some : 1 ≤ run.setup.limit
-  pub few : run.setup.limit ≤ 4000000
+  pub few : run.setup.limit ≤ most_entries
   pub live : IsLive run.setup.scenario run.steps
   pub fits : length run.steps ≤ run.setup.limit
-  pub early : latest (entries_of run.steps) ≤ 10000000000000
+  pub early : latest (entries_of run.steps) ≤ last_moment
 
 -- the moment is before the latest one of the run, which is this
 pub record IsBack (run : LiveRun) (now seen : ℕ) : Type 0 where

@@ -6,6 +6,7 @@ ghost use Rattle.aps_model.specs.Shape.{IsShape};
 ghost use Rattle.aps_ready.specs.Small.{IsSmall};
 ghost use Rattle.aps_live.specs.Part.{part_of};
 ghost use Rattle.aps_live.specs.Tied.{FitsTicks, IsTied};
+ghost use Rattle.aps_model.specs.Limits.{last_moment, most_critical};
 
 use aps_model::{
     Entry, Nanos, PartFacts, PartitionId, PartitionRow, Shape, has_allowance, overlap,
@@ -34,7 +35,7 @@ pub fn bill_entry(window: &mut Window, _before: &[Entry], tick: u64, e: &Entry)
     requires some { 100000 ≤ tick }
     requires short { tick ≤ 10000000 }
     requires forward { e.now.from ≤ e.now.to }
-    requires early { e.now.to ≤ 10000000000000 }
+    requires early { e.now.to ≤ last_moment }
     requires now { window.old.tick ≡ e.now.to / tick }
     ensures tied { IsTied tick window.new (_before.now ++ e.now ∷ []) }
     ensures tick { window.new.tick ≡ window.old.tick }
@@ -52,7 +53,7 @@ fn bill_ticks(window: &mut Window, _before: &[Entry], tick: u64, e: &Entry, p: P
     requires some { 100000 ≤ tick }
     requires short { tick ≤ 10000000 }
     requires forward { e.now.from ≤ e.now.to }
-    requires early { e.now.to ≤ 10000000000000 }
+    requires early { e.now.to ≤ last_moment }
     requires now { window.old.tick ≡ e.now.to / tick }
     requires billed { e.now.billed ≡ Some p }
     ensures tied { IsTied tick window.new (_before.now ++ e.now ∷ []) }
@@ -73,7 +74,7 @@ fn bill_ticks(window: &mut Window, _before: &[Entry], tick: u64, e: &Entry, p: P
 fn part_of(shape: &Shape, row: &PartitionRow, spent: Nanos, critical: Nanos) -> PartFacts
     requires shape { IsShape shape.now }
     requires row { IsRow row.now }
-    requires spent { spent ≤ 64000000000 }
+    requires spent { spent ≤ most_critical }
     ensures same { result ≡ part_of shape.now row.now spent critical }
     ensures small { IsSmall result }
 {

@@ -2,6 +2,7 @@ ghost use Rattle.std.specs.Prelude.{◌≡◌, ℕ, ◌+◌, ◌-◌, ◌<◌, �
 ghost use Rattle.aps_live.specs.LiveHistory.{NamesThread};
 ghost use Rattle.aps_live.specs.Seats.{HasAllCpus, HasCpu, HasSeen, IsSeatOf, IsSeatTurn, own_steps, taken};
 ghost use Rattle.aps_live.specs.Seen.{longer};
+ghost use Rattle.aps_model.specs.Limits.{last_moment, most_entries};
 
 use crate::event::LiveEvent;
 use crate::history::LiveHistory;
@@ -47,7 +48,7 @@ impl Live {
     /// tick, window, parts and policies are used. All memory is taken here; `NoMemory` drops the scenario.
     pub fn open(alloc: Global, scenario: Scenario, limit: u32) -> Result<(Live, LiveSeat), NoMemory>
         requires some { 1 ≤ limit }
-        requires few { limit ≤ 4000000 }
+        requires few { limit ≤ most_entries }
         ensures live { IfOk result (λ r. r.0.setup ≡ record { scenario = scenario; limit = limit }) }
         ensures seat { IfOk result (λ r. r.1
             ≡ record { table = r.0.table; seen = record { setup = r.0.setup; steps = [] }; first = 0; last = scenario.shape.cpus - 1 }) }
@@ -88,7 +89,7 @@ impl Live {
     ) -> LiveTurn
         requires seat { IsSeatOf self.now seat.old }
         requires cpu { HasCpu seat.old cpu }
-        requires early { now ≤ 10000000000000 }
+        requires early { now ≤ last_moment }
         requires named { NamesThread self.now.setup.scenario event }
         ensures turn { IsSeatTurn seat.old cpu now event result seat.new }
         ensures own { own_steps seat.old.first seat.old.last seat.new.seen.steps

@@ -6,6 +6,7 @@ ghost use Rattle.aps_window.specs.Window.{opened};
 ghost use Rattle.aps_live.specs.LiveHistory.{NamesThread, entries_of, events_of, latest};
 ghost use Rattle.aps_live.specs.LiveState.{live_opening};
 ghost use Rattle.aps_live.specs.LiveRun.{IsLiveRun, IsLiveTurn, IsOwn, IsTaken, after_live_turn, with_step};
+ghost use Rattle.aps_model.specs.Limits.{last_moment, most_entries};
 
 use crate::append::{push_entry, push_event};
 use crate::bills::fill_parts;
@@ -65,7 +66,7 @@ impl LiveCore {
     /// where it isn't there the answer is `NoMemory`, and the scenario is dropped.
     pub fn begin(alloc: Global, scenario: Scenario, limit: u32) -> Result<LiveCore, NoMemory>
         requires some { 1 ≤ limit }
-        requires few { limit ≤ 4000000 }
+        requires few { limit ≤ most_entries }
         ensures { IfOk result (λ core. core ≡ record { setup = record { scenario = scenario; limit = limit }; steps = [] }) }
     {
         let (machine, window) = start_state(alloc, &scenario)?;
@@ -111,7 +112,7 @@ impl LiveCore {
     /// One step of the processor at this moment.
     pub fn step(&mut self, cpu: CpuId, now: Nanos, event: LiveEvent) -> LiveTurn
         requires cpu { cpu < self.old.setup.scenario.shape.cpus }
-        requires early { now ≤ 10000000000000 }
+        requires early { now ≤ last_moment }
         requires named { NamesThread self.old.setup.scenario event }
         ensures turn { IsLiveTurn self.old cpu now event result }
         ensures run { self.new ≡ after_live_turn self.old event result }
@@ -131,7 +132,7 @@ impl LiveCore {
     /// The step of a run that has room, at a moment that isn't before its latest one.
     fn take(&mut self, cpu: CpuId, now: Nanos, event: LiveEvent) -> Entry
         requires cpu { cpu < self.old.setup.scenario.shape.cpus }
-        requires early { now ≤ 10000000000000 }
+        requires early { now ≤ last_moment }
         requires named { NamesThread self.old.setup.scenario event }
         requires after { latest (entries_of self.old.steps) ≤ now }
         requires room { length self.old.steps < self.old.setup.limit }

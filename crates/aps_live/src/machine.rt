@@ -6,6 +6,7 @@ ghost use Rattle.aps_live.specs.declared.event.LiveEvent.TheVariants.{Wake};
 ghost use Rattle.aps_live.specs.LiveState.{live_cpu_at, live_opening};
 ghost use Rattle.aps_live.specs.LiveStep.{doing_after, live_chosen, live_contenders, released, woken};
 ghost use Rattle.aps_live.specs.Machine.{IsReadyAmong};
+ghost use Rattle.aps_model.specs.Limits.{most_entries};
 
 mod part;
 mod seat;
@@ -97,7 +98,7 @@ impl LiveMachine {
 
     /// A waiting thread that is woken is ready, with a new stamp.
     pub fn wake(&mut self, event: LiveEvent)
-        requires room { self.old.stamps ≤ 4000000 }
+        requires room { self.old.stamps ≤ most_entries }
         requires named { (x : ℕ) → event ≡ Wake x → x < length self.old.threads }
         ensures { self.new ≡ woken self.old event }
     {
@@ -108,7 +109,7 @@ impl LiveMachine {
 
     /// The same, of this thread.
     fn wake_thread(&mut self, x: ThreadId)
-        requires room { self.old.stamps ≤ 4000000 }
+        requires room { self.old.stamps ≤ most_entries }
         requires inside { x < length self.old.threads }
         ensures { self.new ≡ woken self.old (Wake x) }
     {

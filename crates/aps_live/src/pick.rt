@@ -7,6 +7,7 @@ ghost use Rattle.aps_live.specs.declared.event.LiveEvent.TheVariants.{Wake};
 ghost use Rattle.aps_live.specs.LiveState.{live_cpu_at};
 ghost use Rattle.aps_live.specs.LiveStep.{live_pick, live_settled};
 ghost use Rattle.aps_live.specs.Tied.{FitsTicks, IsTied};
+ghost use Rattle.aps_model.specs.Limits.{last_moment, most_entries};
 
 use crate::bills::bill_entry;
 use crate::event::LiveEvent;
@@ -45,7 +46,7 @@ pub fn bill_now(window: &mut Window, before: &[Entry], tick: u64, was: Nanos, e:
     requires some { 100000 ≤ tick }
     requires short { tick ≤ 10000000 }
     requires forward { e.now.from ≤ e.now.to }
-    requires early { e.now.to ≤ 10000000000000 }
+    requires early { e.now.to ≤ last_moment }
     requires was { window.old.tick ≡ was / tick }
     requires later { was ≤ e.now.to }
     ensures tied { IsTied tick window.new (before.now ++ e.now ∷ []) }
@@ -72,7 +73,7 @@ fn advance_to(window: &mut Window, _before: &[Entry], _tick: u64, was_tick: u64,
 /// The processor lets go of the thread that it ran, and a thread is woken.
 pub fn settle(machine: &mut LiveMachine, cpu: CpuId, event: LiveEvent)
     requires cpu { cpu < length machine.old.cpus }
-    requires room { machine.old.stamps ≤ 4000000 }
+    requires room { machine.old.stamps ≤ most_entries }
     requires named { (x : ℕ) → event ≡ Wake x → x < length machine.old.threads }
     ensures same { machine.new ≡ live_settled machine.old cpu event }
     ensures idle { live_cpu_at machine.new cpu ≡ None }

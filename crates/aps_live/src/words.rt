@@ -6,6 +6,7 @@ ghost use Rattle.aps_live.specs.Kinds.{IsStepped, cut_left, cut_right, joined};
 ghost use Rattle.aps_live.specs.Rule.{IsFor, IsServed};
 ghost use Rattle.aps_live.specs.Seen.{IsSeenIn};
 ghost use Rattle.aps_live.specs.declared.view.Ticket.TheVariants.{NoTicket, Served, Waiting};
+ghost use Rattle.aps_model.specs.Limits.{last_moment};
 
 use crate::event::LiveEvent;
 use crate::live_core::LiveCore;
@@ -122,7 +123,7 @@ pub(crate) fn turn_place<R: Wait>(
     requires seat { (place.old.me.0.live ≡ true) × (place.old.me.0.ticket ≡ NoTicket) × (place.old.me.1 ≡ []) }
     requires cpu { (place.old.me.0.first ≤ cpu) × (cpu < place.old.me.0.after)
         × (place.old.me.0.after ≤ place.old.me.0.seen.setup.scenario.shape.cpus) }
-    requires early { now ≤ 10000000000000 }
+    requires early { now ≤ last_moment }
     requires named { NamesThread place.old.me.0.seen.setup.scenario event }
     ensures table { place.new.table_id ≡ place.old.table_id }
     ensures seat { (found : LiveRun) × IsSeenIn place.old.me.0.first place.old.me.0.after place.old.me.0.seen found

@@ -4,6 +4,7 @@ ghost use Rattle.aps_model.specs.Legal.{IsLegal};
 ghost use Rattle.aps_model.specs.Valid.{IsScenario};
 ghost use Rattle.aps_core.specs.Turn.{IsTaken, with_entry};
 ghost use Rattle.aps_lives.specs.Life.{AreLives};
+ghost use Rattle.aps_model.specs.Limits.{most_entries};
 
 use crate::growing::GrowingLives;
 use crate::life::Life;
@@ -15,7 +16,7 @@ use std::alloc::Global;
 /// order of turns. `NoMemory` comes where memory runs out.
 pub fn lives(alloc: Global, history: &History, order: Order) -> Result<Vec<Life>, NoMemory>
     requires legal { IsLegal history.now.scenario order history.now.entries }
-    requires few { length history.now.entries ≤ 4000000 }
+    requires few { length history.now.entries ≤ most_entries }
     ensures { IfOk result (λ lives. AreLives history.now.scenario history.now.entries lives.items) }
 {
     let count = history.scenario().threads().len();
@@ -33,7 +34,7 @@ fn grow(
     order: Order,
 ) -> Result<(), NoMemory>
     requires legal { IsLegal history.now.scenario order history.now.entries }
-    requires few { length history.now.entries ≤ 4000000 }
+    requires few { length history.now.entries ≤ most_entries }
     requires unborn { lives.old ≡ replicate (length history.now.scenario.threads) [] }
     ensures { OnOk result (AreLives history.now.scenario history.now.entries lives.new) }
 {
@@ -43,7 +44,7 @@ fn grow(
 
 /// A core that has made no step of the history's scenario, with room for all its entries.
 fn boot(alloc: Global, history: &History, order: Order) -> Result<Core, NoMemory>
-    requires { length history.now.entries ≤ 4000000 }
+    requires { length history.now.entries ≤ most_entries }
     ensures same { IfOk result (λ core. core ≡ record {
       setup = record { scenario = history.now.scenario; order = order; limit = max (length history.now.entries) 1 };
       entries = [];

@@ -3,6 +3,7 @@ ghost use Rattle.std.specs.Prelude.{◌≡◌, ◌≤◌, ◌++◌, length, stri
 ghost use Rattle.std.specs.List.{flat_map, enumerate_from};
 ghost use Rattle.aps_model.specs.Legal.{IsLegal};
 ghost use Rattle.aps_lives.specs.Text as spec;
+ghost use Rattle.aps_model.specs.Limits.{most_entries};
 
 use crate::cycle::{Cycle, Cycles, Times};
 use crate::life::Life;
@@ -18,7 +19,7 @@ use std::str::from_utf8;
 /// legal in this order of turns. `NoMemory` comes where memory runs out.
 pub fn cycles_text(alloc: Global, history: &History, order: Order) -> Result<String, NoMemory>
     requires legal { IsLegal history.now.scenario order history.now.entries }
-    requires few { length history.now.entries ≤ 4000000 }
+    requires few { length history.now.entries ≤ most_entries }
     ensures { IfOk result (λ text. string_bytes text ≡ spec.cycles_text history.now.scenario history.now.entries) }
 {
     let lives = lives(alloc, history, order)?;

@@ -3,6 +3,7 @@
 use crate::cpu_set::CpuSet;
 use crate::turns::{Turns, last_cpu};
 use aps_core::Core;
+use aps_model::limits::MOST_CPUS;
 use aps_model::{CpuId, NoMemory};
 use crossbeam_utils::CachePadded;
 use crossbeam_utils::sync::EventCount;
@@ -11,9 +12,6 @@ use std::sync::Wait;
 use std::sync::atomic::Ordering::SeqCst;
 use std::sync::atomic::{AtomicBool, AtomicU64};
 use std::{hint, thread};
-
-/// The most processors.
-const CPUS: usize = 16;
 
 /// So many processors of the machine the drivers are taken to have until they are told.
 const USUAL_CORES: u64 = 4;
@@ -75,8 +73,8 @@ impl Hint {
     /// At the turns that come next in this core, with no driver at hand. `NoMemory` comes where there is no room for 16
     /// doors.
     pub(crate) fn begin(alloc: Global, core: &Core) -> Result<Hint, NoMemory> {
-        let mut doors = Vec::with_capacity(alloc, CPUS)?;
-        for _ in 0..CPUS {
+        let mut doors = Vec::with_capacity(alloc, MOST_CPUS)?;
+        for _ in 0..MOST_CPUS {
             doors.push(CachePadded::new(Door::new()))?;
         }
         let turns = Turns::after(core, USUAL_CORES);
@@ -137,7 +135,7 @@ impl Hint {
     /// Wakes the drivers that come soon; all, where one that has the turn isn't at hand.
     fn wake(&self, turns: Turns) {
         let mut left = turns.soon;
-        for c in 0..CPUS {
+        for c in 0..MOST_CPUS {
             let cpu = CpuId::at(c);
             if left.is_empty() {
                 return;
@@ -176,7 +174,7 @@ impl Hint {
 
     /// Notes for each of these processors whether a driver waits for its turn or takes it.
     pub(crate) fn set_at_hand(&self, cpus: CpuSet, is_at_hand: bool) {
-        for c in 0..CPUS {
+        for c in 0..MOST_CPUS {
             if cpus.has(CpuId::at(c)) {
                 if let Some(door) = self.doors.get(c) {
                     door.is_at_hand.store(is_at_hand, SeqCst);
@@ -196,7 +194,7 @@ impl Hint {
     /// Whether each processor that may have the turn has a driver at hand.
     fn has_drivers(&self) -> bool {
         let next = self.turns().next;
-        for c in 0..CPUS {
+        for c in 0..MOST_CPUS {
             let cpu = CpuId::at(c);
             if next.has(cpu) && !self.is_at_hand(cpu) {
                 return false;

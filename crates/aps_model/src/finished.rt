@@ -4,12 +4,12 @@ ghost use Rattle.aps_model.specs.History.{IsEntry};
 ghost use Rattle.aps_model.specs.Shape.{IsShape};
 ghost use Rattle.aps_model.specs.Due.{last_end};
 ghost use Rattle.aps_model.specs.Loaded.{finished_ticks};
+ghost use Rattle.aps_model.specs.Limits.{last_moment};
 
 use crate::entry::Entry;
 use crate::ids::Nanos;
+use crate::limits::MOST_CPUS;
 use crate::shape::Shape;
-
-const CPUS: usize = 16;
 
 /// The number of whole ticks that every processor has billed, by the shape's tick and number of processors. See
 /// `docs/DEFINITIONS.md`, Finished.
@@ -34,12 +34,12 @@ fn earlier(a: Nanos, b: Nanos) -> Nanos
 }
 
 /// Where the last entry of each processor ended, or 0 where it has none.
-fn last_ends(entries: &[Entry]) -> [Nanos; CPUS]
+fn last_ends(entries: &[Entry]) -> [Nanos; MOST_CPUS]
     requires { All IsEntry entries.now }
     ensures same { (c : ℕ) → c < 16 → slice_index result c ≡ last_end entries.now c }
-    ensures early { All (λ end. end ≤ 10000000000000) result }
+    ensures early { All (λ end. end ≤ last_moment) result }
 {
-    let mut ends = [0; CPUS];
+    let mut ends = [0; MOST_CPUS];
     for e in entries {
         ends[e.cpu.index()] = e.to;
     }

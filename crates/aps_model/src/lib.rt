@@ -10,6 +10,7 @@ pub mod finished;
 pub mod history;
 pub mod ids;
 pub mod laws;
+pub mod limits;
 pub mod merit;
 pub mod name;
 pub mod partition;

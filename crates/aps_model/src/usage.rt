@@ -6,8 +6,7 @@ ghost use Rattle.aps_model.specs.Sums.{IsAtMost, IsBilled, IsUsage};
 
 use crate::entry::Entry;
 use crate::ids::Nanos;
-
-const PARTITIONS: usize = 32;
+use crate::limits::MOST_PARTITIONS;
 
 /// How much of the time from one moment to another lies in ticks `a` to `b - 1`, where a tick has so many ns.
 pub fn overlap(tick: u64, a: u64, b: u64, from: Nanos, to: Nanos) -> Nanos
@@ -22,8 +21,8 @@ pub fn overlap(tick: u64, a: u64, b: u64, from: Nanos, to: Nanos) -> Nanos
 /// What each partition used in some ticks, and what of that was critical, in nanoseconds.
 #[derive(Clone, Copy)]
 pub struct Usage {
-    pub used: [Nanos; PARTITIONS],
-    pub critical: [Nanos; PARTITIONS],
+    pub used: [Nanos; MOST_PARTITIONS],
+    pub critical: [Nanos; MOST_PARTITIONS],
 }
 
 impl Usage {
@@ -37,8 +36,8 @@ impl Usage {
         ensures small { IsAtMost (10000000 * length entries.now) result }
     {
         let mut usage = Usage {
-            used: [0; PARTITIONS],
-            critical: [0; PARTITIONS],
+            used: [0; MOST_PARTITIONS],
+            critical: [0; MOST_PARTITIONS],
         };
         for e in entries {
             let ns = overlap(tick, a, b, e.from, e.to);

@@ -6,14 +6,14 @@ ghost use Rattle.aps_pictures.specs.Group.{IsEmptyGroup, joined, no_point, point
 ghost use Rattle.aps_pictures.specs.Scale.{depth_of, top_at};
 ghost use Rattle.aps_pictures.specs.Survey.{no_found, whole_of};
 ghost use Rattle.aps_samples.specs.Pass.{IsAt, scenario_of};
+ghost use Rattle.aps_model.specs.Limits.{most_entries};
 
 use crate::scale::{Sizes, depth_of, top_of};
 use crate::survey::{Range, Survey, bound_of};
+use aps_model::limits::MOST_PARTITIONS;
 use aps_model::{History, NoMemory, Order};
 use aps_samples::{Sample, Samples};
 use std::alloc::Global;
-
-const PARTITIONS: usize = 32;
 
 /// How many points a line has at most.
 const POINTS: u64 = 1000;
@@ -38,14 +38,14 @@ pub struct Group {
     pub from: u64,
     pub end: u64,
     pub unchanged: bool,
-    pub points: [Point; PARTITIONS],
+    pub points: [Point; MOST_PARTITIONS],
 }
 
 /// All groups, how many samples each has but the last, and how far below the top each partition's line begins.
 #[derive(Drop)]
 pub struct Groups {
     pub size: u64,
-    pub begins: [u16; PARTITIONS],
+    pub begins: [u16; MOST_PARTITIONS],
     pub groups: Vec<Group>,
 }
 
@@ -59,12 +59,12 @@ pub fn groups_of(
     survey: &Survey,
 ) -> Result<Groups, NoMemory>
     requires legal { IsLegal history.now.scenario order history.now.entries }
-    requires few { length history.now.entries ≤ 4000000 }
+    requires few { length history.now.entries ≤ most_entries }
     requires finished { range.end ≤ finished_ticks history.now.scenario.shape history.now.entries }
 {
     let mut groups = Groups {
         size: range.count().div_ceil(POINTS),
-        begins: [900; PARTITIONS],
+        begins: [900; MOST_PARTITIONS],
         groups: Vec::new(alloc),
     };
     let tops = tops_of(survey);
@@ -77,8 +77,8 @@ pub fn groups_of(
 fn tops_of(survey: &Survey) -> [u64; 32]
     ensures { (p : ℕ) → p < 32 → slice_index_or result p 0 ≡ top_at (slice_index_or survey.now.found p no_found).scale }
 {
-    let mut tops = [0; PARTITIONS];
-    for p in 0..PARTITIONS {
+    let mut tops = [0; MOST_PARTITIONS];
+    for p in 0..MOST_PARTITIONS {
         tops[p] = top_of(survey.found[p].scale);
     }
     tops
@@ -145,8 +145,8 @@ fn begins_at(sample: &Sample, sizes: Sizes, tops: &[u64; 32]) -> [u16; 32]
         ≡ depth_of (slice_index sample.now.usage.used p) (whole_of sizes sample.now) (slice_index_or tops.now p 0) }
 {
     let whole = sizes.whole(sample.window);
-    let mut begins = [0; PARTITIONS];
-    for p in 0..PARTITIONS {
+    let mut begins = [0; MOST_PARTITIONS];
+    for p in 0..MOST_PARTITIONS {
         begins[p] = depth_of(sample.usage.used[p], whole, tops[p]);
     }
     begins
@@ -156,8 +156,8 @@ fn begins_at(sample: &Sample, sizes: Sizes, tops: &[u64; 32]) -> [u16; 32]
 fn lacking(samples: &Samples, rows: usize, j: u64) -> [bool; 32]
     ensures { (p : ℕ) → p < 32 → slice_index_or result p false ≡ (nat_lt p rows && nat_lt j (slice_index samples.now.lasts.lacked p)) }
 {
-    let mut all = [false; PARTITIONS];
-    for p in 0..PARTITIONS {
+    let mut all = [false; MOST_PARTITIONS];
+    for p in 0..MOST_PARTITIONS {
         all[p] = p < rows && samples.lasts.lacked[p] > j;
     }
     all
@@ -171,7 +171,7 @@ fn empty_group(place: u64) -> Group
         from: place,
         end: place,
         unchanged: true,
-        points: [no_point(); PARTITIONS],
+        points: [no_point(); MOST_PARTITIONS],
     }
 }
 
@@ -218,8 +218,8 @@ fn points_with(
         ≡ joined (slice_index_or points.now p unread_point)
         (point_of sizes p (slice_index_or tops.now p 0) (slice_index_or lacking.now p false) sample.now) }
 {
-    let mut all = [no_point(); PARTITIONS];
-    for p in 0..PARTITIONS {
+    let mut all = [no_point(); MOST_PARTITIONS];
+    for p in 0..MOST_PARTITIONS {
         let next = point_of(sample, sizes, p, tops[p], lacking[p]);
         all[p] = joined(&points[p], &next);
     }

@@ -4,6 +4,7 @@ ghost use Rattle.aps_model.specs.After.{state_after};
 ghost use Rattle.aps_model.specs.Legal.{IsLegal};
 ghost use Rattle.aps_model.specs.Valid.{IsScenario};
 ghost use Rattle.aps_pictures.specs.Scene.{IsStanding, up_to};
+ghost use Rattle.aps_model.specs.Limits.{most_entries};
 
 use aps_core::Core;
 use aps_model::{Entry, History, Nanos, NoMemory, Order, PartitionRow};
@@ -26,7 +27,7 @@ pub fn standing_at(
     moment: Nanos,
 ) -> Result<Standing, NoMemory>
     requires legal { IsLegal history.now.scenario order history.now.entries }
-    requires few { length history.now.entries ≤ 4000000 }
+    requires few { length history.now.entries ≤ most_entries }
     ensures { IfOk result (IsStanding history.now moment) }
 {
     let mut core = boot(alloc, history, order)?;

@@ -3,6 +3,7 @@ ghost use Rattle.std.specs.Prelude.{◌≡◌, ◌+◌, ◌*◌, ◌<◌, ◌≤
 ghost use Rattle.aps_model.specs.Legal.{IsLegal};
 ghost use Rattle.aps_model.specs.Shape.{IsShape};
 ghost use Rattle.aps_pictures.specs.Scene.{IsScene, asked_end, end_of, last_begin, shown_end};
+ghost use Rattle.aps_model.specs.Limits.{most_entries};
 
 use crate::retracing::standing_at;
 use crate::scene::{Scene, Stretch};
@@ -24,7 +25,7 @@ impl Scene {
         ticks: Ticks,
     ) -> Result<Scene, NoMemory>
         requires legal { IsLegal history.now.scenario order history.now.entries }
-        requires few { length history.now.entries ≤ 4000000 }
+        requires few { length history.now.entries ≤ most_entries }
         ensures { IfOk result (IsScene history.now ticks) }
     {
         let shape = *history.scenario().shape();

@@ -5,13 +5,13 @@ ghost use Rattle.aps_model.specs.Loaded.{finished_ticks};
 ghost use Rattle.aps_pictures.specs.Survey.{IsSurvey, bound_of, found_with, highest_of, less, more, no_found, peak_of, share_of, whole_of};
 ghost use Rattle.aps_pictures.specs.declared.scale.Sizes.{Sizes};
 ghost use Rattle.aps_samples.specs.Pass.{IsAt, scenario_of};
+ghost use Rattle.aps_model.specs.Limits.{most_entries};
 
 use crate::scale::{Sizes, scale_of};
+use aps_model::limits::MOST_PARTITIONS;
 use aps_model::{History, Nanos, NoMemory, Order, PartitionRow};
 use aps_samples::{Sample, Samples};
 use std::alloc::Global;
-
-const PARTITIONS: usize = 32;
 
 /// The samples that are shown: of these ticks, from one to before another.
 #[derive(Clone, Copy)]
@@ -58,7 +58,7 @@ pub struct Found {
 pub struct Survey {
     pub unchanged: u64,
     pub partial: Option<u64>,
-    pub found: [Found; PARTITIONS],
+    pub found: [Found; MOST_PARTITIONS],
     pub rows: Vec<PartitionRow>,
 }
 
@@ -71,7 +71,7 @@ pub fn survey_of(
     range: Range,
 ) -> Result<Survey, NoMemory>
     requires legal { IsLegal history.now.scenario order history.now.entries }
-    requires few { length history.now.entries ≤ 4000000 }
+    requires few { length history.now.entries ≤ most_entries }
     requires finished { range.end ≤ finished_ticks history.now.scenario.shape history.now.entries }
     ensures { IfOk result (IsSurvey history.now.scenario history.now.entries sizes range.from (range.end - range.from)) }
 {
@@ -91,7 +91,7 @@ impl Survey {
         Survey {
             unchanged: 0,
             partial: None,
-            found: [Found::nothing(); PARTITIONS],
+            found: [Found::nothing(); MOST_PARTITIONS],
             rows: Vec::new(alloc),
         }
     }
@@ -157,8 +157,8 @@ impl Survey {
 fn found_with(found: &[Found; 32], sample: &Sample, sizes: Sizes) -> [Found; 32]
     ensures { (p : ℕ) → p < 32 → slice_index_or result p no_found ≡ found_with sizes p (slice_index_or found.now p no_found) sample.now }
 {
-    let mut all = [Found::nothing(); PARTITIONS];
-    for p in 0..PARTITIONS {
+    let mut all = [Found::nothing(); MOST_PARTITIONS];
+    for p in 0..MOST_PARTITIONS {
         all[p] = found[p].with(sample, sizes, p);
     }
     all

@@ -1,6 +1,7 @@
 //! The picture of threads: a lane for each.
 ghost use Rattle.std.specs.Prelude.{◌≡◌, ◌+◌, ◌*◌, ◌<◌, ◌≤◌, length};
 ghost use Rattle.aps_model.specs.Legal.{IsLegal};
+ghost use Rattle.aps_model.specs.Limits.{most_entries};
 
 use crate::legend::{add_hatched, add_partitions, add_sample, below_partitions};
 use crate::life::{add_life, add_ready, add_wait, stacked};
@@ -33,7 +34,7 @@ pub fn threads_text(
     ticks: Ticks,
 ) -> Result<String, NoMemory>
     requires legal { IsLegal history.now.scenario order history.now.entries }
-    requires few { length history.now.entries ≤ 4000000 }
+    requires few { length history.now.entries ≤ most_entries }
 {
     let scene = Scene::of(alloc, history, order, ticks)?;
     let lives = lives(alloc, history, order)?;

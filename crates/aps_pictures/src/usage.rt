@@ -3,6 +3,7 @@ ghost use Rattle.std.specs.Prelude.{◌≡◌, ◌+◌, ◌*◌, ◌<◌, ◌≤
 ghost use Rattle.aps_model.specs.Legal.{IsLegal};
 ghost use Rattle.aps_model.specs.Loaded.{finished_ticks};
 ghost use Rattle.aps_pictures.specs.Panel.{IsPlaced, rows_of_panels};
+ghost use Rattle.aps_model.specs.Limits.{most_entries};
 
 use crate::group::{Groups, groups_of};
 use crate::panel::{Panel, add_panel};
@@ -54,7 +55,7 @@ pub fn usage_text(
     ticks: Ticks,
 ) -> Result<String, NoMemory>
     requires legal { IsLegal history.now.scenario order history.now.entries }
-    requires few { length history.now.entries ≤ 4000000 }
+    requires few { length history.now.entries ≤ most_entries }
 {
     let shape = *history.scenario().shape();
     let sizes = Sizes {
@@ -110,7 +111,7 @@ fn usage_of(
     parts: u16,
 ) -> Result<String, NoMemory>
     requires legal { IsLegal history.now.scenario order history.now.entries }
-    requires few { length history.now.entries ≤ 4000000 }
+    requires few { length history.now.entries ≤ most_entries }
     requires finished { range.end ≤ finished_ticks history.now.scenario.shape history.now.entries }
     requires rows { length rows.now ≤ 32 }
 {

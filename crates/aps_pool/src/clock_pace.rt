@@ -1,4 +1,5 @@
 ghost use Rattle.std.specs.Prelude.{◌≤◌, IfSome};
+ghost use Rattle.aps_model.specs.Limits.{last_moment};
 
 use crate::pace::{LAST_MOMENT, Pace};
 use aps_model::{CpuId, Nanos};
@@ -30,7 +31,7 @@ impl ClockPace {
 
 /// So much time in ns, or the last moment that the live scheduler takes where it is more.
 fn nanos_of(time: Duration) -> Nanos
-    ensures { result ≤ 10000000000000 }
+    ensures { result ≤ last_moment }
 {
     match u64::try_from(time.as_nanos()) {
         Ok(ns) => ns.min(LAST_MOMENT),
@@ -41,7 +42,7 @@ fn nanos_of(time: Duration) -> Nanos
 impl Pace for ClockPace {
     /// A clock that can't be read ends the run.
     fn moment<R: Wait + Clock>(&self, rt: &R, _cpu: CpuId) -> Option<Nanos>
-        ensures { IfSome result (λ now. now ≤ 10000000000000) }
+        ensures { IfSome result (λ now. now ≤ last_moment) }
     {
         match self.start.elapsed(rt) {
             Ok(time) => {

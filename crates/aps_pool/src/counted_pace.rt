@@ -1,4 +1,5 @@
 ghost use Rattle.std.specs.Prelude.{◌≡◌, ℕ, ◌+◌, ◌*◌, ◌%◌, ◌≤◌, ◌<◌, ◌↔◌, IfSome, true};
+ghost use Rattle.aps_model.specs.Limits.{last_moment};
 
 use crate::pace::Pace;
 use aps_model::{CpuId, Nanos};
@@ -45,7 +46,7 @@ impl CountedPace {
 
 impl Pace for CountedPace {
     fn moment<R: Wait + Clock>(&self, rt: &R, cpu: CpuId) -> Option<Nanos>
-        ensures { IfSome result (λ now. now ≤ 10000000000000) }
+        ensures { IfSome result (λ now. now ≤ last_moment) }
     {
         let turn = self.moved.wait_while(rt, self.turn.lock(rt), |turn| {
             *turn < TURNS && !is_turn_of(*turn, cpu)

@@ -1,4 +1,5 @@
 ghost use Rattle.std.specs.Prelude.{◌≤◌, IfSome};
+ghost use Rattle.aps_model.specs.Limits.{last_moment};
 
 use aps_model::{CpuId, Nanos};
 use std::sync::Wait;
@@ -11,7 +12,7 @@ pub const LAST_MOMENT: Nanos = 10_000_000_000_000;
 pub trait Pace {
     /// The moment (ns) at which the processor may be stepped next. It may wait for it. There is none once the run is over.
     fn moment<R: Wait + Clock>(&self, rt: &R, cpu: CpuId) -> Option<Nanos>
-        ensures { IfSome result (λ now. now ≤ 10000000000000) };
+        ensures { IfSome result (λ now. now ≤ last_moment) };
 
     /// Told after each step at such a moment.
     fn stepped<R: Wait>(&self, rt: &R);

@@ -1,6 +1,7 @@
 ghost use Rattle.std.specs.Prelude.{◌≡◌, ◌<◌, ◌≤◌, ◌++◌};
 ghost use Rattle.aps_live.specs.declared.event.LiveEvent.TheVariants.{Stay};
 ghost use Rattle.aps_live.specs.Seats.{IsSeatOf, IsSeatTurn, own_steps, taken};
+ghost use Rattle.aps_model.specs.Limits.{last_moment};
 
 use aps_live::{Live, LiveEvent, LiveSeat, LiveTurn};
 use aps_model::{CpuId, Nanos};
@@ -55,7 +56,7 @@ impl<P: OfLive> Slot<P> {
     /// Steps the processor at this moment (ns). The thread that ran goes on if it is picked.
     pub fn step<R: Wait>(&mut self, rt: &R, live: &Live, now: Nanos) -> LiveTurn
         requires live { live.now ≡ P.live }
-        requires early { now ≤ 10000000000000 }
+        requires early { now ≤ last_moment }
         ensures turn { IsSeatTurn self.old.seat self.old.seat.first now Stay result self.new.seat }
         ensures cpu { (self.new.seat.first ≡ self.old.seat.first) × (self.new.seat.last ≡ self.old.seat.last) }
         ensures own { own_steps self.old.seat.first self.old.seat.last self.new.seat.seen.steps

@@ -5,15 +5,15 @@ ghost use Rattle.aps_model.specs.Shape.{IsShape};
 ghost use Rattle.aps_model.specs.History.{IsEntry};
 ghost use Rattle.aps_model.specs.Report.{windows_text};
 ghost use Rattle.aps_report.specs.Windows.{part_in, cell_words, window_with, HaveCellRoom, HaveParts, HaveEntry, AreUsed};
+ghost use Rattle.aps_model.specs.Limits.{last_moment};
 
 use crate::lines::add_end;
 use crate::zeros::zeros;
+use aps_model::limits::MOST_PARTITIONS;
 use aps_model::{Entry, History, NoMemory, Shape, finished_ticks, overlap};
 use aps_ticks::tick_of;
 use std::alloc::Global;
 use std::fmt::Write;
-
-const PARTITIONS: usize = 32;
 
 /// One line for each finished window, from tick 0 on and one after the other, with the nanoseconds
 /// that each partition used in it (docs/FORMATS.md, "Windows"). The length of a window is the one
@@ -82,7 +82,7 @@ fn add_cells(out: &mut String, cells: &[u128], rows: usize, k: usize) -> Result<
     ensures { OnOk result (string_bytes out.new ≡ string_bytes out.old ++ flat_map (cell_words cells.now k) (range_with_len 0 rows)) }
 {
     for p in 0..rows {
-        add_used(out, cells[k * PARTITIONS + p])?;
+        add_used(out, cells[k * MOST_PARTITIONS + p])?;
     }
     Ok(())
 }
@@ -117,7 +117,7 @@ fn table_of(
     requires entries { All IsEntry entries.now }
     ensures { IfOk result (λ cells. AreUsed shape.now entries.now windows cells.items) }
 {
-    let mut cells = zeros(alloc, windows * PARTITIONS)?;
+    let mut cells = zeros(alloc, windows * MOST_PARTITIONS)?;
     let span = u64::from(shape.window) * shape.tick;
     let mut at_hand = 0;
     for e in entries {
@@ -134,7 +134,7 @@ fn add_entry(cells: &mut [u128], shape: &Shape, windows: usize, e: &Entry, span:
     requires entry { IsEntry e.now }
     requires span { span ≡ shape.now.window * shape.now.tick }
     requires first { first ≡ e.now.from / span }
-    requires near { first * span ≤ 10000000000000 }
+    requires near { first * span ≤ last_moment }
     requires places { length cells.old ≡ windows * 32 }
     requires room { HaveCellRoom cells.old }
     ensures { HaveEntry shape.now e.now cells.old cells.new }
@@ -165,7 +165,7 @@ fn add_parts(
     ensures { HaveParts shape.now e.now partition first past cells.old cells.new }
 {
     for k in first..past {
-        cells[k * PARTITIONS + partition] += u128::from(part_in(shape, k, e));
+        cells[k * MOST_PARTITIONS + partition] += u128::from(part_in(shape, k, e));
     }
 }
 

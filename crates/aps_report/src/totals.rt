@@ -4,13 +4,10 @@ ghost use Rattle.aps_model.specs.History.{IsEntry};
 ghost use Rattle.aps_report.specs.Totals.{no_time, sums_with, HavePlaces, HaveRoom, AreSums};
 
 use crate::zeros::zeros;
+use aps_model::limits::{MOST_PARTITIONS, MOST_THREADS};
 use aps_model::{Entry, NoMemory};
 use std::alloc::Global;
 use std::marker::Model;
-
-const PARTITIONS: usize = 32;
-
-const THREADS: usize = 1024;
 
 /// How many nanoseconds were billed to each partition, how many of these as critical, how many
 /// each thread ran, and in how many nobody ran.
@@ -50,9 +47,9 @@ impl Totals {
         ensures { IfOk result (λ t. t ≡ no_time) }
     {
         Ok(Totals {
-            billed: zeros(alloc, PARTITIONS)?,
-            critical: zeros(alloc, PARTITIONS)?,
-            ran: zeros(alloc, THREADS)?,
+            billed: zeros(alloc, MOST_PARTITIONS)?,
+            critical: zeros(alloc, MOST_PARTITIONS)?,
+            ran: zeros(alloc, MOST_THREADS)?,
             idle: 0,
         })
     }

@@ -3,15 +3,14 @@ ghost use Rattle.std.specs.Prelude.{◌≡◌, ℕ, ◌+◌, ◌<◌, ◌≤◌,
 ghost use Rattle.aps_samples.specs.Passed.{IsPassed, later, no_lasts};
 
 use crate::note::Note;
-
-const PARTITIONS: usize = 32;
+use aps_model::limits::MOST_PARTITIONS;
 
 /// Of the ticks that have passed, the one after the last in which each partition had no candidate at some pick, the same for
 /// one that wasn't in budget, for a pick with a starved partition, and for a change. It is 0 where there was none.
 #[derive(Clone, Copy)]
 pub struct Lasts {
-    pub lacked: [u64; PARTITIONS],
-    pub out: [u64; PARTITIONS],
+    pub lacked: [u64; MOST_PARTITIONS],
+    pub out: [u64; MOST_PARTITIONS],
     pub starved: u64,
     pub changed: u64,
 }
@@ -22,8 +21,8 @@ impl Lasts {
         ensures { result ≡ no_lasts }
     {
         Lasts {
-            lacked: [0; PARTITIONS],
-            out: [0; PARTITIONS],
+            lacked: [0; MOST_PARTITIONS],
+            out: [0; MOST_PARTITIONS],
             starved: 0,
             changed: 0,
         }
@@ -46,8 +45,8 @@ fn all_later(lasts: &[u64; 32], was: &[bool; 32], j: u64) -> [u64; 32]
     requires { j ≤ 100000000 }
     ensures { (p : ℕ) → p < 32 → slice_index result p ≡ later (slice_index lasts.now p) (slice_index_or was.now p false) j }
 {
-    let mut all = [0; PARTITIONS];
-    for p in 0..PARTITIONS {
+    let mut all = [0; MOST_PARTITIONS];
+    for p in 0..MOST_PARTITIONS {
         all[p] = later(lasts[p], was[p], j);
     }
     all

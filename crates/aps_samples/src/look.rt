@@ -12,16 +12,15 @@ ghost use Rattle.aps_samples.specs.Picks.{bills, had_candidate, is_unfunded};
 
 use crate::truth::nor;
 use aps_core::Core;
+use aps_model::limits::MOST_PARTITIONS;
 use aps_model::{CpuId, Entry, PartFacts, Pick};
-
-const PARTITIONS: usize = 32;
 
 /// Of a pick: which partitions had no candidate, which weren't in budget, whether one was starved, whether the step made a
 /// change, and whether the pick was free, that is, of a thread of class 0.
 #[derive(Clone, Copy)]
 pub struct Look {
-    pub lacking: [bool; PARTITIONS],
-    pub out: [bool; PARTITIONS],
+    pub lacking: [bool; MOST_PARTITIONS],
+    pub out: [bool; MOST_PARTITIONS],
     pub starved: bool,
     pub changed: bool,
     pub free: bool,
@@ -35,7 +34,7 @@ impl Look {
     {
         let history = core.history();
         let count = history.rows().len();
-        let mut room = [no_part(); PARTITIONS];
+        let mut room = [no_part(); MOST_PARTITIONS];
         core.stand(&mut room[..count]);
         let parts = &room[..count];
         Look {
@@ -104,8 +103,8 @@ fn have_budgets(parts: &[PartFacts]) -> bool
 fn from_on(first: usize) -> [bool; 32]
     ensures { (p : ℕ) → p < 32 → slice_index_or result p false ≡ nat_le first p }
 {
-    let mut all = [false; PARTITIONS];
-    for p in 0..PARTITIONS {
+    let mut all = [false; MOST_PARTITIONS];
+    for p in 0..MOST_PARTITIONS {
         all[p] = first <= p;
     }
     all
@@ -127,8 +126,8 @@ fn found_lacking(core: &Core, parts: &[PartFacts], c: CpuId) -> [bool; 32]
 fn neither(pick: &Option<Pick>, others: &[bool; 32]) -> [bool; 32]
     ensures { (p : ℕ) → p < 32 → slice_index_or result p false ≡ not (bills pick.now p || slice_index_or others.now p false) }
 {
-    let mut all = [false; PARTITIONS];
-    for p in 0..PARTITIONS {
+    let mut all = [false; MOST_PARTITIONS];
+    for p in 0..MOST_PARTITIONS {
         all[p] = nor(bills(pick, p), others[p]);
     }
     all
@@ -148,8 +147,8 @@ fn bills(pick: &Option<Pick>, p: usize) -> bool
 fn unfunded(parts: &[PartFacts]) -> [bool; 32]
     ensures { (p : ℕ) → p < 32 → slice_index_or result p false ≡ not (part_at parts.now p).funded }
 {
-    let mut all = [false; PARTITIONS];
-    for p in 0..PARTITIONS {
+    let mut all = [false; MOST_PARTITIONS];
+    for p in 0..MOST_PARTITIONS {
         all[p] = !is_funded(parts, p);
     }
     all

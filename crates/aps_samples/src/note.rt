@@ -9,9 +9,8 @@ ghost use Rattle.aps_samples.specs.Note.{IsAdded, IsFresh, no_note};
 use crate::look::Look;
 use crate::truth::or;
 use aps_core::Core;
+use aps_model::limits::MOST_PARTITIONS;
 use aps_model::{Nanos, PartitionRow, Shape};
-
-const PARTITIONS: usize = 32;
 
 /// Of a tick: its window (ticks), what the budget of each partition allows in that (ns), which partitions had no candidate
 /// at some pick, which weren't in budget at some pick, whether some pick had a starved partition, and whether some step made
@@ -19,9 +18,9 @@ const PARTITIONS: usize = 32;
 #[derive(Clone, Copy)]
 pub struct Note {
     pub window: u16,
-    pub allowance: [Nanos; PARTITIONS],
-    pub lacking: [bool; PARTITIONS],
-    pub out: [bool; PARTITIONS],
+    pub allowance: [Nanos; MOST_PARTITIONS],
+    pub lacking: [bool; MOST_PARTITIONS],
+    pub out: [bool; MOST_PARTITIONS],
     pub starved: bool,
     pub changed: bool,
 }
@@ -33,9 +32,9 @@ impl Note {
     {
         Note {
             window: 0,
-            allowance: [0; PARTITIONS],
-            lacking: [false; PARTITIONS],
-            out: [false; PARTITIONS],
+            allowance: [0; MOST_PARTITIONS],
+            lacking: [false; MOST_PARTITIONS],
+            out: [false; MOST_PARTITIONS],
             starved: false,
             changed: false,
         }
@@ -50,8 +49,8 @@ impl Note {
         Note {
             window: shape.window,
             allowance: allowances(shape, history.rows()),
-            lacking: [false; PARTITIONS],
-            out: [false; PARTITIONS],
+            lacking: [false; MOST_PARTITIONS],
+            out: [false; MOST_PARTITIONS],
             starved: false,
             changed: false,
         }
@@ -72,8 +71,8 @@ impl Note {
 fn either(a: &[bool; 32], b: &[bool; 32]) -> [bool; 32]
     ensures { (p : ℕ) → p < 32 → slice_index_or result p false ≡ (slice_index_or a.now p false || slice_index_or b.now p false) }
 {
-    let mut all = [false; PARTITIONS];
-    for p in 0..PARTITIONS {
+    let mut all = [false; MOST_PARTITIONS];
+    for p in 0..MOST_PARTITIONS {
         all[p] = or(a[p], b[p]);
     }
     all
@@ -85,8 +84,8 @@ fn allowances(shape: &Shape, rows: &[PartitionRow]) -> [Nanos; 32]
     requires rows { All IsRow rows.now }
     ensures { (p : ℕ) → p < 32 → slice_index result p ≡ allowance shape.now (row_or_none rows.now p).budget }
 {
-    let mut allowed = [0; PARTITIONS];
-    for p in 0..PARTITIONS {
+    let mut allowed = [0; MOST_PARTITIONS];
+    for p in 0..MOST_PARTITIONS {
         allowed[p] = allowance_at(shape, rows, p);
     }
     allowed

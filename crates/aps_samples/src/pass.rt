@@ -8,6 +8,7 @@ ghost use Rattle.aps_model.specs.Valid.{IsScenario};
 ghost use Rattle.aps_samples.specs.Look.{IsLook};
 ghost use Rattle.aps_samples.specs.Pass.{BeginsIfMet, GoesUpTo, IsAt, IsReady, IsUpTo, KeepsNotes, Opens, RunsIn, at_start, entry_at, is_before, order_of, scenario_of};
 ghost use Rattle.aps_samples.specs.Sample.{sample_of};
+ghost use Rattle.aps_model.specs.Limits.{most_entries};
 
 use crate::lasts::Lasts;
 use crate::look::Look;
@@ -16,10 +17,9 @@ use crate::retracing::{boot, retrace, retrace_rest, rows_of};
 use crate::sample::{Sample, sample_at};
 use crate::sums::Sums;
 use aps_core::Core;
+use aps_model::limits::MOST_CPUS;
 use aps_model::{Entry, History, NoMemory, Order, PartitionRow};
 use std::alloc::Global;
-
-const CPUS: usize = 16;
 
 /// How far the pass has come: a core that has made the steps of so many entries again, whether the last pick of each processor
 /// was free, and what these entries bill.
@@ -27,7 +27,7 @@ const CPUS: usize = 16;
 pub struct Cursor {
     pub core: Core,
     pub next: usize,
-    pub free: [bool; CPUS],
+    pub free: [bool; MOST_CPUS],
     pub sums: Sums,
 }
 
@@ -45,7 +45,7 @@ impl Samples {
     /// A pass that begins, over a history that is legal in this order of turns. `NoMemory` comes where memory runs out.
     pub fn begin(alloc: Global, history: &History, order: Order) -> Result<Samples, NoMemory>
         requires legal { IsLegal history.now.scenario order history.now.entries }
-        requires few { length history.now.entries ≤ 4000000 }
+        requires few { length history.now.entries ≤ most_entries }
         ensures at { IfOk result (λ samples. IsAt history.now.entries samples) }
         ensures of { IfOk result (λ samples. scenario_of samples.cursor ≡ history.now.scenario) }
         ensures first { IfOk result (λ samples. samples.tick ≡ 0) }
@@ -57,7 +57,7 @@ impl Samples {
 
     /// A pass that has made no step.
     fn new(alloc: Global, history: &History, order: Order) -> Result<Samples, NoMemory>
-        requires { length history.now.entries ≤ 4000000 }
+        requires { length history.now.entries ≤ most_entries }
         ensures same { IfOk result (λ samples. samples ≡ at_start history.now order) }
         ensures valid { IfOk result (λ samples. IsScenario history.now.scenario) }
     {
@@ -68,7 +68,7 @@ impl Samples {
             cursor: Cursor {
                 core,
                 next: 0,
-                free: [false; CPUS],
+                free: [false; MOST_CPUS],
                 sums,
             },
             note: Note::none(),

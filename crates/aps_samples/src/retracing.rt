@@ -5,6 +5,7 @@ ghost use Rattle.aps_model.specs.Legal.{IsLegal};
 ghost use Rattle.aps_model.specs.Valid.{IsScenario};
 ghost use Rattle.aps_core.specs.Turn.{IsTaken, with_entry};
 ghost use Rattle.aps_samples.specs.Retraced.{start_of};
+ghost use Rattle.aps_model.specs.Limits.{most_entries};
 
 use aps_core::Core;
 use aps_model::{Entry, History, NoMemory, Order, PartitionRow};
@@ -18,7 +19,7 @@ pub fn rows_after(
     order: Order,
 ) -> Result<Vec<PartitionRow>, NoMemory>
     requires legal { IsLegal history.now.scenario order history.now.entries }
-    requires few { length history.now.entries ≤ 4000000 }
+    requires few { length history.now.entries ≤ most_entries }
     ensures same { IfOk result (λ rows. rows.items ≡ (state_after history.now.scenario history.now.entries).rows) }
     ensures few { IfOk result (λ rows. length rows.items ≤ 32) }
 {
@@ -29,7 +30,7 @@ pub fn rows_after(
 
 /// A core that has made no step of the history's scenario, with room for all its entries. `NoMemory` comes where memory runs out.
 pub fn boot(alloc: Global, history: &History, order: Order) -> Result<Core, NoMemory>
-    requires { length history.now.entries ≤ 4000000 }
+    requires { length history.now.entries ≤ most_entries }
     ensures same { IfOk result (λ core. core ≡ start_of history.now order) }
     ensures valid { IfOk result (λ core. IsScenario history.now.scenario) }
 {

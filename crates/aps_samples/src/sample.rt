@@ -12,9 +12,8 @@ use crate::lasts::Lasts;
 use crate::note::Note;
 use crate::sums::Sums;
 use crate::truth::and_not_below;
+use aps_model::limits::MOST_PARTITIONS;
 use aps_model::{History, Nanos, Usage};
-
-const PARTITIONS: usize = 32;
 
 /// What is told of the window that ends with a finished tick: that tick, the window in ticks, and whether there are as many
 /// ticks (`full`), and then no change stands in it (`unchanged`), nor has any of its picks a starved partition (`steady`).
@@ -28,10 +27,10 @@ pub struct Sample {
     pub unchanged: bool,
     pub steady: bool,
     pub usage: Usage,
-    pub free: [Nanos; PARTITIONS],
-    pub allowance: [Nanos; PARTITIONS],
-    pub demand: [bool; PARTITIONS],
-    pub had: [bool; PARTITIONS],
+    pub free: [Nanos; MOST_PARTITIONS],
+    pub allowance: [Nanos; MOST_PARTITIONS],
+    pub demand: [bool; MOST_PARTITIONS],
+    pub had: [bool; MOST_PARTITIONS],
 }
 
 /// The sample of tick `j`, of which this is the note, after all ticks up to it, and with the sums of its window.
@@ -68,8 +67,8 @@ pub fn sample_at(history: &History, note: &Note, lasts: &Lasts, sums: &Sums, j: 
 fn since(lasts: &[u64; 32], first: u64, full: bool) -> [bool; 32]
     ensures { result ≡ of_each (λ p. full && not (nat_lt first (slice_index lasts.now p))) }
 {
-    let mut all = [false; PARTITIONS];
-    for p in 0..PARTITIONS {
+    let mut all = [false; MOST_PARTITIONS];
+    for p in 0..MOST_PARTITIONS {
         all[p] = and_not_below(full, first, lasts[p]);
     }
     all
@@ -79,8 +78,8 @@ fn since(lasts: &[u64; 32], first: u64, full: bool) -> [bool; 32]
 fn before_end(lasts: &[u64; 32], first: u64) -> [bool; 32]
     ensures { result ≡ of_each (λ p. nat_lt first (slice_index lasts.now p)) }
 {
-    let mut all = [false; PARTITIONS];
-    for p in 0..PARTITIONS {
+    let mut all = [false; MOST_PARTITIONS];
+    for p in 0..MOST_PARTITIONS {
         all[p] = first < lasts[p];
     }
     all

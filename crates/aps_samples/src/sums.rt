@@ -5,11 +5,10 @@ ghost use Rattle.aps_window.specs.Window.{advanced, opened, resized};
 ghost use Rattle.aps_core.specs.Counts.{critical_in, used_in};
 ghost use Rattle.aps_samples.specs.Sums.{GoesOnBy, HasRoom};
 
+use aps_model::limits::MOST_PARTITIONS;
 use aps_model::{Entry, Nanos, NoMemory, PartitionId, Usage};
 use aps_window::Window;
 use std::alloc::Global;
-
-const PARTITIONS: usize = 32;
 
 /// Two windows of ticks with the same bills, and how many ticks count in them. In the first a bill is critical where its entry
 /// is, in the second where its entry ran in free time.
@@ -79,9 +78,9 @@ impl Sums {
         ensures used { result.used ≡ used_in self.now.all }
         ensures critical { result.critical ≡ critical_in self.now.all }
     {
-        let mut used = [0; PARTITIONS];
-        let mut critical = [0; PARTITIONS];
-        for p in 0..PARTITIONS {
+        let mut used = [0; MOST_PARTITIONS];
+        let mut critical = [0; MOST_PARTITIONS];
+        for p in 0..MOST_PARTITIONS {
             let id = PartitionId::at(p);
             used[p] = self.all.used(id);
             critical[p] = self.all.critical_used(id);
@@ -93,8 +92,8 @@ impl Sums {
     pub fn free_time(&self) -> [Nanos; 32]
         ensures { result ≡ critical_in self.now.free }
     {
-        let mut free = [0; PARTITIONS];
-        for p in 0..PARTITIONS {
+        let mut free = [0; MOST_PARTITIONS];
+        for p in 0..MOST_PARTITIONS {
             free[p] = self.free.critical_used(PartitionId::at(p));
         }
         free

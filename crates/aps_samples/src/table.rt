@@ -6,6 +6,7 @@ ghost use Rattle.aps_model.specs.Legal.{IsLegal};
 ghost use Rattle.aps_model.specs.Loaded.{finished_ticks};
 ghost use Rattle.aps_samples.specs.Csv.{bit, csv_text, first_cells, head_line, line_at, part_cells, past_of, row_titles, sample_line};
 ghost use Rattle.aps_samples.specs.Pass.{IsAt, scenario_of};
+ghost use Rattle.aps_model.specs.Limits.{most_entries};
 
 use crate::pass::Samples;
 use crate::retracing::rows_after;
@@ -26,7 +27,7 @@ pub struct Ticks {
 /// line for each (docs/FORMATS.md). `NoMemory` comes where memory runs out.
 pub fn csv(alloc: Global, history: &History, order: Order, ticks: Ticks) -> Result<String, NoMemory>
     requires legal { IsLegal history.now.scenario order history.now.entries }
-    requires few { length history.now.entries ≤ 4000000 }
+    requires few { length history.now.entries ≤ most_entries }
     ensures { IfOk result (λ text. string_bytes text ≡ csv_text history.now.scenario history.now.entries ticks) }
 {
     let rows = rows_after(alloc, history, order)?;

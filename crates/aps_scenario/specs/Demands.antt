@@ -20,6 +20,7 @@ use Rattle.aps_scenario.specs.Partitions.{system_name}
 use Rattle.aps_scenario.specs.Refusal.{Refusal}
 use Rattle.aps_scenario.specs.Row.{◌>>=◌, Row, row_integer, row_name, value_of, only, table_of, refuse_if}
 use Rattle.aps_scenario.specs.Sizes.{parts_of, row_version, row_cpus, row_tick, row_window}
+use Rattle.aps_model.specs.Limits.{most_critical}
 
 -- demands, and the shape of a scenario that is to meet them
 pub record Demands : Type 0 where
@@ -28,7 +29,7 @@ pub record Demands : Type 0 where
 
 -- the most that can be asked is all time of the longest window on all processors
 abbrev pub IsNeed : Demand → Type 0
-IsNeed demand = demand.need ≤ 64000000000
+IsNeed demand = demand.need ≤ most_critical
 
 -- every number and list has its range, and each name is one of its own
 pub record AreDemands (d : Demands) : Type 0 where
@@ -66,7 +67,7 @@ abbrev pub demand_keys : List Key
 demand_keys = key.Name ∷ key.Need ∷ []
 
 abbrev pub row_need : Row ℕ
-row_need = row_integer key.Need 0 64000000000 1 None
+row_need = row_integer key.Need 0 most_critical 1 None
 
 -- the name is that of one of these
 abbrev pub is_among : List Demand → List ℕ → Bool

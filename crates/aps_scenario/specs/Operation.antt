@@ -9,6 +9,7 @@ use Rattle.aps_scenario.specs.declared.operation.OperationFault.{OperationFault}
 use Rattle.aps_scenario.specs.declared.operation.OperationFault.TheVariants.{Unknown, Bad}
 use Rattle.aps_scenario.specs.Row.{is_name}
 use Rattle.aps_scenario.specs.Channels.{is_among}
+use Rattle.aps_model.specs.Limits.{last_moment}
 
 -- ---- numbers
 
@@ -35,10 +36,10 @@ run_or_forever (Some ns) text = Ok (Run ns)
 run_or_forever None text = if bytes_eq text (codes "forever") then Ok Forever else Err Bad
 
 abbrev pub run : List ℕ → Result Op OperationFault
-run text = run_or_forever (number 10000000000000 text) text
+run text = run_or_forever (number last_moment text) text
 
 abbrev pub sleep : List ℕ → Result Op OperationFault
-sleep text = or_bad Sleep (number 10000000000000 text)
+sleep text = or_bad Sleep (number last_moment text)
 
 abbrev pub priority : List ℕ → Result Op OperationFault
 priority text = or_bad Priority (number 255 text)

@@ -15,6 +15,7 @@ use Rattle.aps_scenario.specs.declared.refusal.Place.{Place}
 use Rattle.aps_scenario.specs.declared.refusal.Place.TheVariants as place
 use Rattle.aps_scenario.specs.Elements.{row_tables, read_each}
 use Rattle.aps_scenario.specs.Row.{◌>>=◌, Row, row_integer, row_name, name as name_in, value_of, only, table_of, refuse_if}
+use Rattle.aps_model.specs.Limits.{most_critical}
 
 abbrev pub partition_keys : List Key
 partition_keys = Name ∷ Parent ∷ Budget ∷ Critical ∷ Max ∷ []
@@ -37,7 +38,7 @@ abbrev pub row_budget : ℕ → Row ℕ
 row_budget parts = row_integer Budget 0 parts 1 None
 
 abbrev pub row_critical : Row ℕ
-row_critical = row_integer Critical 0 64000000000 1 (Some 0)
+row_critical = row_integer Critical 0 most_critical 1 (Some 0)
 
 abbrev pub row_max : ℕ → ℕ → Row ℕ
 row_max budget parts = row_integer Max budget parts 1 (Some parts)

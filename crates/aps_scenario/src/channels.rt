@@ -9,14 +9,12 @@ use crate::kind::Kind;
 use crate::refusal::{Failure, Finding, Place};
 use crate::row::{name_at, only, refuse_if, table_of, tables_at};
 use aps_model::Name;
+use aps_model::limits::MOST_CHANNELS;
 use std::alloc::Global;
 use toml::value::Array;
 use toml::{Table, Value};
 
 const CHANNEL_KEYS: [Key; 1] = [Key::Name];
-
-/// The most channels of a scenario.
-const MOST_CHANNELS: usize = 256;
 
 /// Whether the name is one of these.
 pub fn is_among(names: &[Name], name: &Name) -> bool

@@ -12,13 +12,11 @@ use crate::key::Key;
 use crate::refusal::{Failure, Finding, Place};
 use crate::row::{integer_at, only, table_of, tables_at};
 use crate::words::{CommandKind, kind_at};
+use aps_model::limits::MOST_COMMANDS;
 use aps_model::{CommandRow, Shape, ThreadRow};
 use std::alloc::Global;
 use toml::value::Array;
 use toml::{Table, Value};
-
-/// The most commands of a scenario.
-const MOST_COMMANDS: usize = 1024;
 
 const CREATE_KEYS: [Key; 7] = [
     Key::Tick,

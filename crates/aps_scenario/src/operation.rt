@@ -2,8 +2,10 @@
 ghost use Rattle.std.specs.Prelude.{◌≡◌, ◌≤◌, length, IfOk, IfSome, option_map};
 ghost use Rattle.aps_scenario.specs.Operation as spec;
 ghost use Rattle.aps_model.specs.declared.program.Op.TheVariants as op;
+ghost use Rattle.aps_model.specs.Limits.{last_moment};
 
 use crate::channels::is_among;
+use aps_model::limits::LAST_MOMENT;
 use aps_model::{ChannelId, Name, Op};
 
 /// Why a text is no operation.
@@ -14,9 +16,6 @@ pub enum OperationFault {
     /// It has the form of no operation.
     Bad,
 }
-
-/// The longest time that an operation states, in ns.
-const LONGEST: u64 = 10_000_000_000_000;
 
 // The text behind these bytes.
 fn after_word<'a>(text: &'a [u8], word: &[u8]) -> Option<&'a [u8]>
@@ -38,7 +37,7 @@ fn after_word<'a>(text: &'a [u8], word: &[u8]) -> Option<&'a [u8]>
 // The digits that go on a number, which is at most `most`.
 fn number_after(digits: &[u8], most: u64, first: u64) -> Option<u64>
     requires within { first ≤ most }
-    requires most { most ≤ 10000000000000 }
+    requires most { most ≤ last_moment }
     ensures is { result ≡ spec.number_after most first digits.now }
     ensures within { IfSome result (λ n. n ≤ most) }
 {
@@ -60,7 +59,7 @@ fn number_after(digits: &[u8], most: u64, first: u64) -> Option<u64>
 
 // A number from 1 to `most`, with no sign and no leading zero.
 fn number(text: &[u8], most: u64) -> Option<u64>
-    requires { most ≤ 10000000000000 }
+    requires { most ≤ last_moment }
     ensures is { result ≡ spec.number most text.now }
     ensures within { IfSome result (λ n. n ≤ most) }
 {
@@ -75,7 +74,7 @@ fn number(text: &[u8], most: u64) -> Option<u64>
 fn run(text: &[u8]) -> Result<Op, OperationFault>
     ensures { result ≡ spec.run text.now }
 {
-    match number(text, LONGEST) {
+    match number(text, LAST_MOMENT) {
         Some(ns) => Ok(Op::Run(ns)),
         None if text == b"forever".as_slice() => Ok(Op::Forever),
         None => Err(OperationFault::Bad),
@@ -85,7 +84,7 @@ fn run(text: &[u8]) -> Result<Op, OperationFault>
 fn sleep(text: &[u8]) -> Result<Op, OperationFault>
     ensures { result ≡ spec.sleep text.now }
 {
-    match number(text, LONGEST) {
+    match number(text, LAST_MOMENT) {
         Some(ns) => Ok(Op::Sleep(ns)),
         None => Err(OperationFault::Bad),
     }

@@ -10,13 +10,11 @@ use crate::kind::Kind;
 use crate::operation::{OperationFault, operation_of};
 use crate::refusal::{Failure, Finding, Part, Place};
 use crate::row::array_at;
+use aps_model::limits::MOST_OPERATIONS;
 use aps_model::{Name, Op, Program};
 use std::alloc::Global;
 use toml::value::Array;
 use toml::{Table, Value};
-
-/// The most operations of a program.
-const MOST_OPERATIONS: usize = 256;
 
 fn is_last_op(op: &Op) -> bool
     ensures { result ≡ is_last_op op.now }

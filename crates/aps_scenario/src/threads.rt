@@ -11,6 +11,7 @@ use crate::program::program_at;
 use crate::refusal::{Failure, Place};
 use crate::row::{integer_at, name_at, only, refuse_if, table_of, tables_at, truth_at};
 use crate::words::policy_at;
+use aps_model::limits::MOST_THREADS;
 use aps_model::{Name, PartitionRow, ThreadRow};
 use std::alloc::Global;
 use toml::value::Array;
@@ -24,9 +25,6 @@ const THREAD_KEYS: [Key; 6] = [
     Key::Critical,
     Key::Program,
 ];
-
-/// The most threads of a scenario.
-const MOST_THREADS: usize = 1024;
 
 fn is_thread(threads: &[ThreadRow], name: &Name) -> bool
     ensures { result ≡ spec.is_thread threads.now name.now }

@@ -9,6 +9,7 @@ ghost use Rattle.aps_samples.specs.Retraced.{start_of};
 ghost use Rattle.aps_shares.specs.CriticalBudget.{AreUntestedFrom, tested_by};
 ghost use Rattle.aps_shares.specs.CriticalTime.{for_span};
 ghost use Rattle.aps_shares.specs.Spent.{AreSpent, listed, overspent_as, overspent_by, overspent_of, spent_with};
+ghost use Rattle.aps_model.specs.Limits.{most_entries};
 
 use crate::critical_budget::{CriticalBudget, budget_next, if_lasts, tested};
 use crate::critical_time::CriticalTime;
@@ -16,11 +17,10 @@ use crate::retracing::boot;
 use crate::spent::Spent;
 use aps_bars::Overspent;
 use aps_core::Core;
+use aps_model::limits::MOST_PARTITIONS;
 use aps_model::{CpuId, Entry, History, Nanos, NoMemory, Order};
 use aps_steps::take_turn;
 use std::alloc::Global;
-
-const PARTITIONS: usize = 32;
 
 /// How far a pass has come: a core that has made the steps of so many entries again, when the last of them ended, the time
 /// that they bill, and by how much each partition has overspent.
@@ -29,7 +29,7 @@ pub struct Pass {
     pub core: Core,
     pub moment: Nanos,
     pub time: CriticalTime,
-    pub spent: [Option<Spent>; PARTITIONS],
+    pub spent: [Option<Spent>; MOST_PARTITIONS],
 }
 
 /// How often each partition overspent its critical budget in a history that is legal in this order of turns, when first, and
@@ -40,7 +40,7 @@ pub fn all_spent(
     order: Order,
 ) -> Result<[Option<Spent>; 32], NoMemory>
     requires legal { IsLegal history.now.scenario order history.now.entries }
-    requires few { length history.now.entries ≤ 4000000 }
+    requires few { length history.now.entries ≤ most_entries }
     ensures { IfOk result (λ spent. AreSpent history.now.scenario history.now.entries spent) }
 {
     let entries = history.entries();
@@ -81,7 +81,7 @@ pub fn all_overspent(
     order: Order,
 ) -> Result<Vec<Overspent>, NoMemory>
     requires legal { IsLegal history.now.scenario order history.now.entries }
-    requires few { length history.now.entries ≤ 4000000 }
+    requires few { length history.now.entries ≤ most_entries }
     ensures { IfOk result (λ all. all.items ≡ overspent_of history.now.scenario history.now.entries) }
 {
     let core = boot(alloc, history, order)?;
@@ -103,7 +103,7 @@ impl Pass {
             core,
             moment: 0,
             time,
-            spent: [None; PARTITIONS],
+            spent: [None; MOST_PARTITIONS],
         })
     }
 
@@ -113,7 +113,7 @@ impl Pass {
         requires begins { self.old.core.entries ≡ [] }
         requires legal { IsLegal (scenario_of self.old) (order_of self.old) entries.now }
         requires few { length entries.now ≤ self.old.core.setup.limit }
-        requires most { self.old.core.setup.limit ≤ 4000000 }
+        requires most { self.old.core.setup.limit ≤ most_entries }
         ensures { IfOk result (λ all. all.items ≡ overspent_of (scenario_of self.old) entries.now) }
     {
         let mut all = Vec::new(alloc);
@@ -130,7 +130,7 @@ impl Pass {
         requires begins { self.old.core.entries ≡ [] }
         requires legal { IsLegal (scenario_of self.old) (order_of self.old) entries.now }
         requires few { length entries.now ≤ self.old.core.setup.limit }
-        requires most { self.old.core.setup.limit ≤ 4000000 }
+        requires most { self.old.core.setup.limit ≤ most_entries }
         ensures { OnOk result (AreSpent (scenario_of self.old) entries.now self.new.spent) }
     {
         for e in entries {
@@ -144,7 +144,7 @@ impl Pass {
         requires at { IsAt self.old }
         requires goes_on { end_of_run self.old.core ≡ None }
         requires turn { HasTurnIn self.old.core cpu }
-        requires few { self.old.core.setup.limit ≤ 4000000 }
+        requires few { self.old.core.setup.limit ≤ most_entries }
         ensures at { OnOk result (IsAt self.new) }
         ensures core { OnOk result (self.new.core ≡ with_entry self.old.core (entry_of self.old.core cpu)) }
         ensures overspent { IfOk result (λ overspent. overspent

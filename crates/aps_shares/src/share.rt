@@ -4,9 +4,8 @@ ghost use Rattle.aps_shares.specs.Share as spec;
 ghost use Rattle.aps_shares.specs.Shares.{AreFewCounts, IsFew};
 
 use aps_model::Nanos;
+use aps_model::limits::MOST_PARTITIONS;
 use aps_samples::Sample;
-
-const PARTITIONS: usize = 32;
 
 /// What a partition used in a window and what its budget allowed there (ns), and the first tick of the window.
 #[derive(Clone, Copy)]
@@ -237,7 +236,7 @@ fn others(sample: &Sample, p: usize, turn: Nanos) -> u128
     ensures { result ≡ spec.others_of turn p sample.now }
 {
     let mut sum: u128 = 0;
-    for q in 0..PARTITIONS {
+    for q in 0..MOST_PARTITIONS {
         sum += taken_by(sample, p, q, turn);
     }
     sum

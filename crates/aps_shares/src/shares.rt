@@ -7,19 +7,19 @@ ghost use Rattle.aps_model.specs.Shape.{IsShape};
 ghost use Rattle.aps_samples.specs.Pass.{IsAt, scenario_of};
 ghost use Rattle.aps_shares.specs.Share.{counts_with, no_counts, no_share, share_with};
 ghost use Rattle.aps_shares.specs.Shares.{AreFew, AreUpTo, IsFew, tick_of_all};
+ghost use Rattle.aps_model.specs.Limits.{most_entries};
 
 use crate::share::{Counts, Share};
+use aps_model::limits::MOST_PARTITIONS;
 use aps_model::{History, Nanos, NoMemory, Order, PartitionRow, Shape, finished_ticks};
 use aps_samples::{Sample, Samples};
 use std::alloc::Global;
-
-const PARTITIONS: usize = 32;
 
 /// How many windows there are, and what is told of each of 32 partitions.
 #[derive(Clone, Copy)]
 pub struct Shares {
     pub counts: Counts,
-    pub each: [Share; PARTITIONS],
+    pub each: [Share; MOST_PARTITIONS],
 }
 
 /// The shares of all partitions over the finished ticks of a history, and the rows that it leaves.
@@ -33,7 +33,7 @@ pub struct AllShares {
 /// leaves, in one pass. `NoMemory` comes where memory runs out.
 pub fn all_shares(alloc: Global, history: &History, order: Order) -> Result<AllShares, NoMemory>
     requires legal { IsLegal history.now.scenario order history.now.entries }
-    requires few { length history.now.entries ≤ 4000000 }
+    requires few { length history.now.entries ≤ most_entries }
     ensures told { IfOk result (λ all. AreUpTo history.now.scenario history.now.entries
         (finished_ticks history.now.scenario.shape history.now.entries) all.shares) }
     ensures rows { IfOk result (λ all. all.rows.items ≡ (state_after history.now.scenario history.now.entries).rows) }
@@ -81,7 +81,7 @@ impl Shares {
     {
         Shares {
             counts: Counts::none(),
-            each: [Share::none(); PARTITIONS],
+            each: [Share::none(); MOST_PARTITIONS],
         }
     }
 
@@ -105,8 +105,8 @@ fn each_with(shares: &[Share; 32], sample: &Sample, turn: Nanos) -> [Share; 32]
     requires tick { sample.now.tick ≤ 100000000 }
     ensures { (p : ℕ) → p < 32 → slice_index_or result p no_share ≡ share_with turn p (slice_index_or shares.now p no_share) sample.now }
 {
-    let mut all = [Share::none(); PARTITIONS];
-    for p in 0..PARTITIONS {
+    let mut all = [Share::none(); MOST_PARTITIONS];
+    for p in 0..MOST_PARTITIONS {
         all[p] = shares[p].with(sample, p, turn);
     }
     all

@@ -3,10 +3,9 @@ ghost use Rattle.std.specs.Prelude.{◌≡◌};
 ghost use Rattle.aps_shares.specs.Standing.{all_commanded, commanded_at, has_command, stand};
 
 use aps_ctl::perform;
+use aps_model::limits::MOST_PARTITIONS;
 use aps_model::{CommandRow, CtlView, Shape};
 use aps_tree::Tree;
-
-const PARTITIONS: usize = 32;
 
 /// Does the commands of a tick over the tree and the shape, in their order. What they answer and which threads they mark is
 /// left out.
@@ -29,8 +28,8 @@ fn do_command(row: &CommandRow, tick: u32, tree: &mut Tree, shape: &mut Shape)
         return;
     }
     let view = CtlView {
-        used: [0; PARTITIONS],
-        critical_used: [0; PARTITIONS],
+        used: [0; MOST_PARTITIONS],
+        critical_used: [0; MOST_PARTITIONS],
         thread: None,
     };
     let _answer = perform(&row.call, tree, shape, &view);

@@ -6,6 +6,7 @@ ghost use Rattle.aps_model.specs.Legal.{IsLegal};
 ghost use Rattle.aps_shares.specs.Share.{no_share};
 ghost use Rattle.aps_shares.specs.Spent.{AreSpent};
 ghost use Rattle.aps_shares.specs.Text as spec;
+ghost use Rattle.aps_model.specs.Limits.{most_entries};
 
 use crate::lines::{add_head, add_partition};
 use crate::overspending::all_spent;
@@ -20,7 +21,7 @@ use std::alloc::Global;
 /// comes where memory runs out.
 pub fn shares_text(alloc: Global, history: &History, order: Order) -> Result<String, NoMemory>
     requires legal { IsLegal history.now.scenario order history.now.entries }
-    requires few { length history.now.entries ≤ 4000000 }
+    requires few { length history.now.entries ≤ most_entries }
     ensures { IfOk result (λ text. string_bytes text ≡ spec.shares_text history.now.scenario history.now.entries) }
 {
     let spent = all_spent(alloc, history, order)?;
@@ -36,7 +37,7 @@ pub fn shares_text_with(
     spent: &[Option<Spent>; 32],
 ) -> Result<String, NoMemory>
     requires legal { IsLegal history.now.scenario order history.now.entries }
-    requires few { length history.now.entries ≤ 4000000 }
+    requires few { length history.now.entries ≤ most_entries }
     requires spent { AreSpent history.now.scenario history.now.entries spent.now }
     ensures { IfOk result (λ text. string_bytes text ≡ spec.shares_text history.now.scenario history.now.entries) }
 {

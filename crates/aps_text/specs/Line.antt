@@ -4,13 +4,14 @@ use Rattle.aps_model.specs.declared.entry.Entry.{Entry}
 use Rattle.aps_text.specs.Reader.{◌>>=◌, Reading, number_at}
 use Rattle.aps_text.specs.Fields.{option_at, mark_at}
 use Rattle.aps_text.specs.Operation.{done_at}
+use Rattle.aps_model.specs.Limits.{last_moment}
 
 -- an entry by its ten fields, from left to right
 unfoldable pub line_at : List ℕ → Reading Entry
 line_at bytes = do
   cpu ← number_at 15 32 bytes
-  from ← number_at 10000000000000 32 cpu.1
-  to ← number_at 10000000000000 32 from.1
+  from ← number_at last_moment 32 cpu.1
+  to ← number_at last_moment 32 from.1
   ran ← option_at 1023 32 to.1
   billed ← option_at 31 32 ran.1
   critical ← mark_at billed.1

@@ -2,6 +2,7 @@
 ghost use Rattle.std.specs.Prelude.{◌≡◌, ◌≤◌, IfOk, IfSome, Option};
 ghost use Rattle.aps_text.specs.Reader.{Gives, word_at, digits_at, number_at};
 ghost use Rattle.aps_text.specs.Fields.{option_at, mark_at};
+ghost use Rattle.aps_model.specs.Limits.{last_moment};
 
 /// The greatest number of a thread.
 pub const LAST_THREAD: u64 = 1023;
@@ -28,7 +29,7 @@ pub fn word<'a>(bytes: &'a [u8], word: &[u8]) -> Result<&'a [u8], &'a [u8]>
 
 /// A number of at most `most`, without a leading zero, and the byte behind it.
 pub fn number(bytes: &[u8], most: u64, stop: u8) -> Reading<u64>
-    requires { most ≤ 10000000000000 }
+    requires { most ≤ last_moment }
     ensures read { Gives (λ x. (x.0, x.1.now)) result (number_at most stop bytes.now) }
     ensures within { IfOk result (λ x. x.0 ≤ most) }
 {
@@ -44,7 +45,7 @@ pub fn number(bytes: &[u8], most: u64, stop: u8) -> Reading<u64>
 // The digits that follow those of `first`, and the byte behind them.
 fn digits(bytes: &[u8], most: u64, stop: u8, first: u64) -> Reading<u64>
     requires within { first ≤ most }
-    requires most { most ≤ 10000000000000 }
+    requires most { most ≤ last_moment }
     ensures read { Gives (λ x. (x.0, x.1.now)) result (digits_at most stop first bytes.now) }
     ensures within { IfOk result (λ x. x.0 ≤ most) }
 {
@@ -69,7 +70,7 @@ fn digits(bytes: &[u8], most: u64, stop: u8, first: u64) -> Reading<u64>
 
 /// A number of at most `most`, or `-`, and the byte behind it.
 pub fn number_or_none(bytes: &[u8], most: u64, stop: u8) -> Reading<Option<u64>>
-    requires { most ≤ 10000000000000 }
+    requires { most ≤ last_moment }
     ensures read { Gives (λ x. (x.0, x.1.now)) result (option_at most stop bytes.now) }
     ensures within { IfOk result (λ x. IfSome x.0 (λ n. n ≤ most)) }
 {

@@ -4,6 +4,7 @@ ghost use Rattle.std.specs.List.{filter};
 ghost use Rattle.aps_bars.specs.declared.starved.Starved.{Starved};
 ghost use Rattle.aps_model.specs.Legal.{IsLegal};
 ghost use Rattle.aps_svg.specs.Span.{meets};
+ghost use Rattle.aps_model.specs.Limits.{most_entries};
 
 use crate::lane::{add_lane, add_stack_lane};
 use crate::strip::{Strips, add_strips, strips_of};
@@ -56,7 +57,7 @@ pub fn timeline_text(
     overspent: &[Overspent],
 ) -> Result<String, NoMemory>
     requires legal { IsLegal history.now.scenario order history.now.entries }
-    requires few { length history.now.entries ≤ 4000000 }
+    requires few { length history.now.entries ≤ most_entries }
 {
     let scene = Scene::of(alloc, history, order, ticks)?;
     let bars = drawn_of(alloc, history, order)?;

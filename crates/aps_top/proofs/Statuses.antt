@@ -25,10 +25,11 @@ use Rattle.aps_top.specs.Status.{code, or_write_fault, status_of_end, status_of_
 use Rattle.aps_top.specs.Due.{IsDueStatus}
 use Rattle.aps_top.specs.Cause.{Input, input_of, HasCause, RanAsRead, CheckedAsRead, AdmittedAsRead, IsOutcome}
 use Rattle.aps_top.specs.Printing.{LacksMemory, Output, Says, WritesNothing, WritesPrefix, WritesWhole}
-use Rattle.aps_top.specs.Reading.{Intake, most_bytes, most_of, refusal_of}
+use Rattle.aps_top.specs.Reading.{Intake, most_of, refusal_of}
 use Rattle.aps_top.specs.Refusal.{refused_text, scenario_refusal}
 use Rattle.aps_top.specs.Answers.{Tells, Answers, Comes, OrWanting, Wanting, ReachesHorizon, ReportsWhole, WritesAsked, IsAnswer}
 use Rattle.aps_top.proofs.Due as due
+use Rattle.aps_model.specs.Limits.{most_scenario_bytes}
 
 -- ---- what was told of a status that was wanted
 
@@ -352,7 +353,7 @@ no_history output outcome.NoMemory told is h = refl
 
 -- a run takes a scenario
 run_takes : (asked : Option Command) (run : RunAsked) (bytes : List ℕ) → run_asked asked ≡ Some run
-    → (most_of asked ≡ most_bytes) × (refusal_of asked bytes ≡ scenario_refusal bytes)
+    → (most_of asked ≡ most_scenario_bytes) × (refusal_of asked bytes ≡ scenario_refusal bytes)
 run_takes None run bytes is = absurd cc
 run_takes (Some (command.Solo report limit)) run bytes is = (refl, refl)
 run_takes (Some (command.Run order report limit)) run bytes is = (refl, refl)

@@ -33,9 +33,10 @@ use Rattle.aps_top.specs.Status.{code, or_write_fault}
 use Rattle.aps_top.specs.CheckInput.{IsCheck}
 use Rattle.aps_top.specs.Due.{IsDueStatus}
 use Rattle.aps_top.specs.Outcome.{history_of, report_text}
-use Rattle.aps_top.specs.Reading.{Intake, most_bytes, most_of}
+use Rattle.aps_top.specs.Reading.{Intake, most_of}
 use Rattle.aps_top.specs.Cause.{Input, input_of, HasCause, RanAsRead}
 use Rattle.aps_top.specs.Printing.{LacksMemory, Output, Says, WritesWhole}
+use Rattle.aps_model.specs.Limits.{most_scenario_bytes}
 
 -- the answer of a call that had this outcome: its text was made and written, and its history is handed back
 pub record Tells (outcome : Outcome) (output : Output) (ended : Ended) : Type 0 where
@@ -78,7 +79,7 @@ pub record ReachesHorizon (input : Input) : Type 0 where
   pub report : Report
   pub limit : ℕ
   pub asked : run_asked input.asked ≡ Some (record { order = Fixed; report = report; limit = limit })
-  pub short : length input.reading.bytes ≤ most_bytes
+  pub short : length input.reading.bytes ≤ most_scenario_bytes
   pub scenario : Scenario
   pub read : reads input.reading.bytes ≡ Ok scenario
   pub horizon : end_of scenario limit (fixed_run scenario limit) ≡ Some Horizon

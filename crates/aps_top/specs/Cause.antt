@@ -21,9 +21,10 @@ use Rattle.aps_words.specs.declared.command.Report.{Report}
 use Rattle.aps_top.specs.declared.outcome.Outcome.{Outcome}
 use Rattle.aps_top.specs.declared.outcome.Outcome.TheVariants.{WordsRefused, ReadFault, TooLong, InputRefused, Ran, Generated, Upgraded, Checked, Admitted, NoMemory}
 use Rattle.aps_top.specs.Asked.{run_asked, IsToRead}
-use Rattle.aps_top.specs.Reading.{Reading, Intake, reading_in, IsReadWhole, most_bytes, most_check_bytes, most_of, refusal_of}
+use Rattle.aps_top.specs.Reading.{Reading, Intake, reading_in, IsReadWhole, most_of, refusal_of}
 use Rattle.aps_top.specs.CheckInput.{IsCheck}
 use Rattle.aps_top.specs.Run.{IsRun}
+use Rattle.aps_model.specs.Limits.{most_journal_bytes, most_scenario_bytes}
 
 -- what a call was given: the command that it was asked for, if its words are one, and what the source gave
 pub record Input : Type 0 where
@@ -43,7 +44,7 @@ pub record RanAsRead (input : Input) (report : Report) (end : End) (h : History)
   pub order : Order
   pub limit : ℕ
   pub asked : run_asked input.asked ≡ Some (record { order = order; report = report; limit = limit })
-  pub whole : IsReadWhole most_bytes input.reading
+  pub whole : IsReadWhole most_scenario_bytes input.reading
   pub scenario : reads input.reading.bytes ≡ Ok h.scenario
   pub run : IsRun order limit end h
 
@@ -61,7 +62,7 @@ pub record GeneratedAsAsked (input : Input) (text : List ℕ) : Type 0 where
 pub record UpgradedAsRead (input : Input) (text : List ℕ) : Type 0 where
   pub scenario : Scenario
   pub asked : input.asked ≡ Some Upgrade
-  pub whole : IsReadWhole most_bytes input.reading
+  pub whole : IsReadWhole most_scenario_bytes input.reading
   pub read : reads input.reading.bytes ≡ Ok scenario
   pub upgraded : reads text ≡ Ok (upgraded scenario)
 
@@ -72,7 +73,7 @@ pub record CheckedAsRead (input : Input) (verdict : Verdict) : Type 0 where
   pub scenario : Scenario
   pub entries : List Entry
   pub asked : input.asked ≡ Some (Check order limit)
-  pub whole : IsReadWhole most_check_bytes input.reading
+  pub whole : IsReadWhole most_journal_bytes input.reading
   pub read : IsCheck input.reading.bytes scenario entries
   pub judged : IsVerdict (record { scenario = scenario; order = order; limit = limit }) entries verdict
 
@@ -80,7 +81,7 @@ pub record CheckedAsRead (input : Input) (verdict : Verdict) : Type 0 where
 pub record AdmittedAsRead (input : Input) (answer : Admission) : Type 0 where
   pub demands : Demands
   pub asked : input.asked ≡ Some Admit
-  pub whole : IsReadWhole most_bytes input.reading
+  pub whole : IsReadWhole most_scenario_bytes input.reading
   pub read : reads_demands input.reading.bytes ≡ Ok demands
   pub answered : answer ≡ admission demands.shape demands.demands
 

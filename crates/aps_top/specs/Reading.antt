@@ -15,6 +15,7 @@ use Rattle.aps_top.specs.declared.reading.Recorded.{Recorded}
 use Rattle.aps_top.specs.declared.refusal.InputRefusal.{InputRefusal}
 use Rattle.aps_top.specs.CheckInput.{IsCheck, check_refusal}
 use Rattle.aps_top.specs.Refusal.{scenario_refusal, demands_refusal}
+use Rattle.aps_model.specs.Limits.{most_journal_bytes, most_scenario_bytes}
 
 -- the bytes that the source delivered and those that it has left, where it tells, and its count of faults before and after
 pub record Reading : Type 0 where
@@ -41,14 +42,6 @@ intake_of before after faults_before faults =
 -- what came of reading these bytes of a source
 abbrev pub reading_in : Intake → List ℕ → Reading
 reading_in intake bytes = reading_of bytes intake.after intake.faults_before intake.faults
-
--- the most bytes that are taken as a scenario, or as demands
-abbrev pub most_bytes : ℕ
-most_bytes = 1048576
-
--- the most bytes that are taken as a scenario with a journal
-abbrev pub most_check_bytes : ℕ
-most_check_bytes = 310000000
 
 -- the source was read to its end, and that was not too long
 pub record IsReadWhole (most : ℕ) (reading : Reading) : Type 0 where
@@ -95,13 +88,13 @@ GivesIn refused Is most intake result =
     (bytes : List ℕ) × Consumes intake.before intake.after bytes × Gives refused Is most (reading_in intake bytes) result
 
 abbrev pub GivesScenario : Intake → Result Scenario Outcome → Type 0
-GivesScenario intake result = GivesIn scenario_refusal IsScenarioText most_bytes intake result
+GivesScenario intake result = GivesIn scenario_refusal IsScenarioText most_scenario_bytes intake result
 
 abbrev pub GivesDemands : Intake → Result Demands Outcome → Type 0
-GivesDemands intake result = GivesIn demands_refusal IsDemandsText most_bytes intake result
+GivesDemands intake result = GivesIn demands_refusal IsDemandsText most_scenario_bytes intake result
 
 abbrev pub GivesRecorded : Intake → Result Recorded Outcome → Type 0
-GivesRecorded intake result = GivesIn check_refusal IsRecordedText most_check_bytes intake result
+GivesRecorded intake result = GivesIn check_refusal IsRecordedText most_journal_bytes intake result
 
 -- ---- the beginning of a run
 
@@ -114,7 +107,7 @@ pub record IsBegun (order : Order) (limit : ℕ) (bytes : List ℕ) (run : Run) 
 
 -- the run of the scenario that the input is begins, or there is a cause why it doesn't
 abbrev pub BeginsIn : Intake → Order → ℕ → Result Run Outcome → Type 0
-BeginsIn intake order limit result = GivesIn scenario_refusal (IsBegun order limit) most_bytes intake result
+BeginsIn intake order limit result = GivesIn scenario_refusal (IsBegun order limit) most_scenario_bytes intake result
 
 -- ---- what a command takes
 
@@ -133,8 +126,8 @@ refusal_of (Some asked) bytes = refusal_by asked bytes
 
 -- the most bytes that a command takes as its input
 abbrev pub most_taken : Command → ℕ
-most_taken (command.Check order limit) = most_check_bytes
-most_taken asked = most_bytes
+most_taken (command.Check order limit) = most_journal_bytes
+most_taken asked = most_scenario_bytes
 
 abbrev pub most_of : Option Command → ℕ
 most_of None = 0

@@ -10,6 +10,7 @@ ghost use Rattle.aps_top.specs.Cause.{Input, HasCause, IsOutcome};
 ghost use Rattle.aps_top.specs.Outcome.{history_of, status_of, text_of};
 ghost use Rattle.aps_top.specs.Printing.{Says, output_of};
 ghost use Rattle.aps_top.specs.Reading.{intake_of};
+ghost use Rattle.aps_model.specs.Limits.{most_entries};
 
 use crate::answer::{print_admission, print_verdict};
 use crate::printing::print;
@@ -149,7 +150,7 @@ impl Outcome {
     /// Runs the scenario of the source in fixed order.
     fn of_solo<S: Source>(alloc: Global, report: Report, limit: u32, source: &mut S) -> Outcome
         requires some { 1 ≤ limit }
-        requires few { limit ≤ 4000000 }
+        requires few { limit ≤ most_entries }
         ensures { IsOutcome (Some (asked.Solo report limit))
             (intake_of (S.left source.old) (S.left source.new) (S.faults source.old) (S.faults source.new)) result }
     {
@@ -177,7 +178,7 @@ impl Outcome {
         gate: &G,
     ) -> Outcome
         requires some { 1 ≤ limit }
-        requires few { limit ≤ 4000000 }
+        requires few { limit ≤ most_entries }
         ensures { IsOutcome (Some (asked.Run order report limit))
             (intake_of (S.left source.old) (S.left source.new) (S.faults source.old) (S.faults source.new)) result }
     {
@@ -229,7 +230,7 @@ impl Outcome {
     /// Judges the journal of the source.
     fn of_check<S: Source>(alloc: Global, order: Order, limit: u32, source: &mut S) -> Outcome
         requires some { 1 ≤ limit }
-        requires few { limit ≤ 4000000 }
+        requires few { limit ≤ most_entries }
         ensures { IsOutcome (Some (asked.Check order limit))
             (intake_of (S.left source.old) (S.left source.new) (S.faults source.old) (S.faults source.new)) result }
     {

@@ -9,16 +9,11 @@ ghost use Rattle.aps_top.specs.Refusal.{scenario_refusal, demands_refusal};
 use crate::outcome::Outcome;
 use crate::refusal::InputRefusal;
 use aps_io::{ReadRefusal, Source, read_all};
+use aps_model::limits::{MOST_JOURNAL_BYTES, MOST_SCENARIO_BYTES};
 use aps_model::{Entry, Scenario};
 use aps_scenario::{Demands, ScenarioRefusal, demands_of, scenario_of};
 use aps_text::{JournalAt, JournalRefusal, journal_at, read_journal};
 use std::alloc::Global;
-
-/// The most bytes that are taken as a scenario, or as demands.
-const MOST_BYTES: usize = 1_048_576;
-
-/// The most bytes that are taken as a scenario with a journal.
-const MOST_CHECK_BYTES: usize = 310_000_000;
 
 /// A scenario, and the entries of a journal of it.
 #[derive(Drop)]
@@ -31,7 +26,7 @@ pub struct Recorded {
 pub fn read_scenario<S: Source>(alloc: Global, source: &mut S) -> Result<Scenario, Outcome>
     ensures { GivesScenario (intake_of (S.left source.old) (S.left source.new) (S.faults source.old) (S.faults source.new)) result }
 {
-    match read_all(alloc, source, MOST_BYTES) {
+    match read_all(alloc, source, MOST_SCENARIO_BYTES) {
         Ok(bytes) => scenario_in(alloc, &bytes),
         Err(refusal) => Err(not_read(refusal)),
     }
@@ -41,7 +36,7 @@ pub fn read_scenario<S: Source>(alloc: Global, source: &mut S) -> Result<Scenari
 pub fn read_demands<S: Source>(alloc: Global, source: &mut S) -> Result<Demands, Outcome>
     ensures { GivesDemands (intake_of (S.left source.old) (S.left source.new) (S.faults source.old) (S.faults source.new)) result }
 {
-    match read_all(alloc, source, MOST_BYTES) {
+    match read_all(alloc, source, MOST_SCENARIO_BYTES) {
         Ok(bytes) => demands_in(alloc, &bytes),
         Err(refusal) => Err(not_read(refusal)),
     }
@@ -51,7 +46,7 @@ pub fn read_demands<S: Source>(alloc: Global, source: &mut S) -> Result<Demands,
 pub fn read_recorded<S: Source>(alloc: Global, source: &mut S) -> Result<Recorded, Outcome>
     ensures { GivesRecorded (intake_of (S.left source.old) (S.left source.new) (S.faults source.old) (S.faults source.new)) result }
 {
-    match read_all(alloc, source, MOST_CHECK_BYTES) {
+    match read_all(alloc, source, MOST_JOURNAL_BYTES) {
         Ok(bytes) => recorded_in(alloc, &bytes),
         Err(refusal) => Err(not_read(refusal)),
     }

@@ -2,6 +2,7 @@
 ghost use Rattle.std.specs.Prelude.{◌≡◌, ◌≤◌};
 ghost use Rattle.aps_top.specs.Reading.{BeginsIn, intake_of};
 ghost use Rattle.aps_top.specs.Run.{IsRun};
+ghost use Rattle.aps_model.specs.Limits.{most_entries};
 
 use crate::outcome::Outcome;
 use crate::reading::read_scenario;
@@ -19,7 +20,7 @@ pub fn begin<S: Source>(
     source: &mut S,
 ) -> Result<Core, Outcome>
     requires some { 1 ≤ limit }
-    requires few { limit ≤ 4000000 }
+    requires few { limit ≤ most_entries }
     ensures { BeginsIn (intake_of (S.left source.old) (S.left source.new) (S.faults source.old) (S.faults source.new)) order limit result }
 {
     let scenario = match read_scenario(alloc, source) {

@@ -3,6 +3,7 @@ ghost use Rattle.std.specs.Prelude.{◌≡◌, ◌≤◌, ◌++◌, length, stri
 ghost use Rattle.aps_io.specs.Causes.{Rose};
 ghost use Rattle.aps_traces.specs.Arrows as spec;
 ghost use Rattle.aps_traces.specs.Piece.{IsTold};
+ghost use Rattle.aps_model.specs.Limits.{most_entries};
 
 use crate::fault::TraceFault;
 use crate::piece::make_room;
@@ -20,7 +21,7 @@ pub fn write_arrows<K: Sink>(
     threads: &[ThreadRow],
     entries: &[Entry],
 ) -> Result<(), TraceFault>
-    requires { length entries.now ≤ 4000000 }
+    requires { length entries.now ≤ most_entries }
     ensures told { OnOk result (IsTold (K.written sink.old) (K.written sink.new) (string_bytes out.old) (string_bytes out.new)
         (spec.arrows_text threads.now entries.now)) }
     ensures fault { IsErrOf result TraceFault.WriteFault → Rose (K.faults sink.old) (K.faults sink.new) }
@@ -41,7 +42,7 @@ fn add_entry(
     number: u64,
     e: &Entry,
 ) -> Result<u64, NoMemory>
-    requires { number ≤ 4000000 }
+    requires { number ≤ most_entries }
     ensures text { OnOk result (string_bytes out.new ≡ string_bytes out.old ++ spec.entry_events threads.now number e.now) }
     ensures next { IfOk result (λ next. next ≡ spec.number_after number e.now) }
 {

@@ -6,6 +6,7 @@ ghost use Rattle.aps_model.specs.Loaded.{finished_ticks};
 ghost use Rattle.aps_samples.specs.Pass.{IsAt, scenario_of};
 ghost use Rattle.aps_traces.specs.Counters as spec;
 ghost use Rattle.aps_traces.specs.Piece.{IsTold};
+ghost use Rattle.aps_model.specs.Limits.{most_entries};
 
 use crate::fault::TraceFault;
 use crate::piece::make_room;
@@ -28,7 +29,7 @@ pub fn write_counters<K: Sink>(
     rows: usize,
 ) -> Result<(), TraceFault>
     requires legal { IsLegal history.now.scenario order history.now.entries }
-    requires few { length history.now.entries ≤ 4000000 }
+    requires few { length history.now.entries ≤ most_entries }
     requires few_rows { rows ≤ 32 }
     ensures told { OnOk result (IsTold (K.written sink.old) (K.written sink.new) (string_bytes out.old) (string_bytes out.new)
         (spec.counters_text history.now.scenario history.now.entries rows)) }

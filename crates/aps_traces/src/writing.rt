@@ -9,6 +9,7 @@ ghost use Rattle.aps_bars.specs.Alteration.{alterations_of};
 ghost use Rattle.aps_traces.specs.Instants.{alteration_event, overspent_event};
 ghost use Rattle.aps_traces.specs.Piece.{IsTold};
 ghost use Rattle.aps_traces.specs.Trace as spec;
+ghost use Rattle.aps_model.specs.Limits.{most_entries};
 
 use crate::arrows::write_arrows;
 use crate::counters::write_counters;
@@ -35,7 +36,7 @@ pub fn trace<K: Sink>(
     sink: &mut K,
 ) -> Result<(), TraceFault>
     requires legal { IsLegal history.now.scenario order history.now.entries }
-    requires few { length history.now.entries ≤ 4000000 }
+    requires few { length history.now.entries ≤ most_entries }
     ensures whole { OnOk result (Appends (K.written sink.old) (K.written sink.new)
         (spec.trace_text history.now.scenario history.now.entries overspent.now)) }
     ensures fault { IsErrOf result TraceFault.WriteFault → Rose (K.faults sink.old) (K.faults sink.new) }
@@ -57,7 +58,7 @@ fn write_events<K: Sink>(
     overspent: &[Overspent],
 ) -> Result<(), TraceFault>
     requires legal { IsLegal history.now.scenario order history.now.entries }
-    requires few { length history.now.entries ≤ 4000000 }
+    requires few { length history.now.entries ≤ most_entries }
     ensures told { OnOk result (IsTold (K.written sink.old) (K.written sink.new) (string_bytes out.old) (string_bytes out.new)
         (spec.events_text history.now.scenario history.now.entries overspent.now)) }
     ensures fault { IsErrOf result TraceFault.WriteFault → Rose (K.faults sink.old) (K.faults sink.new) }
@@ -84,7 +85,7 @@ fn write_processors<K: Sink>(
     order: Order,
 ) -> Result<(Vec<Alteration>, Vec<PartitionRow>), TraceFault>
     requires legal { IsLegal history.now.scenario order history.now.entries }
-    requires few { length history.now.entries ≤ 4000000 }
+    requires few { length history.now.entries ≤ most_entries }
     ensures told { OnOk result (IsTold (K.written sink.old) (K.written sink.new) (string_bytes out.old) (string_bytes out.new)
         (spec.processors_part history.now.scenario history.now.entries)) }
     ensures alterations { IfOk result (λ r. r.0.items ≡ alterations_of history.now.scenario history.now.entries) }
@@ -129,7 +130,7 @@ fn write_lasting<K: Sink>(
     rows: &[PartitionRow],
 ) -> Result<(), TraceFault>
     requires legal { IsLegal history.now.scenario order history.now.entries }
-    requires few { length history.now.entries ≤ 4000000 }
+    requires few { length history.now.entries ≤ most_entries }
     requires few_rows { length rows.now ≤ 32 }
     ensures told { OnOk result (IsTold (K.written sink.old) (K.written sink.new) (string_bytes out.old) (string_bytes out.new)
         (spec.lasting_part history.now.scenario history.now.entries rows.now)) }
@@ -151,7 +152,7 @@ fn write_threads<K: Sink>(
     rows: &[PartitionRow],
 ) -> Result<(), TraceFault>
     requires legal { IsLegal history.now.scenario order history.now.entries }
-    requires few { length history.now.entries ≤ 4000000 }
+    requires few { length history.now.entries ≤ most_entries }
     ensures told { OnOk result (IsTold (K.written sink.old) (K.written sink.new) (string_bytes out.old) (string_bytes out.new)
         (spec.lives_part history.now.scenario history.now.entries rows.now)) }
     ensures fault { IsErrOf result TraceFault.WriteFault → Rose (K.faults sink.old) (K.faults sink.new) }

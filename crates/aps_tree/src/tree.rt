@@ -10,15 +10,10 @@ ghost use Rattle.aps_tree.specs.Tree.{IsTree, root_row, unless_refused, rows_unl
 
 use crate::changes::{add_child, clear_critical, giving, row_modified, set_child};
 use crate::rows::Rows;
+use aps_model::limits::{MOST_CRITICAL, MOST_PARTITIONS};
 use aps_model::{Name, NoMemory, PartitionId, PartitionRow, TreeRefusal};
 use std::alloc::Global;
 use std::marker::Model;
-
-/// The most partitions that a tree has.
-const MOST_ROWS: usize = 32;
-
-/// The greatest critical budget, in ns.
-const MOST_CRITICAL: u64 = 64_000_000_000;
 
 /// The partitions of a run, `System` first, with the budgets that are left to them. Contracts see the parts in which
 /// budgets and maxima count, and the rows in order of their ids. The type keeps that names are distinct, that each
@@ -169,7 +164,7 @@ impl Tree {
         if self.rows.place_of(row.name).is_some() {
             return Some(TreeRefusal::NameTaken);
         }
-        if rows.len() >= MOST_ROWS {
+        if rows.len() >= MOST_PARTITIONS {
             return Some(TreeRefusal::TooMany);
         }
         let have = self.rows.row_of(row.parent).budget;

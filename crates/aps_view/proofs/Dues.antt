@@ -9,10 +9,11 @@ use Rattle.aps_view.specs.declared.status.Status.TheVariants as status
 use Rattle.aps_view.specs.Answer.{IsAnswer}
 use Rattle.aps_view.specs.Cause.{HasCause, HasCauseIn, IsOfWhole, told_by}
 use Rattle.aps_view.specs.Due.{Due, IsAdded, IsDue, IsDueOfInput, IsDueTold}
-use Rattle.aps_view.specs.Intake.{Intake, intake_of, most_bytes}
+use Rattle.aps_view.specs.Intake.{Intake, intake_of}
 use Rattle.aps_view.specs.Outcome.{status_of, text_of}
 use Rattle.aps_view.specs.Printing.{Says, Told, Told.at_once, Told.in_pieces, Told.unsaid, output_of}
 use Rattle.aps_view.specs.Status.{code}
+use Rattle.aps_model.specs.Limits.{most_journal_bytes}
 
 -- want of memory is a cause of its own, whatever was asked for
 pub lacks_memory : (asked : Option Asked) (intake : Intake) (bytes : List ℕ) → HasCause asked intake bytes NoMemory
@@ -23,14 +24,14 @@ module _ (asked : Asked) (input bytes rest : List ℕ) (taken : input ≡ bytes 
   of_whole : (outcome : Outcome) → IsOfWhole asked (intake_of (Some input) (Some rest) 0 0) bytes outcome → IsDue (Some asked) input (told_by outcome)
   of_whole outcome h =
       let same : input ≡ bytes = taken ∙ ap (λ l. bytes ++ l) h.end ∙ append-nil bytes in
-      let fits : length input ≤ most_bytes = omega (arith, ap (λ (l : List ℕ). length l) same, h.short) in
+      let fits : length input ≤ most_journal_bytes = omega (arith, ap (λ (l : List ℕ). length l) same, h.short) in
       inr (fits, subst (λ l. IsDueOfInput asked l (told_by outcome)) (sym same) h.due)
 
   is_due : (outcome : Outcome) → HasCauseIn asked (intake_of (Some input) (Some rest) 0 0) bytes outcome → (outcome ≡ NoMemory) ⊎ IsDue (Some asked) input (told_by outcome)
   is_due outcome (inl none) = inl none
   is_due outcome (inr (inl h)) = absurd (omega (arith, h.rose))
   is_due outcome (inr (inr (inl h))) =
-      let long : most_bytes < length input = omega (arith, h.long, ap (λ (l : List ℕ). length l) taken, length-append bytes rest) in
+      let long : most_journal_bytes < length input = omega (arith, h.long, ap (λ (l : List ℕ). length l) taken, length-append bytes rest) in
       inr (inl (long, ap told_by h.is))
   is_due outcome (inr (inr (inr h))) = inr (of_whole outcome h)
 

@@ -13,8 +13,9 @@ use Rattle.aps_view.specs.declared.outcome.Outcome.{Outcome}
 use Rattle.aps_view.specs.declared.outcome.Outcome.TheVariants.{WordsRefused, ReadFault, TooLong, InputRefused, NoMemory}
 use Rattle.aps_view.specs.declared.refusal.InputRefusal.TheVariants.{Text, BadJournal}
 use Rattle.aps_view.specs.Due.{Due, IsDueOfInput}
-use Rattle.aps_view.specs.Intake.{Intake, most_bytes}
+use Rattle.aps_view.specs.Intake.{Intake}
 use Rattle.aps_view.specs.Outcome.{status_of, text_of}
+use Rattle.aps_model.specs.Limits.{most_journal_bytes}
 
 -- the status and the text of an outcome
 abbrev pub told_by : Outcome → Due
@@ -44,17 +45,17 @@ not_read unread.NoMemory = NoMemory
 pub record IsFaulted (intake : Intake) (bytes : List ℕ) (outcome : Outcome) : Type 0 where
   pub is : outcome ≡ ReadFault
   pub rose : Rose intake.faults_before intake.faults
-  pub short : length bytes ≤ most_bytes
+  pub short : length bytes ≤ most_journal_bytes
 
 -- more bytes were delivered than are taken
 pub record IsOverlong (bytes : List ℕ) (outcome : Outcome) : Type 0 where
   pub is : outcome ≡ TooLong
-  pub long : length bytes ≡ most_bytes + 1
+  pub long : length bytes ≡ most_journal_bytes + 1
 
 -- the input was read to its end, isn't too long, and makes due what is told
 pub record IsOfWhole (asked : Asked) (intake : Intake) (bytes : List ℕ) (outcome : Outcome) : Type 0 where
   pub end : IsAtEnd intake.after
-  pub short : length bytes ≤ most_bytes
+  pub short : length bytes ≤ most_journal_bytes
   pub due : IsDueOfInput asked bytes (told_by outcome)
 
 -- where a report is asked for, the reading comes before what the bytes are

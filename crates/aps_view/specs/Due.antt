@@ -25,12 +25,12 @@ use Rattle.aps_view.specs.declared.refusal.InputRefusal.{InputRefusal}
 use Rattle.aps_view.specs.declared.refusal.InputRefusal.TheVariants.{Text, BadJournal, UnknownThread}
 use Rattle.aps_view.specs.declared.status.Status.{Status}
 use Rattle.aps_view.specs.declared.status.Status.TheVariants.{Done, WordsRefused, InputRefused, NoMemory, TooLong, JournalBreaks}
-use Rattle.aps_view.specs.Intake.{most_bytes, most_scenario_bytes}
 use Rattle.aps_view.specs.Printing.{Told, Told.at_once, Told.in_pieces, Told.unsaid}
 use Rattle.aps_view.specs.Refusal.{refusal_text}
 use Rattle.aps_view.specs.Report.{IsReport, trace_of}
 use Rattle.aps_view.specs.Status.{code, status_of_end}
 use Rattle.aps_view.specs.Traced.{trace_told}
+use Rattle.aps_model.specs.Limits.{most_journal_bytes, most_scenario_bytes}
 
 -- a status, and what is written
 pub record Due : Type 0 where
@@ -129,7 +129,7 @@ IsDueOfInput asked bytes due = IsDueOfParts asked bytes (journal_place bytes) du
 abbrev pub IsDue : Option Asked → List ℕ → Due → Type 0
 IsDue None input due = due ≡ words_refused
 IsDue (Some asked) input due =
-    ((most_bytes < length input) × (due ≡ too_long)) ⊎ ((length input ≤ most_bytes) × IsDueOfInput asked input due)
+    ((most_journal_bytes < length input) × (due ≡ too_long)) ⊎ ((length input ≤ most_journal_bytes) × IsDueOfInput asked input due)
 
 -- what was written is the text, where it is said what
 abbrev pub IsAdded : List ℕ → List ℕ → Told → Type 0

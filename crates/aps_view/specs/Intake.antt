@@ -11,11 +11,3 @@ pub record Intake : Type 0 where
 abbrev pub intake_of : (before after : Option (List ℕ)) → (faults_before faults : ℕ) → Intake
 intake_of before after faults_before faults =
     record { before = before; after = after; faults_before = faults_before; faults = faults }
-
--- the most bytes that are taken as a scenario with a journal
-abbrev pub most_bytes : ℕ
-most_bytes = 310000000
-
--- the most that are taken as a scenario alone
-abbrev pub most_scenario_bytes : ℕ
-most_scenario_bytes = 1048576

@@ -1,6 +1,7 @@
 //! Pictures of a history.
 ghost use Rattle.std.specs.Prelude.{◌≤◌, length};
 ghost use Rattle.aps_model.specs.Legal.{IsLegal};
+ghost use Rattle.aps_model.specs.Limits.{most_entries};
 
 use aps_model::{History, NoMemory, Order};
 use aps_pictures::{Ticks, threads_text, usage_text};
@@ -18,7 +19,7 @@ pub fn drawn(
     ticks: Ticks,
 ) -> Result<String, NoMemory>
     requires legal { IsLegal history.now.scenario order history.now.entries }
-    requires few { length history.now.entries ≤ 4000000 }
+    requires few { length history.now.entries ≤ most_entries }
 {
     match picture {
         Picture::Timeline => {

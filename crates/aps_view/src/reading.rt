@@ -5,6 +5,7 @@ ghost use Rattle.aps_text.specs.Separator.{journal_place};
 ghost use Rattle.aps_view.specs.Cause.{IsOutcome, TellsDue, not_read, of_journal_refusal, of_refusal};
 ghost use Rattle.aps_view.specs.Due.{IsDueAlone, IsDueOfInput, IsDueOfJournal, IsDueOfRead, IsDueOfScenario};
 ghost use Rattle.aps_view.specs.Intake.{intake_of};
+ghost use Rattle.aps_model.specs.Limits.{most_entries};
 
 use crate::outcome::Outcome;
 use crate::refusal::InputRefusal;
@@ -12,25 +13,20 @@ use crate::running::ran;
 use crate::viewing::judged;
 use aps_io::{ReadRefusal, Source, read_all};
 use aps_model::Scenario;
+use aps_model::limits::{MOST_JOURNAL_BYTES, MOST_SCENARIO_BYTES};
 use aps_scenario::{ScenarioRefusal, scenario_of};
 use aps_text::{JournalAt, JournalRefusal, journal_at, read_journal};
 use aps_view_words::Asked;
 use std::alloc::Global;
 
-/// The most bytes that are taken as a scenario with a journal.
-const MOST_BYTES: usize = 310_000_000;
-
-/// The most bytes that are taken as a scenario alone.
-const MOST_SCENARIO_BYTES: usize = 1_048_576;
-
 /// Reads the source, and makes the report that was asked for of what its bytes are.
 pub fn outcome_of<S: Source>(alloc: Global, asked: Asked, source: &mut S) -> Outcome
     requires some { 1 ≤ asked.limit }
-    requires few { asked.limit ≤ 4000000 }
+    requires few { asked.limit ≤ most_entries }
     ensures { IsOutcome (Some asked)
         (intake_of (S.left source.old) (S.left source.new) (S.faults source.old) (S.faults source.new)) result }
 {
-    match read_all(alloc, source, MOST_BYTES) {
+    match read_all(alloc, source, MOST_JOURNAL_BYTES) {
         Ok(bytes) => of_bytes(alloc, asked, &bytes),
         Err(refusal) => not_read(refusal),
     }
@@ -50,7 +46,7 @@ fn not_read(refusal: ReadRefusal) -> Outcome
 /// What comes of these bytes: with a line `--- journal` they are a scenario and a journal, without one a scenario.
 fn of_bytes(alloc: Global, asked: Asked, bytes: &[u8]) -> Outcome
     requires some { 1 ≤ asked.limit }
-    requires few { asked.limit ≤ 4000000 }
+    requires few { asked.limit ≤ most_entries }
     requires short { length bytes.now ≤ 310000000 }
     ensures { TellsDue (IsDueOfInput asked bytes.now) result }
 {
@@ -75,7 +71,7 @@ fn parted(bytes: &[u8]) -> Option<JournalAt>
 /// What comes of a scenario alone.
 fn of_scenario(alloc: Global, asked: Asked, text: &[u8]) -> Outcome
     requires some { 1 ≤ asked.limit }
-    requires few { asked.limit ≤ 4000000 }
+    requires few { asked.limit ≤ most_entries }
     ensures { TellsDue (IsDueAlone asked text.now) result }
 {
     if text.len() > MOST_SCENARIO_BYTES {
@@ -88,7 +84,7 @@ fn of_scenario(alloc: Global, asked: Asked, text: &[u8]) -> Outcome
 /// What comes of a scenario alone that isn't too long.
 fn of_short(alloc: Global, asked: Asked, text: &[u8]) -> Outcome
     requires some { 1 ≤ asked.limit }
-    requires few { asked.limit ≤ 4000000 }
+    requires few { asked.limit ≤ most_entries }
     ensures { TellsDue (IsDueOfScenario asked (reads text.now)) result }
 {
     match scenario_of(alloc, text) {
@@ -103,7 +99,7 @@ fn of_short(alloc: Global, asked: Asked, text: &[u8]) -> Outcome
 /// What comes of a scenario and what stands behind the line `--- journal`.
 fn of_parts(alloc: Global, asked: Asked, text: &[u8], journal: &[u8]) -> Outcome
     requires some { 1 ≤ asked.limit }
-    requires few { asked.limit ≤ 4000000 }
+    requires few { asked.limit ≤ most_entries }
     requires short { length journal.now ≤ 310000000 }
     ensures { TellsDue (IsDueOfRead asked (reads text.now) journal.now) result }
 {
@@ -116,7 +112,7 @@ fn of_parts(alloc: Global, asked: Asked, text: &[u8], journal: &[u8]) -> Outcome
 /// What comes of a scenario with what may be its journal.
 fn of_journal(alloc: Global, asked: Asked, scenario: Scenario, journal: &[u8]) -> Outcome
     requires some { 1 ≤ asked.limit }
-    requires few { asked.limit ≤ 4000000 }
+    requires few { asked.limit ≤ most_entries }
     requires short { length journal.now ≤ 310000000 }
     ensures { TellsDue (IsDueOfJournal asked scenario journal.now) result }
 {

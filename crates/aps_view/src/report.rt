@@ -3,6 +3,7 @@ ghost use Rattle.std.specs.Prelude.{◌≡◌, ◌≤◌, length, option_map, st
 ghost use Rattle.aps_model.specs.Legal.{IsLegal};
 ghost use Rattle.aps_view.specs.Report as spec;
 ghost use Rattle.aps_view.specs.Report.{IsReport};
+ghost use Rattle.aps_model.specs.Limits.{most_entries};
 
 use crate::drawing::drawn;
 use crate::naming::thread_named;
@@ -29,7 +30,7 @@ pub fn trace_of(report: Report) -> Option<Trace>
 
 /// This report of what the core has recorded, or none where it is asked for a thread that the scenario hasn't, or for a trace.
 pub fn report_of(alloc: Global, report: Report, core: &Core) -> Result<Option<String>, NoMemory>
-    requires few { core.now.setup.limit ≤ 4000000 }
+    requires few { core.now.setup.limit ≤ most_entries }
     ensures { IfOk result (λ text. IsReport report core.now.setup.scenario core.now.entries (option_map string_bytes text)) }
 {
     let history = core.history();
@@ -68,7 +69,7 @@ fn explained(
     at: Nanos,
 ) -> Result<Option<String>, NoMemory>
     requires legal { IsLegal history.now.scenario order history.now.entries }
-    requires few { length history.now.entries ≤ 4000000 }
+    requires few { length history.now.entries ≤ most_entries }
     ensures { IfOk result (λ text. option_map string_bytes text ≡ spec.explained history.now.scenario history.now.entries thread at) }
 {
     match thread_named(history.scenario().threads(), thread) {

@@ -5,6 +5,7 @@ ghost use Rattle.aps_core.specs.Run.{end_of_run};
 ghost use Rattle.aps_view_words.specs.declared.asked.Report.TheVariants.{Latency, Shares};
 ghost use Rattle.aps_view.specs.Cause.{told_by};
 ghost use Rattle.aps_view.specs.Due.{IsDueOfRun, IsDueOfSetup, status_by};
+ghost use Rattle.aps_model.specs.Limits.{most_entries};
 
 use crate::outcome::Outcome;
 use crate::status::Status;
@@ -20,7 +21,7 @@ use std::alloc::Global;
 /// core makes its steps, so that no other core has to make them again for that.
 pub fn ran(alloc: Global, asked: Asked, scenario: Scenario) -> Result<Outcome, NoMemory>
     requires some { 1 ≤ asked.limit }
-    requires few { asked.limit ≤ 4000000 }
+    requires few { asked.limit ≤ most_entries }
     ensures { IfOk result (λ outcome. IsDueOfRun asked scenario (told_by outcome)) }
 {
     let core = Core::boot(alloc, scenario, Order::Fixed, asked.limit)?;
@@ -35,7 +36,7 @@ pub fn ran(alloc: Global, asked: Asked, scenario: Scenario) -> Result<Outcome, N
 fn ran_for_latency(alloc: Global, core: Core) -> Result<Outcome, NoMemory>
     requires begins { core.entries ≡ [] }
     requires fixed { core.setup.order ≡ Fixed }
-    requires few { core.setup.limit ≤ 4000000 }
+    requires few { core.setup.limit ≤ most_entries }
     ensures { IfOk result (λ outcome. IsDueOfSetup Latency core.setup (told_by outcome)) }
 {
     let mut core = core;
@@ -51,7 +52,7 @@ fn ran_for_latency(alloc: Global, core: Core) -> Result<Outcome, NoMemory>
 fn ran_for_shares(alloc: Global, core: Core) -> Result<Outcome, NoMemory>
     requires begins { core.entries ≡ [] }
     requires fixed { core.setup.order ≡ Fixed }
-    requires few { core.setup.limit ≤ 4000000 }
+    requires few { core.setup.limit ≤ most_entries }
     ensures { IfOk result (λ outcome. IsDueOfSetup Shares core.setup (told_by outcome)) }
 {
     let spending = spend_run(alloc, core)?;
@@ -67,7 +68,7 @@ fn ran_for_shares(alloc: Global, core: Core) -> Result<Outcome, NoMemory>
 fn ran_before(alloc: Global, report: Report, core: Core) -> Result<Outcome, NoMemory>
     requires begins { core.entries ≡ [] }
     requires fixed { core.setup.order ≡ Fixed }
-    requires few { core.setup.limit ≤ 4000000 }
+    requires few { core.setup.limit ≤ most_entries }
     ensures { IfOk result (λ outcome. IsDueOfSetup report core.setup (told_by outcome)) }
 {
     let mut core = core;

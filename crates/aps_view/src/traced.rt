@@ -3,6 +3,7 @@ ghost use Rattle.std.specs.Prelude.{◌≡◌, ◌≤◌, IsErrOf, OnOk};
 ghost use Rattle.aps_io.specs.Causes.{Rose};
 ghost use Rattle.aps_view.specs.Printing.{Says, SaysAll, output_of};
 ghost use Rattle.aps_view.specs.Traced.{trace_told};
+ghost use Rattle.aps_model.specs.Limits.{most_entries};
 
 use crate::status::Status;
 use aps_core::Core;
@@ -30,13 +31,13 @@ impl Model for Traced {
 
     ghost view = { λ traced. record { status = traced.status; trace = traced.trace; run = traced.core } };
 
-    ghost invariant = { λ traced. traced.core.setup.limit ≤ 4000000 };
+    ghost invariant = { λ traced. traced.core.setup.limit ≤ most_entries };
 }
 
 impl Traced {
     /// What the core has recorded, told as this trace under this status.
     pub fn of(status: Status, trace: Trace, core: Core) -> Traced
-        requires few { core.setup.limit ≤ 4000000 }
+        requires few { core.setup.limit ≤ most_entries }
         ensures { result ≡ record { status = status; trace = trace; run = core } }
     {
         Traced {

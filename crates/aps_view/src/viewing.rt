@@ -6,6 +6,7 @@ ghost use Rattle.aps_view.specs.declared.status.Status.TheVariants.{Done};
 ghost use Rattle.aps_view.specs.Cause.{told_by};
 ghost use Rattle.aps_view.specs.Due.{IsDueOfEntries, IsReported, judging, reported};
 ghost use Rattle.aps_view.specs.Report.{IsReport};
+ghost use Rattle.aps_model.specs.Limits.{most_entries};
 
 use crate::outcome::Outcome;
 use crate::refusal::InputRefusal;
@@ -20,7 +21,7 @@ use std::alloc::Global;
 
 /// What comes of what the core has recorded, under this status.
 pub fn told(alloc: Global, report: Report, core: Core, status: Status) -> Result<Outcome, NoMemory>
-    requires few { core.setup.limit ≤ 4000000 }
+    requires few { core.setup.limit ≤ most_entries }
     ensures { IfOk result (λ outcome. IsReported report core.setup.scenario core.entries status (told_by outcome)) }
 {
     // the check wants a copy for each call
@@ -38,7 +39,7 @@ fn told_as_text(
     core: Core,
     status: Status,
 ) -> Result<Outcome, NoMemory>
-    requires few { core.setup.limit ≤ 4000000 }
+    requires few { core.setup.limit ≤ most_entries }
     ensures { IfOk result (λ outcome. (text : Option (List ℕ)) × IsReport report core.setup.scenario core.entries text
         × (told_by outcome ≡ reported status text)) }
 {
@@ -64,7 +65,7 @@ pub fn judged(
     entries: &[Entry],
 ) -> Result<Outcome, NoMemory>
     requires some { 1 ≤ asked.limit }
-    requires few { asked.limit ≤ 4000000 }
+    requires few { asked.limit ≤ most_entries }
     ensures { IfOk result (λ outcome. IsDueOfEntries asked scenario entries.now (told_by outcome)) }
 {
     let verdict = check(alloc, &scenario, Order::Free, asked.limit, entries)?;
@@ -82,7 +83,7 @@ fn viewed(
     entries: &[Entry],
 ) -> Result<Outcome, NoMemory>
     requires some { 1 ≤ asked.limit }
-    requires few { asked.limit ≤ 4000000 }
+    requires few { asked.limit ≤ most_entries }
     requires sound { IsRunSoFar (judging asked scenario) entries.now }
     ensures { IfOk result (λ outcome. IsReported asked.report scenario entries.now Done (told_by outcome)) }
 {

@@ -14,6 +14,7 @@ use Rattle.aps_view_words.specs.declared.asked.Ticks.{Ticks}
 use Rattle.aps_view_words.specs.declared.asked.Trace.{Trace as TraceAsked}
 use Rattle.aps_view_words.specs.declared.asked.Trace.TheVariants.{Vcd, Gtkw, Events}
 use Rattle.aps_view_words.specs.Values.{AreTicks, thread_of, ticks_of}
+use Rattle.aps_model.specs.Limits.{last_moment, most_entries}
 
 -- a report with its limit, by the values of its options
 abbrev pub limited : Report → (Text → Option Text) → Option Asked
@@ -45,7 +46,7 @@ traced which = Trace which
 abbrev pub explain : (Text → Option Text) → Option Asked
 explain value = do
   thread ← thread_of (value (codes "thread"))
-  moment ← required_in 0 10000000000000 (value (codes "at"))
+  moment ← required_in 0 last_moment (value (codes "at"))
   limited (Explain thread moment) value
 
 abbrev pub limit_options : List Text
@@ -79,12 +80,12 @@ ReportHasRanges Cycles = ⊤
 ReportHasRanges (Csv ticks) = AreTicks ticks
 ReportHasRanges Shares = ⊤
 ReportHasRanges Latency = ⊤
-ReportHasRanges (Explain thread moment) = moment ≤ 10000000000000
+ReportHasRanges (Explain thread moment) = moment ≤ last_moment
 ReportHasRanges (Picture picture ticks) = AreTicks ticks
 ReportHasRanges (Trace trace) = ⊤
 
 -- and so have those of what is asked for
 pub record HasRanges (asked : Asked) : Type 0 where
   pub some : 1 ≤ asked.limit
-  pub few : asked.limit ≤ 4000000
+  pub few : asked.limit ≤ most_entries
   pub report : ReportHasRanges asked.report

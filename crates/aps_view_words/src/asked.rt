@@ -9,14 +9,12 @@ ghost use Rattle.aps_view_words.specs.Values.{AreTicks};
 
 use crate::options::{limit_options, thread_options, ticks_options};
 use crate::values::{thread_of, ticks_of};
+use aps_model::limits::LAST_MOMENT;
 use aps_model::{Name, Nanos};
 use aps_words::options::matches_in;
 use aps_words::{WordsRefusal, is_plain, limit_of, required_in};
 use clap::ArgMatches;
 use std::alloc::Global;
-
-/// The last moment that can be asked about, in ns.
-const LAST_MOMENT: u64 = 10_000_000_000_000;
 
 /// From a tick, 0 to 1,000,000, to a later one, up to 1,000,000; or to the end, where there is none.
 #[derive(Clone, Copy, Debug, PartialEq, Eq)]

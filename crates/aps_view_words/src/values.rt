@@ -4,9 +4,8 @@ ghost use Rattle.aps_view_words.specs.Values as spec;
 
 use crate::asked::Ticks;
 use aps_model::Name;
+use aps_model::limits::MOST_TICKS;
 use aps_words::number_in;
-
-const LAST_TICK: u64 = 1_000_000;
 
 /// The ticks from the first value to the second.
 pub fn ticks_of(from: Option<&str>, to: Option<&str>) -> Option<Ticks>
@@ -25,7 +24,7 @@ fn from_of(value: Option<&str>) -> Option<u32>
 {
     match value {
         None => Some(0),
-        Some(text) => number_in(0, LAST_TICK, text).map(|tick| tick as u32),
+        Some(text) => number_in(0, MOST_TICKS, text).map(|tick| tick as u32),
     }
 }
 
@@ -36,7 +35,7 @@ fn to_of(value: Option<&str>) -> Option<Option<u32>>
 {
     match value {
         None => Some(None),
-        Some(text) => number_in(0, LAST_TICK, text).map(|tick| Some(tick as u32)),
+        Some(text) => number_in(0, MOST_TICKS, text).map(|tick| Some(tick as u32)),
     }
 }
 

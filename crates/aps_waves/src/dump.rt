@@ -5,6 +5,7 @@ ghost use Rattle.aps_model.specs.Legal.{IsLegal};
 ghost use Rattle.aps_core.specs.Turn.{with_entry};
 ghost use Rattle.aps_samples.specs.Retraced.{start_of};
 ghost use Rattle.aps_waves.specs.Retraced.{IsAt, order_of, scenario_of};
+ghost use Rattle.aps_model.specs.Limits.{most_entries};
 
 use crate::changes::{add_all, add_changes, is_other};
 use crate::moments::add_values;
@@ -33,7 +34,7 @@ pub struct Dump {
 impl Dump {
     /// A dump that has told nothing. `NoMemory` comes where memory runs out.
     pub fn begin(alloc: Global, history: &History, order: Order) -> Result<Dump, NoMemory>
-        requires { length history.now.entries ≤ 4000000 }
+        requires { length history.now.entries ≤ most_entries }
         ensures at { IfOk result (λ dump. IsAt dump.at) }
         ensures core { IfOk result (λ dump. dump.at.core ≡ start_of history.now order) }
     {

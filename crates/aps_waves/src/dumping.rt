@@ -3,6 +3,7 @@ ghost use Rattle.std.specs.Prelude.{◌≡◌, ◌≤◌, [], IsErrOf, length};
 ghost use Rattle.aps_io.specs.Causes.{Rose};
 ghost use Rattle.aps_model.specs.Legal.{IsLegal};
 ghost use Rattle.aps_waves.specs.Retraced.{IsAt, order_of, scenario_of};
+ghost use Rattle.aps_model.specs.Limits.{most_entries};
 
 use crate::dump::Dump;
 use crate::signals::add_head;
@@ -27,7 +28,7 @@ pub fn vcd<K: Sink>(
     sink: &mut K,
 ) -> Result<(), TraceFault>
     requires legal { IsLegal history.now.scenario order history.now.entries }
-    requires few { length history.now.entries ≤ 4000000 }
+    requires few { length history.now.entries ≤ most_entries }
     ensures fault { IsErrOf result TraceFault.WriteFault → Rose (K.faults sink.old) (K.faults sink.new) }
     ensures later { K.faults sink.old ≤ K.faults sink.new }
 {

@@ -7,6 +7,7 @@ ghost use Rattle.aps_laws.specs.Moments.{moment};
 ghost use Rattle.aps_core.specs.Run.{state_of};
 ghost use Rattle.aps_waves.specs.Moment as spec;
 ghost use Rattle.aps_waves.specs.Usages.{IsUpTo};
+ghost use Rattle.aps_model.specs.Limits.{most_critical};
 
 use crate::kind::Kind;
 use crate::told::Told;
@@ -176,7 +177,7 @@ fn add_row(
 ) -> Result<(), NoMemory>
     requires shape { IsShape shape.now }
     requires row { IsRow row.now }
-    requires few { used ≤ 64000000000 }
+    requires few { used ≤ most_critical }
     ensures { OnOk result (values.new.items ≡ values.old.items ++ spec.row_values shape.now row.now used critical) }
 {
     let allowance = u64::from(row.budget) * shape.whole() / u64::from(shape.parts);

@@ -4,6 +4,7 @@ ghost use Rattle.aps_model.specs.Legal.{IsLegal};
 ghost use Rattle.aps_core.specs.Turn.{with_entry};
 ghost use Rattle.aps_samples.specs.Retraced.{start_of};
 ghost use Rattle.aps_waves.specs.Retraced.{IsAt, order_of, scenario_of};
+ghost use Rattle.aps_model.specs.Limits.{most_entries};
 
 use crate::usages::Usages;
 use aps_core::Core;
@@ -23,7 +24,7 @@ pub struct Retraced {
 impl Retraced {
     /// No step was made yet. `NoMemory` comes where memory runs out.
     pub fn begin(alloc: Global, history: &History, order: Order) -> Result<Retraced, NoMemory>
-        requires { length history.now.entries ≤ 4000000 }
+        requires { length history.now.entries ≤ most_entries }
         ensures at { IfOk result IsAt }
         ensures core { IfOk result (λ retraced. retraced.core ≡ start_of history.now order) }
     {

@@ -1,6 +1,7 @@
 //! A save file for the viewer of a value change dump: which signals it shows, in which order.
 ghost use Rattle.std.specs.Prelude.{◌≤◌, length};
 ghost use Rattle.aps_model.specs.Legal.{IsLegal};
+ghost use Rattle.aps_model.specs.Limits.{most_entries};
 
 use aps_bars::text::text_of;
 use aps_model::{Entry, History, Nanos, NoMemory, Order};
@@ -12,7 +13,7 @@ use std::fmt::Write;
 /// headings, and usages as steps. `NoMemory` comes where memory runs out.
 pub fn gtkw(alloc: Global, history: &History, order: Order) -> Result<String, NoMemory>
     requires legal { IsLegal history.now.scenario order history.now.entries }
-    requires few { length history.now.entries ≤ 4000000 }
+    requires few { length history.now.entries ≤ most_entries }
 {
     let rows = rows_after(alloc, history, order)?;
     let mut out = String::new(alloc);

@@ -7,23 +7,22 @@ ghost use Rattle.aps_waves.specs.Told as spec;
 
 use aps_bars::Overspent;
 use aps_core::Core;
+use aps_model::limits::MOST_PARTITIONS;
 use aps_model::{CpuId, End, Entry, PartFacts, PartitionId, Pick};
-
-const PARTITIONS: usize = 32;
 
 /// Which partitions had a candidate at the last pick, and which of them an entry of this moment made bankrupt.
 #[derive(Clone, Copy)]
 pub struct Told {
-    pub demand: [bool; PARTITIONS],
-    pub overspent: [bool; PARTITIONS],
+    pub demand: [bool; MOST_PARTITIONS],
+    pub overspent: [bool; MOST_PARTITIONS],
 }
 
 impl Told {
     /// None.
     pub fn none() -> Told {
         Told {
-            demand: [false; PARTITIONS],
-            overspent: [false; PARTITIONS],
+            demand: [false; MOST_PARTITIONS],
+            overspent: [false; MOST_PARTITIONS],
         }
     }
 
@@ -53,7 +52,7 @@ impl Told {
         ensures demand { self.new.demand ≡ self.old.demand }
         ensures overspent { (q : ℕ) → q < 32 → slice_index_or self.new.overspent q false ≡ false }
     {
-        self.overspent = [false; PARTITIONS];
+        self.overspent = [false; MOST_PARTITIONS];
     }
 }
 
@@ -73,7 +72,7 @@ fn demand(core: &Core, c: CpuId) -> [bool; 32]
     ensures { (p : ℕ) → p < 32 → slice_index_or result p false ≡ had_candidate (state_of core.now) core.now.entries c p }
 {
     let count = core.history().rows().len();
-    let mut parts = [no_part(); PARTITIONS];
+    let mut parts = [no_part(); MOST_PARTITIONS];
     core.stand(&mut parts[..count]);
     let ready = core.candidates(&parts[..count]);
     with_billed(&core.cpu(c).running, &ready)

@@ -8,6 +8,7 @@ ghost use Rattle.aps_window.specs.Window.{advanced, opened, resized};
 ghost use Rattle.aps_core.specs.Run.{state_of};
 ghost use Rattle.aps_shares.specs.CriticalTime.{GoesOnBy, HasRoom};
 ghost use Rattle.aps_waves.specs.Usages.{IsCounted, IsUpTo};
+ghost use Rattle.aps_model.specs.Limits.{most_critical};
 
 use aps_core::Core;
 use aps_model::{Entry, Nanos, NoMemory, PartitionId};
@@ -56,7 +57,7 @@ impl Usages {
     /// What the partition used in the window that ends with the tick of the core's last entry, in ns.
     pub fn used(&self, core: &Core, p: PartitionId) -> Nanos
         requires { IsUpTo core.now self.now }
-        ensures few { result ≤ 64000000000 }
+        ensures few { result ≤ most_critical }
         ensures same { result ≡ window_used (state_of core.now).shape core.now.entries
             (moment core.now.entries / (state_of core.now).shape.tick) p }
     {

@@ -6,6 +6,7 @@ use Rattle.aps_model.specs.declared.entry.Order.TheVariants.{Free, Fixed}
 use Rattle.aps_words.specs.declared.command.Report.{Report}
 use Rattle.aps_words.specs.declared.command.Report.TheVariants.{Summary, Windows, Journal}
 use Rattle.aps_words.specs.Number.{number_in}
+use Rattle.aps_model.specs.Limits.{most_entries}
 
 -- the report of this name
 abbrev pub report_named : List ℕ → Option Report
@@ -33,7 +34,7 @@ order_of (Some value) = order_named value
 -- the limit of entries: the value, 1 to 4,000,000, or 1,000,000
 abbrev pub limit_of : Option (List ℕ) → Option ℕ
 limit_of None = Some 1000000
-limit_of (Some value) = number_in 1 4000000 value
+limit_of (Some value) = number_in 1 most_entries value
 
 -- a number in this range, whose option has to be there
 abbrev pub required_in : ℕ → ℕ → Option (List ℕ) → Option ℕ

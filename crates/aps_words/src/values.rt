@@ -1,15 +1,15 @@
 //! What the values of the options say.
 ghost use Rattle.std.specs.Prelude.{◌≡◌, ◌≤◌, IfSome, option_map};
 ghost use Rattle.aps_words.specs.Values as spec;
+ghost use Rattle.aps_model.specs.Limits.{most_entries};
 
 use crate::command::Report;
 use crate::number::number_in;
 use aps_model::Order;
+use aps_model::limits::MOST_ENTRIES;
 
 /// The number of entries after which a run stops, where the words name no other.
 const USUAL_LIMIT: u32 = 1_000_000;
-
-const MOST_ENTRIES: u64 = 4_000_000;
 
 /// The report that the value names, or the summary where there is no value.
 pub fn report_of(value: Option<&str>) -> Option<Report>
@@ -37,7 +37,7 @@ pub fn order_of(value: Option<&str>) -> Option<Order>
 /// The limit that the value is, 1 to 4,000,000, or 1,000,000 where there is no value.
 pub fn limit_of(value: Option<&str>) -> Option<u32>
     ensures same { result ≡ spec.limit_of (option_map (λ text. text.now) value.entry) }
-    ensures range { IfSome result (λ limit. (1 ≤ limit) × (limit ≤ 4000000)) }
+    ensures range { IfSome result (λ limit. (1 ≤ limit) × (limit ≤ most_entries)) }
 {
     match value {
         None => Some(USUAL_LIMIT),

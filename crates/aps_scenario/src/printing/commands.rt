@@ -11,6 +11,7 @@ ghost use Rattle.aps_scenario.specs.PrintedCommands.{call_members, command_table
 ghost use Rattle.aps_scenario.specs.PrintedTable as spec;
 ghost use Rattle.aps_scenario.specs.PrintedTable.{array_of_each, put_some};
 ghost use Rattle.aps_scenario.specs.PrintedWords as words;
+ghost use Rattle.aps_model.specs.Limits.{most_critical};
 
 use crate::key::Key;
 use crate::printing::table::{put_number, put_text, put_truth};
@@ -27,7 +28,7 @@ fn put_some_number(
     key: Key,
     number: Option<u64>,
 ) -> Result<(), NoMemory>
-    requires { IfSome number (λ n. n ≤ 64000000000) }
+    requires { IfSome number (λ n. n ≤ most_critical) }
     ensures { OnOk result (table_view table.new ≡ put_some key spec.number number (table_view table.old)) }
 {
     match number {
@@ -117,7 +118,7 @@ fn put_creation(
     critical: u64,
     max: u16,
 ) -> Result<(), NoMemory>
-    requires { critical ≤ 64000000000 }
+    requires { critical ≤ most_critical }
     ensures { OnOk result (table_view table.new
         ≡ call_members [] (call.Create name.now parent.now budget critical max) (table_view table.old)) }
 {
@@ -137,7 +138,7 @@ fn put_modification(
     critical: Option<u64>,
     max: Option<u16>,
 ) -> Result<(), NoMemory>
-    requires { IfSome critical (λ n. n ≤ 64000000000) }
+    requires { IfSome critical (λ n. n ≤ most_critical) }
     ensures { OnOk result (table_view table.new ≡ call_members [] (call.Modify partition.now budget critical max) (table_view table.old)) }
 {
     put_partition(alloc, table, partition)?;

@@ -7,6 +7,7 @@ ghost use Rattle.aps_model.specs.declared.partition.PartitionRow.{PartitionRow a
 ghost use Rattle.aps_scenario.specs.PrintedTree as tree;
 ghost use Rattle.aps_scenario.specs.PrintedPartitions.{partition_table, partition_array};
 ghost use Rattle.aps_scenario.specs.PrintedTable.{array_of_each};
+ghost use Rattle.aps_model.specs.Limits.{most_critical};
 
 use crate::key::Key;
 use crate::printing::table::{put_number, put_text};
@@ -41,7 +42,7 @@ fn put_partition(
     row: &PartitionRow,
 ) -> Result<(), NoMemory>
     requires parent { row.now.parent < length rows.now }
-    requires critical { row.now.critical ≤ 64000000000 }
+    requires critical { row.now.critical ≤ most_critical }
     requires empty { table_view table.old ≡ no_members }
     ensures { OnOk result (values.table (table_view table.new) ≡ partition_table rows.now row.now) }
 {
@@ -59,7 +60,7 @@ fn partition_value(
     row: &PartitionRow,
 ) -> Result<Value, NoMemory>
     requires parent { row.now.parent < length rows.now }
-    requires critical { row.now.critical ≤ 64000000000 }
+    requires critical { row.now.critical ≤ most_critical }
     ensures { IfOk result (λ value. view value ≡ partition_table rows.now row.now) }
 {
     let mut table = Table::new(alloc);
@@ -73,7 +74,7 @@ fn rows_value(
     listed: &[PartitionRow],
 ) -> Result<Value, NoMemory>
     requires parents { All (λ (row : Row). row.parent < length rows.now) listed.now }
-    requires criticals { All (λ (row : Row). row.critical ≤ 64000000000) listed.now }
+    requires criticals { All (λ (row : Row). row.critical ≤ most_critical) listed.now }
     ensures { IfOk result (λ value. view value ≡ array_of_each (partition_table rows.now) listed.now) }
 {
     let mut values = Vec::new(alloc);

@@ -1,6 +1,7 @@
 //! Verdicts on the journal of a small generated load, and on other short ones. Spoiled journals are judged beside these, as calls of
 //! the whole program (`aps_worked`).
 ghost use Rattle.std.specs.Prelude.{◌≤◌};
+ghost use Rattle.aps_model.specs.Limits.{most_entries};
 
 use aps_check::text::print_verdict;
 use aps_check::{Rule, Verdict, check};
@@ -26,7 +27,7 @@ fn journal(rt: &impl Abort, alloc: Global) -> Vec<Entry> {
 
 /// What is said of a journal of the load, in this order and up to this limit.
 fn judge(rt: &impl Abort, alloc: Global, order: Order, limit: u32, journal: &[Entry]) -> Verdict
-    requires { (1 ≤ limit) × (limit ≤ 4000000) }
+    requires { (1 ≤ limit) × (limit ≤ most_entries) }
 {
     check(alloc, &load(rt, alloc), order, limit, journal).expect(rt, "memory")
 }

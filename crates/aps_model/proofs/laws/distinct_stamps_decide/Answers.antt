@@ -1,6 +1,4 @@
-use Rattle.std.proofs.Common.{◌≡◌, ◌≢◌, Bool, true, false, not, refl}
-use Rattle.aps_model.specs.declared.merit.Merit.{Merit}
-use Rattle.aps_model.specs.declared.shape.Free.{Free}
+use Rattle.std.proofs.Common.{◌≡◌, Bool, true, false, not, refl}
 use Rattle.aps_model.specs.Merit.{is_greater}
 use Rattle.aps_model.proofs.MeritOrder.{greater_order, greater_total}
 use Rattle.aps_model.proofs.laws.distinct_stamps_decide.Goals as goal

@@ -3,6 +3,7 @@
 ghost use Rattle.std.specs.Prelude.{◌≡◌, ◌<◌, ◌≤◌, length};
 ghost use Rattle.aps_live.specs.LiveHistory.{NamesThread};
 ghost use Rattle.aps_live.specs.Seats.{HasAllCpus, IsSeatOf};
+ghost use Rattle.aps_model.specs.Limits.{last_moment, most_entries};
 
 use aps_live::{Live, LiveEvent, LiveHistory, LiveSeat, LiveTurn};
 use aps_model::{CpuId, Done, Entry, Nanos, PartitionId, ThreadId};
@@ -90,7 +91,7 @@ pub struct Call {
 
 /// The call at a moment, and its answer.
 pub fn at(now: Nanos, told: Told, turn: LiveTurn) -> Call
-    requires { now ≤ 10000000000000 }
+    requires { now ≤ last_moment }
 {
     Call { now, told, turn }
 }
@@ -109,7 +110,7 @@ impl OneProcessor {
     /// A run with room for so many entries.
     pub fn open(rt: &impl Abort, alloc: Global, limit: u32) -> OneProcessor
         requires some { 1 ≤ limit }
-        requires few { limit ≤ 4000000 }
+        requires few { limit ≤ most_entries }
     {
         let scenario = scenario_of(alloc, ONE_PROCESSOR.as_bytes()).expect(rt, "a scenario");
         assert!(rt; scenario.threads().len() >= 2);
@@ -119,7 +120,7 @@ impl OneProcessor {
 
     /// One call for processor 0.
     pub fn step<R: Wait>(&mut self, rt: &R, now: Nanos, told: Told) -> LiveTurn
-        requires { now ≤ 10000000000000 }
+        requires { now ≤ last_moment }
     {
         let event = match told {
             Told::Stay => LiveEvent::Stay,

@@ -2,6 +2,7 @@
 ghost use Rattle.std.specs.Prelude.{◌≡◌, ◌+◌, ◌<◌, ◌≤◌};
 ghost use Rattle.aps_live.specs.Seats.{HasCpu, IsSeatOf};
 ghost use Rattle.aps_part_tests.specs.Opened.{HasFour, IsStill};
+ghost use Rattle.aps_model.specs.Limits.{last_moment};
 
 use super::two_processors::opened;
 use aps_live::{Live, LiveEvent, LiveHistory, LiveSeat, LiveTurn};
@@ -109,7 +110,7 @@ impl Walker {
     fn step<R: Wait>(&mut self, rt: &R, live: &Live, now: Nanos) -> LiveTurn
         requires seat { IsSeatOf live.now self.old.seat × HasCpu self.old.seat self.old.cpu }
         requires wakes { (self.old.wakes < 4) × HasFour live.now }
-        requires early { now ≤ 10000000000000 }
+        requires early { now ≤ last_moment }
         ensures seat { IsSeatOf live.now self.new.seat × HasCpu self.new.seat self.new.cpu }
         ensures still { IsStill self.old.seat self.new.seat }
         ensures others { self.new ≡ record self.old { seat = self.new.seat } }

@@ -3,6 +3,7 @@ ghost use Rattle.std.specs.Prelude.{◌≡◌, ◌≤◌};
 ghost use Rattle.aps_live.specs.LiveHistory.{NamesThread};
 ghost use Rattle.aps_live.specs.Seats.{IsSeatOf};
 ghost use Rattle.aps_part_tests.specs.Opened.{HasFour};
+ghost use Rattle.aps_model.specs.Limits.{last_moment};
 
 use super::two_processors::opened;
 use aps_live::{Live, LiveEvent, LiveHistory, LiveSeat, LiveTurn};
@@ -35,7 +36,7 @@ impl TwoSeats {
 
     /// A call for processor 0, which wakes this thread.
     pub fn wake_by_zero<R: Wait>(&mut self, rt: &R, now: Nanos, x: usize) -> LiveTurn
-        requires now { now ≤ 10000000000000 }
+        requires now { now ≤ last_moment }
         requires x { x ≤ 3 }
     {
         let event = LiveEvent::Wake(ThreadId::at(x));
@@ -45,7 +46,7 @@ impl TwoSeats {
 
     /// A call for processor 1, which wakes this thread.
     pub fn wake_by_one<R: Wait>(&mut self, rt: &R, now: Nanos, x: usize) -> LiveTurn
-        requires now { now ≤ 10000000000000 }
+        requires now { now ≤ last_moment }
         requires x { x ≤ 3 }
     {
         let event = LiveEvent::Wake(ThreadId::at(x));
