@@ -18,11 +18,21 @@ use std::marker::Model;
 /// many threads there are. No channel has both a message and a receiver that wait, and a thread that waits for a message
 /// holds no client. Room for every thread is taken when they are made; no other call takes memory, and each takes a few
 /// steps, however many threads wait.
-#[derive(Drop)]
 pub struct Channels {
     waiting: Waiting,
     receivers: Lines,
     serving: Serving,
+}
+
+// Written out, so that it is proved here alone: a derived drop is proved again in each crate that lets a value go.
+impl Drop for Channels {
+    fn drop(self) {
+        let Self {
+            waiting: _,
+            receivers: _,
+            serving: _,
+        } = self;
+    }
 }
 
 impl Model for Channels {

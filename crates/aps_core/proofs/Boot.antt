@@ -7,7 +7,6 @@ use Rattle.aps_model.specs.declared.partition.PartitionRow.{PartitionRow}
 use Rattle.aps_model.specs.declared.scenario.ThreadRow.{ThreadRow}
 use Rattle.aps_model.specs.declared.shape.Shape.{Shape}
 use Rattle.aps_model.specs.declared.state.CpuNow.{CpuNow}
-use Rattle.aps_model.specs.declared.state.ThreadNow.{ThreadNow}
 use Rattle.aps_model.specs.After.{After}
 use Rattle.aps_model.specs.Inherit.{Inheritance, inheritance_of}
 use Rattle.aps_model.specs.Opening.{first_state, opening, stamp_after, start_stamps, start_threads}
@@ -17,7 +16,11 @@ use Rattle.aps_model.specs.Valid.{IsScenario}
 use Rattle.aps_model.proofs.AfterLaws.{after_none, legal_none}
 use Rattle.aps_laws.specs.Stamps.{IsStamped}
 use Rattle.aps_laws.proofs.ThreadLaws.{stamps_law}
+use Rattle.aps_tasks.specs.Start.{start_table}
+use Rattle.aps_tasks.specs.Table.{Table}
 use Rattle.aps_core.specs.Machine.{IsMachine}
+use Rattle.aps_core.specs.Threads.{threads_of}
+use Rattle.aps_core.proofs.Threads.{threads_joined}
 
 threads_length : (shape : Shape) (number next : ℕ) (rows : List ThreadRow) → length (start_threads shape number next rows) ≡ length rows
 threads_length shape number next [] = refl
@@ -50,26 +53,28 @@ machine_opening scenario waiters inherit parts replies changes valid all inherit
 }
 
 -- what the code makes of the parts of a scenario
-pub opening_by_parts : (scenario : Scenario) (rows : List PartitionRow) (shape : Shape) (threads : List ThreadNow) (stamps : ℕ) (channels : List ChannelNow) (triples : List Triple) (cpus : List CpuNow)
+pub opening_by_parts : (scenario : Scenario) (rows : List PartitionRow) (shape : Shape) (t : Table) (i : Inheritance) (channels : List ChannelNow) (triples : List Triple) (cpus : List CpuNow)
     (replies : List Reply) (changes : List Change)
-    → rows ≡ scenario.partitions → shape ≡ scenario.shape → threads ≡ start_threads scenario.shape 0 0 scenario.threads
-    → stamps ≡ start_stamps 0 scenario.threads → channels ≡ replicate (length scenario.channels) no_channel → triples ≡ [] → cpus ≡ replicate shape.cpus idle
+    → rows ≡ scenario.partitions → shape ≡ scenario.shape → t ≡ start_table scenario → i ≡ inheritance_of (opening scenario) → channels ≡ replicate (length scenario.channels) no_channel → triples ≡ [] → cpus ≡ replicate shape.cpus idle
     → replies ≡ [] → changes ≡ []
     → let s : SchedulerState = record {
       rows = rows;
       shape = shape;
-      threads = threads;
-      stamps = stamps;
+      threads = threads_of t.tasks i.own;
+      stamps = t.stamps;
       channels = channels;
       triples = triples;
       cpus = cpus;
       replies = replies;
       changes = changes;
     } in s ≡ opening scenario
-opening_by_parts scenario rows shape threads stamps channels triples cpus replies changes e1 e2 e3 e4 e5 e6 e7 e8 e9 =
+opening_by_parts scenario rows shape t i channels triples cpus replies changes e1 e2 e3 e4 e5 e6 e7 e8 e9 =
     let empty : channels ≡ map (λ (name : List ℕ). no_channel) scenario.channels = e5 ∙ no_channels scenario.channels in
     let idles : cpus ≡ replicate scenario.shape.cpus idle = e7 ∙ ap (λ (z : Shape). replicate z.cpus idle) e2 in
-    rw (e1, e2, e3, e4, empty, e6, idles, e8, e9) refl
+    let joined : threads_of t.tasks i.own ≡ (opening scenario).threads =
+    ap (λ (u : Table). threads_of u.tasks i.own) e3 ∙ ap (λ (j : Inheritance). threads_of (start_table scenario).tasks j.own) e4 ∙ threads_joined (opening scenario).threads in
+    let stamps : t.stamps ≡ start_stamps 0 scenario.threads = ap (λ (u : Table). u.stamps) e3 in
+    rw (e1, e2, joined, stamps, empty, e6, idles, e8, e9) refl
 
 -- stamps differ there
 pub opening_stamped : (scenario : Scenario) (order : Order) → IsScenario scenario → IsStamped (opening scenario).threads (opening scenario).stamps

@@ -1,5 +1,5 @@
 -- What a call of a running thread at the channels rests on, and what the machine keeps after it.
-use Rattle.std.proofs.Common.{◌≡◌, ◌≢◌, ℕ, ◌+◌, ◌<◌, List, [], ◌∷◌, ◌++◌, length, get_or, set, refl, sym, ◌∙◌, ap, Bool, true, false, cond, nat_eq, ◌&&◌, Option, Some, None, arith, inl, inr, get_or-set_same}
+use Rattle.std.proofs.Common.{◌≡◌, ◌≢◌, ℕ, ◌+◌, ◌<◌, List, [], ◌∷◌, ◌++◌, length, get_or, set, refl, sym, ◌∙◌, ap, subst, Bool, true, false, cond, nat_eq, ◌&&◌, Option, Some, None, arith, inl, inr, get_or-set_same}
 use Rattle.std.specs.Option.{option_map}
 use Rattle.std.proofs.lemmas.Bool.{cases_eq}
 use Rattle.std.proofs.lemmas.List.{map-set}
@@ -18,9 +18,11 @@ use Rattle.aps_channel.specs.declared.outcome.Replied.TheVariants.{Freed}
 use Rattle.aps_channel.specs.declared.outcome.Sent.TheVariants.{Delivered, Blocked}
 use Rattle.aps_channel.specs.Waiting.{first_sender}
 use Rattle.aps_inherit.specs.Serving.{server_of}
+use Rattle.aps_tasks.specs.Table.{Table}
 use Rattle.aps_core.specs.Conversation.{channels_of, received_in, replied_in, sent_in, with_channels}
 use Rattle.aps_core.specs.Machine.{IsMachine}
 use Rattle.aps_core.specs.Room.{HasRoom}
+use Rattle.aps_core.specs.Threads.{with_tasks}
 use Rattle.aps_core.proofs.SeatsStay.{tops_stay}
 
 -- ---- who runs waits nowhere, and who waits at a channel waits for no reply
@@ -106,18 +108,24 @@ pub record AreTied (s : SchedulerState) (k : Channels) (i : Inheritance) : Type 
   pub waiters : k.threads ≡ length s.threads
   pub inherits : i ≡ inheritance_of (with_channels s k)
 
-pub tied_machine : (s : SchedulerState) (n : ℕ) (j : Inheritance) (k : Channels) (i : Inheritance) (parts replies changes : ℕ)
-    → IsMachine s n j parts replies changes → AreTied s k i → IsMachine (with_channels s k) k.threads i parts replies changes
-tied_machine s n j k i parts replies changes m tied = record {
-  shape = m.shape;
-  few_threads = m.few_threads;
-  cpus = m.cpus;
-  waiters = tied.waiters;
-  inherits = tied.inherits;
-  parts = m.parts;
-  reply_room = m.reply_room;
-  change_room = m.change_room;
-}
+-- the values that are kept then are the threads' own ones still
+own_still : (s : SchedulerState) (n : ℕ) (j : Inheritance) (k : Channels) (i : Inheritance) (parts replies changes : ℕ) → IsMachine s n j parts replies changes → AreTied s k i → i.own ≡ j.own
+own_still s n j k i parts replies changes m tied = ap (λ (a : Inheritance). a.own) tied.inherits ∙ sym (ap (λ (a : Inheritance). a.own) m.inherits)
+
+pub tied_machine : (s : SchedulerState) (t : Table) (n : ℕ) (j : Inheritance) (k : Channels) (i : Inheritance) (parts replies changes : ℕ)
+    → IsMachine (with_tasks s t j.own) n j parts replies changes → AreTied (with_tasks s t j.own) k i → IsMachine (with_channels (with_tasks s t i.own) k) k.threads i parts replies changes
+tied_machine s t n j k i parts replies changes m tied =
+    subst (λ own. IsMachine (with_channels (with_tasks s t own) k) k.threads i parts replies changes) (sym (own_still (with_tasks s t j.own) n j k i parts replies changes m tied))
+    (record {
+      shape = m.shape;
+      few_threads = m.few_threads;
+      cpus = m.cpus;
+      waiters = tied.waiters;
+      inherits = tied.inherits;
+      parts = m.parts;
+      reply_room = m.reply_room;
+      change_room = m.change_room;
+    })
 
 -- the channels of a machine are those of its state
 pub channels_are : (s : SchedulerState) (k : Channels) → k.channels ≡ s.channels → k.triples ≡ s.triples → k.threads ≡ length s.threads → k ≡ channels_of s

@@ -19,7 +19,8 @@ pub mod Waking
 pub mod Turns
 pub mod Conversing
 pub mod Servers
-pub mod Inheriting
+pub mod Threads
+pub mod Tasking
 pub mod Ready
 pub mod Taken
 pub mod Kept

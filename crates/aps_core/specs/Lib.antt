@@ -5,10 +5,10 @@ pub mod Kept
 pub mod LastEnds
 pub mod NextDues
 pub mod Posts
-pub mod Short
 pub mod Room
 pub mod Ready
 pub mod Small
+pub mod Threads
 pub mod Part
 pub mod Seats
 pub mod Lowest

@@ -27,7 +27,6 @@ mod effect;
 mod flag;
 mod inherit;
 mod messages;
-mod operation;
 mod pick;
 mod posts;
 mod reading;
@@ -49,9 +48,10 @@ use aps_ctl::Ctl;
 use aps_inherit::Inherit;
 use aps_model::{
     Change, Contender, CpuId, CpuNow, Entry, Facts, Nanos, PartitionId, PartitionRow, Reply,
-    Scenario, Shape, ThreadId, ThreadNow,
+    Scenario, Shape, ThreadId,
 };
 use aps_ready::Ready;
+use aps_tasks::TaskTable;
 use aps_timer::Timer;
 use aps_tree::Tree;
 use aps_window::Window;
@@ -63,8 +63,7 @@ use wake::Woken;
 pub struct Machine {
     tree: Tree,
     shape: Shape,
-    threads: Vec<ThreadNow>,
-    stamps: u64,
+    tasks: TaskTable,
     channels: Channels,
     inherit: Inherit,
     cpus: Vec<CpuNow>,
@@ -78,8 +77,7 @@ impl Drop for Machine {
         let Self {
             tree: _,
             shape: _,
-            threads: _,
-            stamps: _,
+            tasks: _,
             channels: _,
             inherit: _,
             cpus: _,
@@ -115,7 +113,7 @@ impl Machine {
         let now = &self.cpus[cpu.index()];
         let left = match &now.running {
             None => None,
-            Some(pick) => self.thread(pick.thread).left,
+            Some(pick) => self.task(pick.thread).left,
         };
         let last = ends.last_to(entries, cpu);
         due::due_at(&self.shape, u64::from(at_hand), now.flag, last, left)

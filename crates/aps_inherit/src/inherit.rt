@@ -18,10 +18,19 @@ use std::marker::Model;
 /// priority raised to the greatest that waits at the channel by which the client's message came. They are kept beside
 /// each thread, and only those above a change are computed anew. Contracts see what they go by: each thread's own
 /// values, the triples with the newest first, and the greatest priority that waits at each channel.
-#[derive(Drop)]
 pub struct Inherit {
     content: Content,
     kept: Kept,
+}
+
+// Written out, so that it is proved here alone: a derived drop is proved again in each crate that lets a value go.
+impl Drop for Inherit {
+    fn drop(self) {
+        let Self {
+            content: _,
+            kept: _,
+        } = self;
+    }
 }
 
 impl Model for Inherit {

@@ -1,5 +1,5 @@
 -- An operation that is entered has something left, or never ends.
-use Rattle.std.proofs.Common.{◌≡◌, refl, Some, None}
+use Rattle.std.proofs.Common.{refl}
 use Rattle.aps_model.specs.declared.program.Op.{Op}
 use Rattle.aps_model.specs.declared.program.Op.TheVariants.{Run, Forever, Sleep, Yield, Send, Receive, Reply, Join, Priority, CriticalOn, CriticalOff, Repeat, Exit}
 use Rattle.aps_model.specs.declared.shape.Shape.{Shape}

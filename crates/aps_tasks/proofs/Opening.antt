@@ -1,20 +1,21 @@
 -- The threads at the start of a scenario are as the type keeps them.
-use Rattle.std.proofs.Common.{◌≡◌, ℕ, zero, suc, ◌+◌, ◌<◌, ◌≤◌, List, [], ◌∷◌, length, map, get_or, refl, sym, ◌∙◌, ap, subst, arith}
+use Rattle.std.proofs.Common.{◌≡◌, ℕ, zero, suc, ◌+◌, ◌<◌, List, [], ◌∷◌, length, map, get_or, refl, sym, ◌∙◌, ap, subst, arith}
 use Rattle.std.proofs.lemmas.List.{length-map}
 use Rattle.std.proofs.Math.ListN.{get_or-map}
 use Rattle.aps_model.specs.declared.program.Op.{Op}
 use Rattle.aps_model.specs.declared.program.Op.TheVariants.{Exit}
 use Rattle.aps_model.specs.declared.scenario.ThreadRow.{ThreadRow}
 use Rattle.aps_model.specs.declared.shape.Shape.{Shape}
-use Rattle.aps_model.specs.Opening.{first_op, first_state, stamp_after, start_stamps, start_threads, started}
+use Rattle.aps_model.specs.Opening.{first_op, first_state, stamp_after, start_threads}
 use Rattle.aps_model.specs.Operation.{duration}
 use Rattle.aps_model.specs.Scenario.{Scenario, no_thread_row}
 use Rattle.aps_model.specs.Valid.{IsScenario}
 use Rattle.aps_tasks.specs.declared.plan.Plan.{Plan}
 use Rattle.aps_tasks.specs.declared.task.Task.{Task}
 use Rattle.aps_tasks.specs.Kept.{IsLeft, IsTasks}
-use Rattle.aps_tasks.specs.Start.{plan_of, start_tasks, task_of}
-use Rattle.aps_tasks.specs.Tasks.{Tasks, no_task, op_at, op_of, plan_at, task_at}
+use Rattle.aps_tasks.specs.Start.{plan_of, start_table, start_tasks, task_of}
+use Rattle.aps_tasks.specs.Table.{Table}
+use Rattle.aps_tasks.specs.Tasks.{Tasks, no_task, op_at, op_of, task_at}
 use Rattle.aps_tasks.proofs.Lasting.{duration_left}
 use Rattle.aps_tasks.proofs.Short.{plans_short}
 use Rattle.aps_tasks.proofs.Stamps.{stamps_at_start}
@@ -57,8 +58,7 @@ kept_at_start s valid =
     }
 
 -- the same of what the code makes of the parts of a scenario
-pub kept_by_parts : (s : Scenario) (shape : Shape) (plans : List Plan) (tasks : List Task) (stamps : ℕ) → IsScenario s
-    → shape ≡ s.shape → plans ≡ map plan_of s.threads → tasks ≡ map task_of (start_threads s.shape 0 0 s.threads)
-    → stamps ≡ start_stamps 0 s.threads
-    → let t : Tasks = record { shape = shape; plans = plans; tasks = tasks; stamps = stamps } in IsTasks t
-kept_by_parts s shape plans tasks stamps valid e1 e2 e3 e4 = rw (e1, e2, e3, e4) (kept_at_start s valid)
+pub kept_by_parts : (s : Scenario) (shape : Shape) (plans : List Plan) (table : Table) → IsScenario s
+    → shape ≡ s.shape → plans ≡ map plan_of s.threads → table ≡ start_table s
+    → let t : Tasks = record { shape = shape; plans = plans; tasks = table.tasks; stamps = table.stamps } in IsTasks t
+kept_by_parts s shape plans table valid e1 e2 e3 = rw (e1, e2, e3) (kept_at_start s valid)

@@ -1,13 +1,11 @@
 -- The programs of a scenario are short, and so are their sleeps.
-use Rattle.std.proofs.Common.{◌≡◌, ℕ, ◌<◌, ◌≤◌, List, length, map, get_or, sym, ◌∙◌, subst, All, arith}
+use Rattle.std.proofs.Common.{ℕ, ◌<◌, List, length, map, get_or, sym, subst, All, arith}
 use Rattle.std.proofs.lemmas.List.{get_or-map, length-map}
 use Rattle.aps_model.specs.declared.program.Op.{Op}
 use Rattle.aps_model.specs.declared.program.Op.TheVariants.{Run, Forever, Sleep, Yield, Send, Receive, Reply, Join, Priority, CriticalOn, CriticalOff, Repeat, Exit}
-use Rattle.aps_model.specs.declared.scenario.ThreadRow.{ThreadRow}
 use Rattle.aps_model.specs.Program.{IsOp, IsProgram}
 use Rattle.aps_model.specs.Scenario.{Scenario, no_thread_row}
 use Rattle.aps_model.specs.Valid.{IsScenario}
-use Rattle.aps_tasks.specs.declared.plan.Plan.{Plan}
 use Rattle.aps_tasks.specs.Kept.{IsPlan, IsShort}
 use Rattle.aps_tasks.specs.Start.{plan_of}
 

@@ -6,6 +6,7 @@ use Rattle.aps_model.specs.Opening.{opening}
 use Rattle.aps_model.specs.Scenario.{Scenario}
 use Rattle.aps_tasks.specs.declared.plan.Plan.{Plan}
 use Rattle.aps_tasks.specs.declared.task.Task.{Task}
+use Rattle.aps_tasks.specs.Table.{Table}
 use Rattle.aps_tasks.specs.Tasks.{Tasks}
 
 abbrev pub plan_of : ThreadRow → Plan
@@ -26,6 +27,13 @@ abbrev pub start_tasks : Scenario → Tasks
 start_tasks scenario = record {
   shape = scenario.shape;
   plans = map plan_of scenario.threads;
+  tasks = map task_of (opening scenario).threads;
+  stamps = (opening scenario).stamps;
+}
+
+-- the same without the programs
+abbrev pub start_table : Scenario → Table
+start_table scenario = record {
   tasks = map task_of (opening scenario).threads;
   stamps = (opening scenario).stamps;
 }

@@ -4,7 +4,7 @@ use Rattle.aps_tasks.specs.Kept.{IsTasks}
 
 -- the threads that the fields stand for
 abbrev pub tasks_of : Inside → Tasks
-tasks_of t = record { shape = t.shape; plans = t.plans.items; tasks = t.tasks.items; stamps = t.stamps }
+tasks_of t = record { shape = t.shape; plans = t.plans.items; tasks = t.table.tasks; stamps = t.table.stamps }
 
 abbrev pub keeps : Inside → Type 0
 keeps t = IsTasks (tasks_of t)

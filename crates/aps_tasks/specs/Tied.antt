@@ -1,5 +1,5 @@
 -- The threads of a scheduler state beside the tasks that go through the same programs.
-use Rattle.std.specs.Prelude.{◌≡◌, ℕ, map}
+use Rattle.std.specs.Prelude.{◌≡◌, map}
 use Rattle.aps_model.specs.Scenario.{Scenario}
 use Rattle.aps_model.specs.SchedulerState.{SchedulerState}
 use Rattle.aps_tasks.specs.Start.{plan_of, task_of}

@@ -1,5 +1,5 @@
 //! What an operation takes, and what comes after it.
-ghost use Rattle.std.specs.Prelude.{◌≡◌, ◌*◌, ◌≤◌, ◌<◌, IfSome};
+ghost use Rattle.std.specs.Prelude.{◌≡◌, ◌*◌, ◌≤◌, ◌<◌};
 ghost use Rattle.aps_model.specs.Operation.{duration, is_slice_over, place_after, state_in};
 ghost use Rattle.aps_tasks.specs.Calls.{is_over, left_after, sleep_end};
 ghost use Rattle.aps_tasks.specs.Kept.{IsLeft, IsShort};
@@ -57,13 +57,12 @@ pub fn place_after(op: &Op, place: u16) -> u16
     }
 }
 
-/// What is left of an operation after so many ns of it.
+/// What is left of an operation after so many ns of it; nothing where less was left.
 pub fn left_after(left: &Option<Nanos>, ns: Nanos) -> Option<Nanos>
-    requires { IfSome left.now (λ most. ns ≤ most) }
     ensures { result ≡ left_after left.now ns }
 {
     match left {
-        Some(most) => Some(*most - ns),
+        Some(most) => Some(most.saturating_sub(ns)),
         None => None,
     }
 }

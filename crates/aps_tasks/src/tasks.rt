@@ -7,12 +7,11 @@ ghost use Rattle.aps_tasks.specs.Kept.{IsLeft, IsShort, IsTasks};
 ghost use Rattle.aps_tasks.specs.Start.{start_tasks};
 ghost use Rattle.aps_tasks.specs.Tasks.{op_at, op_of, plan_at, task_at, with_stamped, with_state, with_task};
 
-use crate::operation::{
-    duration, is_over, is_slice_over, left_after, place_after, sleep_end, state_in,
-};
+use crate::operation::{is_over, left_after, place_after, sleep_end};
 use crate::plan::Plan;
-use crate::start::{copy_plans, start_tasks};
-use crate::task::{Task, no_task};
+use crate::start::copy_plans;
+use crate::table::TaskTable;
+use crate::task::Task;
 use aps_model::{CpuId, Nanos, NoMemory, Op, Policy, Scenario, Shape, State, ThreadId};
 use std::alloc::Global;
 use std::marker::Model;
@@ -21,12 +20,21 @@ use std::marker::Model;
 /// the time of a call count, the policy and the program of each thread, the task of each thread, and the next stamp.
 /// The type keeps that stamps are distinct. Where there is no such thread, it counts as gone, at the end of its program,
 /// and no call changes it. All memory is taken when the threads are made.
-#[derive(Drop)]
 pub struct Tasks {
     shape: Shape,
     plans: Vec<Plan>,
-    tasks: Vec<Task>,
-    stamps: u64,
+    table: TaskTable,
+}
+
+// Written out, so that it is proved here alone: a derived drop is proved again in each crate that lets a value go.
+impl Drop for Tasks {
+    fn drop(self) {
+        let Self {
+            shape: _,
+            plans: _,
+            table: _,
+        } = self;
+    }
 }
 
 impl Model for Tasks {
@@ -49,13 +57,12 @@ impl Tasks {
         ensures keeps { IfOk result (λ t. IsTasks t) }
     {
         let plans = copy_plans(alloc, scenario.threads())?;
-        let (tasks, stamps) = start_tasks(alloc, scenario)?;
+        let table = TaskTable::new(alloc, scenario)?;
         let shape = *scenario.shape();
         Ok(Tasks {
             shape,
             plans,
-            tasks,
-            stamps,
+            table,
         })
     }
 
@@ -102,17 +109,7 @@ impl Tasks {
         let task = self.task(x);
         let place = place_after(&self.op_at(x, task.place), task.place);
         let op = self.op_at(x, place);
-        let state = state_in(&op, now, task.state);
-        let left = duration(&self.shape, &op);
-        self.set_task(
-            x,
-            Task {
-                state,
-                place,
-                left,
-                ..task
-            },
-        );
+        self.table.enter(x, place, &op, &self.shape, now);
         sleep_end(&op, now)
     }
 
@@ -121,14 +118,7 @@ impl Tasks {
         requires { self.old.stamps < 2 ^ 63 }
         ensures { self.new ≡ made_ready self.old x }
     {
-        let task = self.task(x);
-        self.set_stamped(
-            x,
-            Task {
-                state: State::Ready,
-                ..task
-            },
-        );
+        self.table.ready(x);
     }
 
     /// A thread that runs is ready again; if it is round-robin and ran for four ticks or more since its stamp, with a
@@ -137,20 +127,8 @@ impl Tasks {
         requires { self.old.stamps < 2 ^ 63 }
         ensures { self.new ≡ given_back self.old x (task_at self.old x).state }
     {
-        let task = self.task(x);
-        let State::Running(_) = task.state else {
-            return;
-        };
-        let is_over = is_slice_over(&self.shape, self.policy(x), task.since);
-        let ready = Task {
-            state: State::Ready,
-            ..task
-        };
-        if is_over {
-            self.set_stamped(x, ready);
-        } else {
-            self.set_task(x, ready);
-        }
+        let policy = self.policy(x);
+        self.table.give_back(x, &self.shape, policy);
     }
 
     /// The thread runs on the processor.
@@ -172,8 +150,7 @@ impl Tasks {
         requires { self.old.stamps < 2 ^ 63 }
         ensures { self.new ≡ restamped self.old x }
     {
-        let task = self.task(x);
-        self.set_stamped(x, task);
+        self.table.restamp(x);
     }
 
     /// The thread is gone.
@@ -191,17 +168,8 @@ impl Tasks {
         ensures thread { self.new ≡ spent self.old x ns }
         ensures over { result ≡ is_over (left_after (task_at self.old x).left ns) }
     {
-        let task = self.task(x);
-        let left = left_after(&task.left, ns);
-        let since = task.since + ns;
-        self.set_task(
-            x,
-            Task {
-                left,
-                since,
-                ..task
-            },
-        );
+        let left = left_after(&self.task(x).left, ns);
+        self.table.spend(x, ns);
         is_over(&left)
     }
 
@@ -211,10 +179,7 @@ impl Tasks {
         ensures left { x < length self.now.tasks → IsLeft (op_at self.now x result.place) result.left }
         ensures keeps { IsTasks self.now }
     {
-        match self.tasks.get(x.index()) {
-            Some(task) => *task,
-            None => no_task(),
-        }
+        self.table.task(x)
     }
 
     /// The thread's policy.
@@ -246,37 +211,6 @@ impl Tasks {
     fn set_state(&mut self, x: ThreadId, state: State)
         ensures { self.new ≡ with_state self.old x state }
     {
-        let task = self.task(x);
-        self.set_task(x, Task { state, ..task });
-    }
-
-    /// The thread's task is this one, with the stamp that it had.
-    fn set_task(&mut self, x: ThreadId, task: Task)
-        requires stamp { task.stamp ≡ (task_at self.old x).stamp }
-        requires left { x < length self.old.tasks → IsLeft (op_at self.old x task.place) task.left }
-        ensures { self.new ≡ with_task self.old x task }
-    {
-        let index = x.index();
-        if index < self.tasks.len() {
-            self.tasks[index] = task;
-        }
-    }
-
-    /// The thread's task is this one, with the next stamp.
-    fn set_stamped(&mut self, x: ThreadId, task: Task)
-        requires stamps { self.old.stamps < 2 ^ 63 }
-        requires left { x < length self.old.tasks → IsLeft (op_at self.old x task.place) task.left }
-        ensures { self.new ≡ with_stamped self.old x task }
-    {
-        let stamp = self.stamps;
-        self.stamps += 1;
-        let index = x.index();
-        if index < self.tasks.len() {
-            self.tasks[index] = Task {
-                stamp,
-                since: 0,
-                ..task
-            };
-        }
+        self.table.set_state(x, state);
     }
 }

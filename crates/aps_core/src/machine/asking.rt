@@ -58,7 +58,7 @@ impl Machine {
         ensures { (p : ℕ) → p < 32 → slice_index_or result p false ≡ has_candidate parts.now p (contenders self.now) }
     {
         let mut found = [false; 32];
-        for x in 0..self.threads.len() {
+        for x in 0..self.count() {
             if let Some(c) = self.contender_at(ThreadId::at(x)) {
                 let is_candidate = merit::is_candidate_among(parts, &c);
                 mark(&mut found, c.facts.partition, is_candidate);
@@ -72,12 +72,12 @@ impl Machine {
         ensures ready { IfSome result (λ c. (c ≡ contender_of self.now x) × IsTrue (is_ready (thread_at self.now x).state)) }
         ensures other { IfNone result (is_ready (thread_at self.now x).state ≡ false) }
     {
-        let thread = self.thread(x);
-        match thread.state {
+        let task = self.task(x);
+        match task.state {
             State::Ready => Some(Contender {
                 thread: x,
                 facts: self.facts_of(x),
-                stamp: thread.stamp,
+                stamp: task.stamp,
             }),
             _ => None,
         }

@@ -1,5 +1,4 @@
-ghost use Rattle.std.specs.Prelude.{◌≡◌, ℕ, ◌-◌, ◌<◌, ◌≤◌, length, None};
-ghost use Rattle.std.specs.Option.{option_map};
+ghost use Rattle.std.specs.Prelude.{◌≡◌, ℕ, ◌<◌, ◌≤◌, length, None};
 ghost use Rattle.aps_model.specs.Bill.{bill_of};
 ghost use Rattle.aps_model.specs.SchedulerState.{cpu_at, thread_at, with_cpu};
 ghost use Rattle.aps_model.specs.Step.{billed};
@@ -27,13 +26,7 @@ impl Machine {
         ensures { self.new ≡ billed self.old e.now running.now }
     {
         if let Some(pick) = running {
-            let ns = e.to - e.from;
-            let index = pick.thread.index();
-            if index < self.threads.len() {
-                let thread = &mut self.threads[index];
-                thread.left = left_after(thread.left, ns);
-                thread.since += ns;
-            }
+            self.tasks.spend(pick.thread, e.to - e.from);
         }
     }
 }
@@ -59,15 +52,5 @@ pub fn bill_of(cpu: CpuId, from: Nanos, now: Nanos, running: &Option<Pick>) -> E
         flagged: None,
         cpu,
         critical,
-    }
-}
-
-/// What is left of an operation after so long.
-fn left_after(left: Option<Nanos>, ns: Nanos) -> Option<Nanos>
-    ensures { result ≡ option_map (λ left. left - ns) left }
-{
-    match left {
-        None => None,
-        Some(left) => Some(left.saturating_sub(ns)),
     }
 }

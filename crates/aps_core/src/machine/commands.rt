@@ -46,11 +46,10 @@ impl Machine {
         ensures { result ≡ option_map (thread_view self.now) (thread_named call.now) }
     {
         let x = thread_named(call)?;
-        let thread = self.thread(x);
         Some(ThreadView {
-            own: thread.own,
+            own: self.own(x),
             now: self.facts_of(x),
-            state: thread.state,
+            state: self.task(x).state,
         })
     }
 

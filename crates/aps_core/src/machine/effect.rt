@@ -14,8 +14,7 @@ impl Machine {
         requires { self.old.stamps < 2 ^ 63 }
         ensures { self.new ≡ with_stamped self.old x (thread_at self.old x) }
     {
-        let thread = self.thread(x);
-        self.set_stamped(x, thread);
+        self.tasks.restamp(x);
     }
 
     /// The thread is of the partition of this name, if there is one.

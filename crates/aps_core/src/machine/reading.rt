@@ -1,10 +1,25 @@
 ghost use Rattle.std.specs.Prelude.{◌≡◌};
-ghost use Rattle.aps_model.specs.SchedulerState.{cpu_at, idle};
+ghost use Rattle.aps_model.specs.SchedulerState.{cpu_at, idle, thread_at};
 
 use super::Machine;
-use aps_model::{CpuId, CpuNow};
+use aps_model::{CpuId, CpuNow, ThreadId, ThreadNow};
 
 impl Machine {
+    /// The thread of this number as it stands.
+    pub fn thread(&self, x: ThreadId) -> ThreadNow
+        ensures { result ≡ thread_at self.now x }
+    {
+        let task = self.task(x);
+        ThreadNow {
+            own: self.own(x),
+            state: task.state,
+            place: task.place,
+            left: task.left,
+            stamp: task.stamp,
+            since: task.since,
+        }
+    }
+
     /// The processor of this number as it stands.
     pub fn cpu(&self, c: CpuId) -> CpuNow
         ensures { result ≡ cpu_at self.now c }

@@ -13,12 +13,12 @@ impl Machine {
     pub fn seat_at(&self, x: ThreadId) -> Option<Contender>
         ensures { result ≡ seat_at self.now x }
     {
-        let thread = self.thread(x);
-        match thread.state {
+        let task = self.task(x);
+        match task.state {
             State::Ready => Some(Contender {
                 thread: x,
                 facts: self.facts_of(x),
-                stamp: thread.stamp,
+                stamp: task.stamp,
             }),
             _ => None,
         }
@@ -29,7 +29,7 @@ impl Machine {
         requires { IsStamped self.now.threads self.now.stamps }
         ensures { IfOk result (λ ready. ready ≡ seats_of self.now) }
     {
-        let mut ready = Ready::new(alloc, self.threads.len() as u16)?;
+        let mut ready = Ready::new(alloc, self.count() as u16)?;
         self.sync_all(&mut ready);
         Ok(ready)
     }
@@ -40,10 +40,10 @@ impl Machine {
         requires stamped { IsStamped self.now.threads self.now.stamps }
         ensures { ready.new ≡ seats_of self.now }
     {
-        'leave: for x in 0..self.threads.len() {
+        'leave: for x in 0..self.count() {
             self.leave(ready, ThreadId::at(x));
         }
-        'enter: for x in 0..self.threads.len() {
+        'enter: for x in 0..self.count() {
             self.enter(ready, ThreadId::at(x));
         }
     }

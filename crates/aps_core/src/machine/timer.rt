@@ -14,7 +14,7 @@ impl Machine {
     fn until_at(&self, x: ThreadId) -> Option<Nanos>
         ensures { result ≡ until_at self.now x }
     {
-        match self.thread(x).state {
+        match self.task(x).state {
             State::Sleeping(until) => Some(until),
             _ => None,
         }
@@ -24,7 +24,7 @@ impl Machine {
     pub fn start_timer(&self, alloc: Global) -> Result<Timer, NoMemory>
         ensures { IfOk result (λ timer. timer ≡ sleepers_of self.now) }
     {
-        let mut timer = Timer::new(alloc, self.threads.len() as u16)?;
+        let mut timer = Timer::new(alloc, self.count() as u16)?;
         self.time_all(&mut timer);
         Ok(timer)
     }
@@ -49,7 +49,7 @@ impl Machine {
         requires count { length timer.old ≡ length self.now.threads }
         ensures { timer.new ≡ sleepers_of self.now }
     {
-        for x in 0..self.threads.len() {
+        for x in 0..self.count() {
             self.time(timer, ThreadId::at(x));
         }
     }

@@ -125,7 +125,7 @@ impl Machine {
         ensures timed { timer.new ≡ sleepers_of self.new }
     {
         // the check wants to see that there are 1,024 threads at most
-        let _count = self.threads.len();
+        let _count = self.tasks.len();
         take_due(timer, now, woken);
         for i in 0..woken.len() {
             let x = woken.at(i);

@@ -1,13 +1,34 @@
-use Rattle.std.proofs.Common.{◌+◌, ◌-◌, ap, arith}
-use Rattle.std.proofs.lemmas.List.{get_or_read}
-use Rattle.aps_model.specs.declared.state.ThreadNow.{ThreadNow}
-use Rattle.aps_model.specs.SchedulerState.{no_thread}
+use Rattle.std.proofs.Common.{◌-◌, ◌+◌, ◌∙◌, ap, arith, length, length-set, sym, Option}
+use Rattle.aps_model.specs.declared.state.Pick.{Pick}
+use Rattle.aps_model.specs.SchedulerState.{SchedulerState, thread_at}
+use Rattle.aps_model.specs.Step.{billed}
+use Rattle.aps_tasks.specs.declared.task.Task.{Task}
+use Rattle.aps_tasks.specs.Calls.{left_after}
+use Rattle.aps_tasks.specs.Table.{Table, task_in}
 use Rattle.aps_core.specs.MachineView.{state_of}
-use Rattle.aps_core.proofs.Inheriting.{written_machine}
+use Rattle.aps_core.proofs.Tasking.{spent, tasked_machine}
+use Rattle.aps_core.proofs.Threads.{task_read}
 use Rattle.aps_core.proofs.machine.Machine.bill.Goals as goal
+
+pub spend-requires : goal.spend-requires
+spend-requires c =
+    let m = c.self.inside in
+    let x = c.in-Some.pick.thread in
+    let same = ap (λ (a : Task). a.since) (task_read m.tasks.tasks m.inherit.own x) ∙ ap (λ (s : SchedulerState). (thread_at s x).since) c.self.view_is in
+    omega (arith, same, c.requires.since x, c.requires.to)
+
+pub returns-in-Some : goal.returns-in-Some
+returns-in-Some c =
+    let m = c.self.inside in
+    spent (state_of m) m.tasks c.spend.new.self m.inherit.own (c.args.e.now.to - c.args.e.now.from) c.in-Some.pick c.spend.ensures
+    ∙ ap (λ (running : Option Pick). billed (state_of m) c.args.e.now running) (sym c.in-Some.is)
+    ∙ ap (λ (s : SchedulerState). billed s c.args.e.now c.args.running.now) c.self.view_is
 
 pub invariant_of-self : goal.invariant_of-self
 invariant_of-self c =
-    let s = state_of c.self.inside in
-    let read = get_or_read s.threads c.index-index.result c.index_mut-thread.result.now (omega (arith, c.if-index-len.true, c.len.ensures, c.self.inside.threads.ok.0)) c.index_mut-thread.ensures.value no_thread in
-    written_machine s c.index-index.result (record c.index_mut-thread.result.now { left = c.left_after-thread.result; since = c.index_mut-thread.result.now.since + (c.args.e.now.to - c.args.e.now.from) }) _ _ _ _ _ c.self.invariant (ap (λ (t : ThreadNow). t.own) read)
+    let m = c.self.inside in
+    tasked_machine (state_of m) m.tasks c.spend.new.self _ m.inherit _ _ _ c.self.invariant
+    (ap (λ (t : Table). length t.tasks) c.spend.ensures ∙ length-set m.tasks.tasks c.in-Some.pick.thread (record (task_in m.tasks c.in-Some.pick.thread) {
+      left = left_after (task_in m.tasks c.in-Some.pick.thread).left (c.args.e.now.to - c.args.e.now.from);
+      since = (task_in m.tasks c.in-Some.pick.thread).since + (c.args.e.now.to - c.args.e.now.from);
+    }))

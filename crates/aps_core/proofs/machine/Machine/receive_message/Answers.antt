@@ -41,7 +41,7 @@ invariant_of-self c =
     let answer = c.receive-received.ensures.answer ∙ ap (λ (h : Channels). (received h c.args.c c.args.x (client_of h.triples c.args.x)).answer) are in
     let leaves = c.receive-received.ensures.state ∙ ap (λ (h : Channels). (received h c.args.c c.args.x (client_of h.triples c.args.x)).state) are in
     let within = subst (λ (u : SchedulerState). c.args.c < length u.channels) (sym c.self.view_is) c.requires.channel in
-    tied_machine s _ _ _ _ _ _ _ c.self.invariant
+    tied_machine s c.self.inside.tasks _ _ _ _ _ _ _ c.self.invariant
     (received_got s c.args.x c.args.c c.in-Got.client c.receive-received.new.self c.self.inside.inherit c.raise.new.self c.serve.new.self c.top-left.result within leaves
     (sym c.in-Got.is ∙ answer) c.self.invariant.inherits c.top-left.ensures.top c.raise.ensures c.serve.ensures)
 
@@ -51,5 +51,5 @@ invariant_of-self-in_default c =
     let are = channels_are s c.self.inside.channels refl refl c.self.invariant.waiters in
     let answer = c.receive-received.ensures.answer ∙ ap (λ (h : Channels). (received h c.args.c c.args.x (client_of h.triples c.args.x)).answer) are in
     let leaves = c.receive-received.ensures.state ∙ ap (λ (h : Channels). (received h c.args.c c.args.x (client_of h.triples c.args.x)).state) are in
-    tied_machine s _ _ _ _ _ _ _ c.self.invariant
+    tied_machine s c.self.inside.tasks _ _ _ _ _ _ _ c.self.invariant
     (received_none s c.args.x c.args.c c.receive-received.new.self c.self.inside.inherit leaves (λ y e. c.in_default.not-Got y (answer ∙ e)) c.self.invariant.inherits)

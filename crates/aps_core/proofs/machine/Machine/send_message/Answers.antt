@@ -61,7 +61,7 @@ invariant_of-self c =
     c.send-sent.ensures.state
     ∙ ap (λ (h : Channels). (sent h c.args.c c.args.x c.facts_of-priority.result.priority (channel_at h c.args.c).receivers).state) are
     ∙ ap (λ n. (sent (channels_of s) c.args.c c.args.x n (channel_at (channels_of s) c.args.c).receivers).state) priority in
-    tied_machine s _ _ _ _ _ _ _ c.self.invariant
+    tied_machine s c.self.inside.tasks _ _ _ _ _ _ _ c.self.invariant
     (sent_delivered s c.args.x c.args.c c.in-Delivered.server c.send-sent.new.self c.self.inside.inherit c.serve.new.self leaves (sym c.in-Delivered.is ∙ answer) c.self.invariant.inherits c.serve.ensures)
 
 pub invariant_of-self-in-Blocked : goal.invariant_of-self-in-Blocked
@@ -78,6 +78,6 @@ invariant_of-self-in-Blocked c =
     ∙ ap (λ (h : Channels). (sent h c.args.c c.args.x c.facts_of-priority.result.priority (channel_at h c.args.c).receivers).state) are
     ∙ ap (λ n. (sent (channels_of s) c.args.c c.args.x n (channel_at (channels_of s) c.args.c).receivers).state) priority in
     let within = subst (λ (u : SchedulerState). c.args.c < length u.channels) (sym c.self.view_is) c.requires.channel in
-    tied_machine s _ _ _ _ _ _ _ c.self.invariant
+    tied_machine s c.self.inside.tasks _ _ _ _ _ _ _ c.self.invariant
     (sent_blocked s c.args.x c.args.c c.send-sent.new.self c.self.inside.inherit c.raise.new.self c.top-top.result within leaves (sym c.in-Blocked.is ∙ answer) c.self.invariant.inherits
     c.top-top.ensures.top c.raise.ensures)

@@ -1,17 +1,17 @@
-use Rattle.std.proofs.Common.{◌∙◌, ap, arith, sym}
-use Rattle.std.proofs.lemmas.List.{get_or_read}
-use Rattle.aps_model.specs.declared.state.ThreadNow.{ThreadNow}
+use Rattle.std.proofs.Common.{◌∙◌, ap}
 use Rattle.aps_model.specs.declared.state.Facts.{Facts}
-use Rattle.aps_model.specs.SchedulerState.{no_thread}
-use Rattle.aps_inherit.specs.Own.{own_of, with_own}
+use Rattle.aps_model.specs.SchedulerState.{SchedulerState, thread_at, with_own}
 use Rattle.aps_core.specs.MachineView.{state_of}
-use Rattle.aps_core.proofs.Inheriting.{told_machine}
+use Rattle.aps_core.proofs.Tasking.{one_each, told, told_machine}
 use Rattle.aps_core.proofs.machine.Machine.set_own_priority.Goals as goal
+
+pub returns : goal.returns
+returns c =
+    let m = c.self.inside in
+    told (state_of m) m.tasks m.inherit c.set_priority.new.self c.args.x (λ (own : Facts). record own { priority = c.args.priority }) (one_each (state_of m) m.tasks m.inherit.own _ m.inherit _ _ _ c.self.invariant) c.set_priority.ensures
+    ∙ ap (λ (s : SchedulerState). with_own s c.args.x (record (thread_at s c.args.x).own { priority = c.args.priority })) c.self.view_is
 
 pub invariant_of-self : goal.invariant_of-self
 invariant_of-self c =
-    let s = state_of c.self.inside in
-    let read = get_or_read s.threads c.index-index.result c.index_mut.result.now (omega (arith, c.if-index-len.true, c.len.ensures, c.self.inside.threads.ok.0)) c.index_mut.ensures.value no_thread in
-    told_machine s c.index-index.result (record c.index_mut.result.now { own = record c.index_mut.result.now.own { priority = c.args.priority } }) (λ (own : Facts). record own { priority = c.args.priority })
-    _ _ _ _ _ _ c.self.invariant (ap (λ (t : ThreadNow). record t.own { priority = c.args.priority }) read)
-    (c.set_priority.ensures ∙ ap (λ x. with_own c.self.inside.inherit x (record (own_of c.self.inside.inherit x) { priority = c.args.priority })) (sym c.index-index.ensures.same))
+    let m = c.self.inside in
+    told_machine (state_of m) m.tasks _ m.inherit c.set_priority.new.self c.args.x _ _ _ _ c.self.invariant c.set_priority.ensures

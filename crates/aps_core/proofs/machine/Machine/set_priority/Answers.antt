@@ -1,7 +1,7 @@
 use Rattle.std.proofs.Common.{◌∙◌, ap}
 use Rattle.aps_model.specs.Operation.{with_stamped}
 use Rattle.aps_model.specs.SchedulerState.{SchedulerState, thread_at}
-use Rattle.aps_core.proofs.Inheriting.{stamped_again}
+use Rattle.aps_core.proofs.Tasking.{stamped_again}
 use Rattle.aps_core.proofs.machine.Machine.set_priority.Goals as goal
 
 pub returns : goal.returns

@@ -1,13 +1,18 @@
-use Rattle.std.proofs.Common.{ap, arith}
-use Rattle.std.proofs.lemmas.List.{get_or_read}
-use Rattle.aps_model.specs.declared.state.ThreadNow.{ThreadNow}
-use Rattle.aps_model.specs.SchedulerState.{no_thread}
+use Rattle.std.proofs.Common.{◌∙◌, ap, length, refl, length-set}
+use Rattle.aps_model.specs.SchedulerState.{SchedulerState, with_state}
+use Rattle.aps_tasks.specs.Table.{Table, task_in}
 use Rattle.aps_core.specs.MachineView.{state_of}
-use Rattle.aps_core.proofs.Inheriting.{written_machine}
+use Rattle.aps_core.proofs.Tasking.{tasked_machine, written}
 use Rattle.aps_core.proofs.machine.Machine.set_state.Goals as goal
+
+pub returns : goal.returns
+returns c =
+    let m = c.self.inside in
+    written (state_of m) m.tasks c.set_state.new.self m.inherit.own c.args.x (λ a. record a { state = c.args.state }) (λ b. record b { state = c.args.state }) (λ a o. refl) c.set_state.ensures
+    ∙ ap (λ (s : SchedulerState). with_state s c.args.x c.args.state) c.self.view_is
 
 pub invariant_of-self : goal.invariant_of-self
 invariant_of-self c =
-    let s = state_of c.self.inside in
-    let read = get_or_read s.threads c.index-index.result c.index_mut.result.now (omega (arith, c.if-index-len.true, c.len.ensures, c.self.inside.threads.ok.0)) c.index_mut.ensures.value no_thread in
-    written_machine s c.index-index.result (record c.index_mut.result.now { state = c.args.state }) _ _ _ _ _ c.self.invariant (ap (λ (t : ThreadNow). t.own) read)
+    let m = c.self.inside in
+    tasked_machine (state_of m) m.tasks c.set_state.new.self _ m.inherit _ _ _ c.self.invariant
+    (ap (λ (t : Table). length t.tasks) c.set_state.ensures ∙ length-set m.tasks.tasks c.args.x (record (task_in m.tasks c.args.x) { state = c.args.state }))

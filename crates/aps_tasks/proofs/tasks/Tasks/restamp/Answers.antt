@@ -1,0 +1,11 @@
+use Rattle.std.proofs.Common.{◌<◌, ◌^◌, subst, sym}
+use Rattle.aps_tasks.specs.TasksView.{tasks_of}
+use Rattle.aps_tasks.specs.Tasks.{Tasks, task_at}
+use Rattle.aps_tasks.proofs.Keeping.{kept_stamped}
+use Rattle.aps_tasks.proofs.tasks.Tasks.restamp.Goals as goal
+
+pub invariant_of-self : goal.invariant_of-self
+invariant_of-self c =
+    let t = tasks_of c.self.inside in
+    let few = subst (λ (u : Tasks). u.stamps < 2 ^ 63) (sym c.self.view_is) c.requires in
+    kept_stamped t c.restamp.new.self c.args.x (task_at t c.args.x).state c.self.invariant few c.restamp.ensures
