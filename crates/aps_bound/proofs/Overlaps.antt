@@ -2,14 +2,15 @@
 use Rattle.std.proofs.Common.{◌≡◌, ℕ, ◌+◌, ◌-◌, ◌*◌, ◌/◌, ◌<◌, ◌≤◌, List, [], ◌∷◌, length, take, drop, get_or, All, cond, Bool, true, false, ◌&&◌, refl, sym, subst, ◌∙◌, ap, inl, inr, arith}
 use Rattle.std.specs.List.{sum_by}
 use Rattle.std.proofs.lemmas.Bool.{cases_lt}
-use Rattle.std.proofs.lemmas.List.{drop-drop, get_or-drop, length-drop}
+use Rattle.std.proofs.lemmas.List.{drop-drop, drop-take, get_or-drop, length-drop}
+use Rattle.std.proofs.lemmas.List.Elements.{All-drop, All-take}
 use Rattle.std.proofs.lemmas.List.Sums.{sum_by-cons, sum_by-le, sum_by-take-drop}
 use Rattle.std.proofs.lemmas.Nat.{div_below, mul-le}
 use Rattle.aps_model.specs.declared.entry.Entry.{Entry}
 use Rattle.aps_model.specs.Due.{next_boundary}
 use Rattle.aps_model.specs.History.{IsEntry}
 use Rattle.aps_model.specs.Usage.{billed_by, critical_by, critical_used, names, overlap, used}
-use Rattle.aps_bound.specs.Cursor.{HasAllOf}
+use Rattle.aps_bound.specs.Cursor.{HasAllOf, IsInTick}
 use Rattle.aps_bound.specs.Order.{IsInOrder}
 
 -- ---- one entry
@@ -79,6 +80,13 @@ sum_none f h none =
     let most = sum_by-le f 0 h (λ k d inside. let here = none k d inside in omega arith) in
     omega arith
 
+-- in no ticks it is nothing
+pub used_none : (tick : ℕ) (h : List Entry) (p a : ℕ) → used tick h p a a ≡ 0
+used_none tick h p a = let twice = used_split tick h p a a a (omega arith) (omega arith) in omega arith
+
+pub critical_none : (tick : ℕ) (h : List Entry) (p a : ℕ) → critical_used tick h p a a ≡ 0
+critical_none tick h p a = let twice = critical_split tick h p a a a (omega arith) (omega arith) in omega arith
+
 -- the entries from one place to another have the whole sum, where the others add nothing
 sum_part : (f : Entry → ℕ) (h : List Entry) (from next : ℕ) → from ≤ next → All (λ (e : Entry). f e ≡ 0) (take from h) → All (λ (e : Entry). f e ≡ 0) (drop next h)
     → sum_by f (take (next - from) (drop from h)) ≡ sum_by f h
@@ -92,15 +100,15 @@ sum_part f h from next le before after =
 
 -- ---- the entries of one tick
 
--- the entries from a place on begin after the tick, where the first of them ends after it
-later_entries : (tick j next : ℕ) (h : List Entry) → 0 < tick → IsInOrder tick h → ((d : Entry) → next < length h → (j + 1) * tick < (get_or h next d).to)
-    → All (λ (e : Entry). (j + 1) * tick ≤ e.from) (drop next h)
+-- the entries from a place on begin in the tick or after it, where the first of them ends after its beginning
+later_entries : (tick j next : ℕ) (h : List Entry) → 0 < tick → IsInOrder tick h → ((d : Entry) → next < length h → j * tick < (get_or h next d).to)
+    → All (λ (e : Entry). j * tick ≤ e.from) (drop next h)
 later_entries tick j next h some order first = λ k d inside.
     let there : next + k < length h = omega (arith, length-drop next h) in
     let from = order.rising next (next + k) d (omega arith) there in
     let later = first d (omega arith) in
-    let begins = begins_later tick (j + 1) (get_or h (next + k) d).from (get_or h (next + k) d).to some (omega arith) (order.within (next + k) d there) in
-    subst (λ (e : Entry). (j + 1) * tick ≤ e.from) (sym (get_or-drop next h k d)) begins
+    let begins = begins_later tick j (get_or h (next + k) d).from (get_or h (next + k) d).to some (omega arith) (order.within (next + k) d there) in
+    subst (λ (e : Entry). j * tick ≤ e.from) (sym (get_or-drop next h k d)) begins
 
 pub tick_whole : (tick j from next : ℕ) (h : List Entry) → 0 < tick → IsInOrder tick h → from ≤ next → All (λ (e : Entry). e.to ≤ j * tick) (take from h)
     → ((d : Entry) → next < length h → (j + 1) * tick < (get_or h next d).to) → HasAllOf tick j h (take (next - from) (drop from h))
@@ -114,4 +122,22 @@ tick_whole tick j from next h some order le past first = record {
 }
   where
     later : All (λ (e : Entry). (j + 1) * tick ≤ e.from) (drop next h)
-    later = later_entries tick j next h some order first
+    later = later_entries tick (j + 1) next h some order first
+
+-- those between the places of a tick and of the next one lie in it
+pub tick_inside : (tick j from next : ℕ) (h : List Entry) → 0 < tick → IsInOrder tick h → from ≤ next → ((d : Entry) → from < length h → j * tick < (get_or h from d).to)
+    → All (λ (e : Entry). e.to ≤ (j + 1) * tick) (take next h) → All (IsInTick tick j) (take (next - from) (drop from h))
+tick_inside tick j from next h some order le first past = λ k d inside. record { begins = begins k d inside; ends = ends k d inside }
+  where
+    begins : All (λ (e : Entry). j * tick ≤ e.from) (take (next - from) (drop from h))
+    begins = All-take (λ (e : Entry). j * tick ≤ e.from) (next - from) (drop from h) (later_entries tick j from h some order first)
+
+    part : drop from (take next h) ≡ take (next - from) (drop from h)
+    part = let whole : next ≡ from + (next - from) = omega arith in ap (λ n. drop from (take n h)) whole ∙ drop-take from (next - from) h
+
+    ends : All (λ (e : Entry). e.to ≤ (j + 1) * tick) (take (next - from) (drop from h))
+    ends = subst (All (λ (e : Entry). e.to ≤ (j + 1) * tick)) part (All-drop (λ (e : Entry). e.to ≤ (j + 1) * tick) from (take next h) past)
+
+-- which bills all its time there
+pub overlap_inside : (tick j : ℕ) (e : Entry) → IsInTick tick j e → e.to - e.from ≡ overlap tick j (j + 1) e.from e.to
+overlap_inside tick j e is = omega (arith, is.begins, is.ends)

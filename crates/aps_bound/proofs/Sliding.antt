@@ -1,6 +1,7 @@
 -- The usage of a window that slides.
-use Rattle.std.proofs.Common.{◌≡◌, ℕ, ◌+◌, ◌^◌, ◌<◌, ◌≤◌, List, length, take, get_or, All, slice_index, ap, arith}
+use Rattle.std.proofs.Common.{◌≡◌, ℕ, ◌+◌, ◌^◌, ◌<◌, ◌≤◌, List, length, take, get_or, replicate, All, slice_index, sym, ◌∙◌, ap, arith}
 use Rattle.std.specs.List.{sum_by}
+use Rattle.std.proofs.lemmas.List.{get_or-replicate}
 use Rattle.std.proofs.lemmas.List.Sums.{sum_by_more_le}
 use Rattle.aps_model.specs.declared.entry.Entry.{Entry}
 use Rattle.aps_model.specs.History.{IsEntry}
@@ -12,7 +13,7 @@ use Rattle.aps_bound.specs.Cursor.{HasAllOf, IsCursor}
 use Rattle.aps_model.specs.Sums.{IsAtMost, IsUsage}
 use Rattle.aps_bound.specs.Usage.{HasBilled, HasUsed, IsMore}
 use Rattle.aps_bound.specs.Window.{IsWindow}
-use Rattle.aps_bound.proofs.Overlaps.{critical_few, critical_split, used_few, used_split}
+use Rattle.aps_bound.proofs.Overlaps.{critical_few, critical_none, critical_split, used_few, used_none, used_split}
 
 pub usage_few : (tick a b : ℕ) (h : List Entry) (usage : Usage) → All IsEntry h → length h ≤ 4294967295 → IsUsage tick a b h usage → IsAtMost (2 ^ 62) usage
 usage_few tick a b h usage entries few is = record {
@@ -34,30 +35,54 @@ billed_left tick a b n ns h left all e inside is same whole split = rw same reco
   critical = λ p below. part_left (critical_by tick p a b) h n (slice_index all.critical p) (slice_index left.critical p) e inside is (split.critical p below) (whole.critical p below);
 }
 
--- with the next tick, the first one is a part
-pub can_leave : (tick a b : ℕ) (h entering leaving : List Entry) (usage more : Usage) → a ≤ b → IsUsage tick a b h usage
-    → HasAllOf tick b h entering → IsMore tick b (b + 1) entering usage more → HasAllOf tick a h leaving → HasUsed tick a (a + 1) leaving more
-can_leave tick a b h entering leaving usage more le is all added all' = record {
-  used = λ p below. omega (arith, used_split tick h p a b (b + 1) le (omega arith), used_split tick h p a (a + 1) (b + 1) (omega arith) (omega arith), is.used p below, all.used p, added.used p below, all'.used p);
-  critical = λ p below. omega (arith, critical_split tick h p a b (b + 1) le (omega arith), critical_split tick h p a (a + 1) (b + 1) (omega arith) (omega arith), is.critical p below, all.critical p, added.critical p below, all'.critical p);
+-- no ticks at all
+pub empty_usage : (tick a : ℕ) (h : List Entry) → IsUsage tick a a h (record { used = replicate 32 0; critical = replicate 32 0 })
+empty_usage tick a h = record {
+  used = λ p below. get_or-replicate 32 p 0 0 below ∙ sym (used_none tick h p a);
+  critical = λ p below. get_or-replicate 32 p 0 0 below ∙ sym (critical_none tick h p a);
 }
 
--- with the next tick and without the first one it is the usage of the next window
-pub slid_usage : (tick a b : ℕ) (h entering leaving : List Entry) (usage more next : Usage) → a ≤ b → IsUsage tick a b h usage
-    → HasAllOf tick b h entering → IsMore tick b (b + 1) entering usage more → HasAllOf tick a h leaving → IsMore tick a (a + 1) leaving next more → IsUsage tick (a + 1) (b + 1) h next
-slid_usage tick a b h entering leaving usage more next le is all added all' left = record {
-  used = λ p below. omega (arith, used_split tick h p a b (b + 1) le (omega arith), used_split tick h p a (a + 1) (b + 1) (omega arith) (omega arith), is.used p below, all.used p, added.used p below, all'.used p, left.used p below);
-  critical = λ p below. omega (arith, critical_split tick h p a b (b + 1) le (omega arith), critical_split tick h p a (a + 1) (b + 1) (omega arith) (omega arith), is.critical p below, all.critical p, added.critical p below, all'.critical p, left.critical p below);
-}
-
-pub slid_window : (tick : ℕ) (h entering leaving : List Entry) (window : Window) (first end : Cursor) (more next : Usage) → IsWindow tick h window
-    → first.tick ≡ window.first.tick + 1 → end.tick ≡ window.end.tick + 1 → IsCursor tick h first → IsCursor tick h end
+-- with the tick after the window
+pub entered : (tick : ℕ) (h entering : List Entry) (window : Window) (end : Cursor) (more : Usage) → IsWindow tick h window → end.tick ≡ window.end.tick + 1 → IsCursor tick h end
     → HasAllOf tick window.end.tick h entering → IsMore tick window.end.tick (window.end.tick + 1) entering window.usage more
-    → HasAllOf tick window.first.tick h leaving → IsMore tick window.first.tick (window.first.tick + 1) leaving next more
-    → IsWindow tick h (record { first = first; end = end; usage = next })
-slid_window tick h entering leaving window first end more next was first' end' at_first at_end all added all' left = record {
-  forward = omega (arith, was.forward);
-  usage = rw (first', end') (slid_usage tick window.first.tick window.end.tick h entering leaving window.usage more next was.forward was.usage all added all' left);
-  first = at_first;
-  end = at_end;
-}
+    → IsWindow tick h (record { first = window.first; end = end; usage = more })
+entered tick h entering window end more was end' at_end all added =
+    let a = window.first.tick in
+    let b = window.end.tick in
+    record {
+      forward = omega (arith, was.forward);
+      usage = rw end' (record {
+        used = λ p below. omega (arith, used_split tick h p a b (b + 1) was.forward (omega arith), was.usage.used p below, all.used p, added.used p below);
+        critical = λ p below. omega (arith, critical_split tick h p a b (b + 1) was.forward (omega arith), was.usage.critical p below, all.critical p, added.critical p below);
+      });
+      first = was.first;
+      end = at_end;
+    }
+
+-- the first tick is a part
+pub can_leave : (tick : ℕ) (h leaving : List Entry) (window : Window) → IsWindow tick h window → window.first.tick < window.end.tick → HasAllOf tick window.first.tick h leaving
+    → HasUsed tick window.first.tick (window.first.tick + 1) leaving window.usage
+can_leave tick h leaving window was some all =
+    let a = window.first.tick in
+    let b = window.end.tick in
+    record {
+      used = λ p below. omega (arith, used_split tick h p a (a + 1) b (omega arith) (omega arith), was.usage.used p below, all.used p);
+      critical = λ p below. omega (arith, critical_split tick h p a (a + 1) b (omega arith) (omega arith), was.usage.critical p below, all.critical p);
+    }
+
+-- without it
+pub left : (tick : ℕ) (h leaving : List Entry) (window : Window) (first : Cursor) (next : Usage) → IsWindow tick h window → window.first.tick < window.end.tick
+    → first.tick ≡ window.first.tick + 1 → IsCursor tick h first → HasAllOf tick window.first.tick h leaving → IsMore tick window.first.tick (window.first.tick + 1) leaving next window.usage
+    → IsWindow tick h (record { first = first; end = window.end; usage = next })
+left tick h leaving window first next was some first' at_first all less =
+    let a = window.first.tick in
+    let b = window.end.tick in
+    record {
+      forward = omega arith;
+      usage = rw first' (record {
+        used = λ p below. omega (arith, used_split tick h p a (a + 1) b (omega arith) (omega arith), was.usage.used p below, all.used p, less.used p below);
+        critical = λ p below. omega (arith, critical_split tick h p a (a + 1) b (omega arith) (omega arith), was.usage.critical p below, all.critical p, less.critical p below);
+      });
+      first = at_first;
+      end = was.end;
+    }

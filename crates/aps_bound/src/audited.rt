@@ -3,11 +3,12 @@ ghost use Rattle.std.specs.Prelude.{◌≡◌, ◌+◌, ◌-◌, ◌≤◌};
 ghost use Rattle.aps_model.specs.Audit.{audit_of};
 ghost use Rattle.aps_model.specs.Loaded.{finished_ticks};
 
+use crate::finished::finished_ticks;
 use crate::loaded::loaded_tick;
 use crate::order::is_in_order;
 use crate::recount::by_recount;
 use crate::slide::by_slide;
-use aps_model::{Audit, History, Shape, finished_ticks};
+use aps_model::{Audit, History, Shape};
 
 /// The tick from which all finished ticks are steady, and over all loaded windows and all partitions the greatest
 /// amounts in nanoseconds by which usage exceeds the budget, falls short of it, and by which critical usage exceeds
@@ -22,7 +23,8 @@ pub fn audit(history: &History) -> Audit
     let shape = history.shape();
     let entries = history.entries();
     let count = finished_ticks(shape, entries);
-    let loaded_from = loaded_tick(shape, entries, history.changes(), count);
+    let is_in_order = is_in_order(entries, shape.tick);
+    let loaded_from = loaded_tick(shape, entries, history.changes(), count, is_in_order);
     let nothing = Audit {
         loaded_from: loaded_from as u32,
         worst_over: None,
@@ -30,7 +32,7 @@ pub fn audit(history: &History) -> Audit
         critical_worst: None,
     };
     let end = first_unfinished(shape, count);
-    if is_in_order(entries, shape.tick) {
+    if is_in_order {
         by_slide(history, &nothing, loaded_from, end)
     } else {
         by_recount(history, &nothing, loaded_from, end)

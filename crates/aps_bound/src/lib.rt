@@ -6,6 +6,7 @@
 mod allowed;
 mod audited;
 mod cursor;
+mod finished;
 mod loaded;
 mod order;
 mod recount;

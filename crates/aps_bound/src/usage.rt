@@ -2,37 +2,50 @@
 ghost use Rattle.std.specs.Prelude.{◌≡◌, ℕ, ◌+◌, ◌-◌, ◌*◌, ◌<◌, ◌≤◌, ◌^◌, All, length, if◌then◌else◌, ◌&&◌, min, max, slice_index};
 ghost use Rattle.aps_model.specs.History.{IsEntry};
 ghost use Rattle.aps_model.specs.Sums.{IsAtMost, IsBilled};
-ghost use Rattle.aps_model.specs.Usage.{names, used, critical_used};
+ghost use Rattle.aps_model.specs.Usage.{overlap};
+ghost use Rattle.aps_bound.specs.Cursor.{IsInTick};
 ghost use Rattle.aps_bound.specs.Usage.{IsMore, HasUsed, HasBilled};
 
-use aps_model::{Entry, Nanos, Usage, overlap};
+use aps_model::{Entry, Nanos, Usage};
 
-/// Adds what these entries bill in ticks `a` to `b - 1`.
-pub fn add(usage: &mut Usage, entries: &[Entry], tick: u64, a: u64, b: u64)
+/// Adds what these entries bill, which lie in one tick.
+#[inline(always)]
+pub fn add(usage: &mut Usage, entries: &[Entry], _tick: u64, _a: u64)
     requires entries { All IsEntry entries.now }
     requires few { length entries.now ≤ 4294967295 }
-    requires first { a * tick < 2 ^ 63 }
-    requires end { b * tick < 2 ^ 63 }
+    requires inside { All (IsInTick _tick _a) entries.now }
     requires room { IsAtMost (2 ^ 62) usage.old }
-    ensures { IsMore tick a b entries.now usage.old usage.new }
+    ensures { IsMore _tick _a (_a + 1) entries.now usage.old usage.new }
 {
     for e in entries {
-        let ns = overlap(tick, a, b, e.from, e.to);
+        let ns = time_of(e, _tick, _a);
         usage.bill(e, ns);
     }
 }
 
-/// Takes away what these entries bill in ticks `a` to `b - 1`.
-pub fn take_away(usage: &mut Usage, entries: &[Entry], tick: u64, a: u64, b: u64)
-    requires first { a * tick < 2 ^ 63 }
-    requires end { b * tick < 2 ^ 63 }
-    requires part { HasUsed tick a b entries.now usage.old }
-    ensures { IsMore tick a b entries.now usage.new usage.old }
+/// Takes away what these entries bill, which lie in one tick.
+#[inline(always)]
+pub fn take_away(usage: &mut Usage, entries: &[Entry], _tick: u64, _a: u64)
+    requires entries { All IsEntry entries.now }
+    requires inside { All (IsInTick _tick _a) entries.now }
+    requires part { HasUsed _tick _a (_a + 1) entries.now usage.old }
+    ensures { IsMore _tick _a (_a + 1) entries.now usage.new usage.old }
 {
     for e in entries {
-        let ns = overlap(tick, a, b, e.from, e.to);
+        let ns = time_of(e, _tick, _a);
         give_back(usage, e, ns);
     }
+}
+
+/// The time of an entry that lies in this tick.
+#[inline(always)]
+fn time_of(e: &Entry, _tick: u64, _a: u64) -> Nanos
+    requires entry { IsEntry e.now }
+    requires inside { IsInTick _tick _a e.now }
+    ensures same { result ≡ overlap _tick _a (_a + 1) e.now.from e.now.to }
+    ensures part { result ≤ e.now.to - e.now.from }
+{
+    e.to - e.from
 }
 
 /// Takes so many ns away from what the entry bills.

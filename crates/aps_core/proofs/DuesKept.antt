@@ -23,6 +23,10 @@ use Rattle.aps_core.proofs.NextDues.{due_after, flags_after, row_after}
 pub dues_none : (s : SchedulerState) (dues : List ℕ) → ((d : ℕ) → slice_index dues d ≡ 0) → AreDues s [] dues
 dues_none s dues none = λ d inside. none d ∙ sym (first_is_due s [] d refl)
 
+-- the processors are those of the scenario
+pub cpus_now : (run : Run) (kept : History) (state : SchedulerState) → IsCore run kept state → length state.cpus ≡ run.setup.scenario.shape.cpus
+cpus_now run kept state core = ap (λ (s : SchedulerState). length s.cpus) core.machine ∙ (counts_law run.setup.scenario run.setup.order run.entries core.keeps.setup.valid core.keeps.legal).cpus
+
 -- the processors stay
 pub cpus_after : (run : Run) (kept : History) (state : SchedulerState) (c : ℕ) (e : Entry) (left : After) → IsCore run kept state → end_of_run run ≡ None → HasTurnIn run c
     → step run.setup.scenario state run.entries c ≡ record { entry = e; state = left.state; reboot = left.reboot } → length left.state.cpus ≡ run.setup.scenario.shape.cpus

@@ -1,5 +1,5 @@
 -- The dues of processors through a step of one of them.
-use Rattle.std.proofs.Common.{◌≡◌, ◌≢◌, ℕ, ◌<◌, ◌≤◌, List, [], ◌∷◌, ◌++◌, ◌⊎◌, ◌/◌, length, refl, sym, ◌∙◌, ap, subst, Option, Some, None, slice_index, slice_index_or, slice_set, length-set, arith, inl, inr}
+use Rattle.std.proofs.Common.{◌≡◌, ◌≢◌, ℕ, ◌<◌, ◌≤◌, List, [], ◌∷◌, ◌++◌, ◌⊎◌, ◌/◌, length, refl, sym, ◌∙◌, ap, subst, Option, Some, None, IfSome, slice_index, slice_index_or, slice_set, length-set, arith, inl, inr}
 use Rattle.std.proofs.lemmas.Bool.{cases_eq, cases_lt}
 use Rattle.std.proofs.lemmas.List.{get_or-set_other, get_or-set_same, set_past}
 use Rattle.aps_model.specs.declared.entry.Entry.{Entry}
@@ -97,7 +97,7 @@ pub record IsFlagged (s : SchedulerState) (now d : ℕ) (out : Step) : Type 0 wh
   pub set : out.entry.flagged ≡ Some d → (cpu_at out.state d).flag ≡ Some now
   pub kept : (out.entry.flagged ≡ Some d → ⊥) → (cpu_at out.state d).flag ≡ (cpu_at s d).flag
 
-unflagged_bill : (c from now : ℕ) (running : Option Pick) → (bill_of c from now running).flagged ≡ None
+pub unflagged_bill : (c from now : ℕ) (running : Option Pick) → (bill_of c from now running).flagged ≡ None
 unflagged_bill c from now None = refl
 unflagged_bill c from now (Some p) = refl
 
@@ -188,6 +188,17 @@ flags_or_not (Some f) d = elim (cases_eq f d) [
   where
     some_same : (a b : ℕ) → Some a ≡ Some b → a ≡ b
     some_same a b e = cc
+
+-- where no processor is nothing changes
+flagged_spare : (n : ℕ) (dues : List ℕ) (now : ℕ) (o : Option ℕ) → ((d : ℕ) → n ≤ d → slice_index dues d ≡ 0) → IfSome o (λ d. d < n) → (d : ℕ) → n ≤ d → slice_index (dues_flagged dues now o) d ≡ 0
+flagged_spare n dues now None spare within d past = spare d past
+flagged_spare n dues now (Some f) spare within d past = get_or-set_other dues f d now 0 (λ same. absurd (omega (arith, same, past, within))) ∙ spare d past
+
+pub spare_after : (n : ℕ) (dues : List ℕ) (e : Entry) (own : ℕ) → ((d : ℕ) → n ≤ d → slice_index dues d ≡ 0) → e.cpu < n → IfSome e.flagged (λ d. d < n)
+    → (d : ℕ) → n ≤ d → slice_index (dues_after dues e own) d ≡ 0
+spare_after n dues e own spare own_within flagged_within d past =
+    get_or-set_other (dues_flagged dues e.to e.flagged) e.cpu d own 0 (λ same. absurd (omega (arith, same, past, own_within)))
+    ∙ flagged_spare n dues e.to e.flagged spare flagged_within d past
 
 pub row_after : (s t : SchedulerState) (h : List Entry) (c own : ℕ) (e : Entry) (dues : List ℕ) → length dues ≡ 16 → length t.cpus ≤ 16 → length t.cpus ≡ length s.cpus → e.cpu ≡ c → e.to ≡ due s h c
     → AreDues s h dues → own ≡ due t (h ++ e ∷ []) c → ((d : ℕ) → d < length s.cpus → d ≢ c → IsDueAfter s h (due s h c) d e t) → AreDues t (h ++ e ∷ []) (dues_after dues e own)

@@ -11,7 +11,7 @@ use Rattle.aps_laws.specs.Runs.{EndsNoSooner}
 use Rattle.aps_window.specs.Window.{Window}
 use Rattle.aps_core.specs.Counts.{Counts, parts_in}
 use Rattle.aps_core.specs.LastEnds.{AreEnds}
-use Rattle.aps_core.specs.NextDues.{AreDues}
+use Rattle.aps_core.specs.NextDues.{AreDues, AreSpare}
 use Rattle.aps_core.specs.Pending.{IsPending}
 use Rattle.aps_core.specs.declared.posts.Post.{Post}
 use Rattle.aps_core.specs.Posts.{ArePosts}
@@ -49,5 +49,6 @@ pub record IsCoreWith (run : Run) (kept : History) (state : SchedulerState) (par
   pub lasts : AreEnds run.entries ends
   pub counts : Counts state.shape run.entries (moment run.entries / state.shape.tick) window
   pub nexts : AreDues state run.entries dues
+  pub spare : AreSpare state dues
   pub posted : ArePosts state posts
   pub stands : parts ≡ parts_in state.shape state.rows window

@@ -1,5 +1,5 @@
 -- The dues that are kept beside the entries.
-use Rattle.std.specs.Prelude.{◌≡◌, ◌≢◌, ℕ, ◌<◌, List, length, slice_index, slice_set, Option, Some, None}
+use Rattle.std.specs.Prelude.{◌≡◌, ◌≢◌, ℕ, ◌<◌, ◌≤◌, List, length, slice_index, slice_set, Option, Some, None}
 use Rattle.aps_model.specs.declared.entry.Entry.{Entry}
 use Rattle.aps_model.specs.Due.{due}
 use Rattle.aps_model.specs.SchedulerState.{SchedulerState}
@@ -11,6 +11,10 @@ AreDues s h dues = (d : ℕ) → d < length s.cpus → slice_index dues d ≡ du
 -- the same, but for one processor
 abbrev pub AreOthersDues : SchedulerState → List Entry → ℕ → List ℕ → Type 0
 AreOthersDues s h c dues = (d : ℕ) → d < length s.cpus → d ≢ c → slice_index dues d ≡ due s h d
+
+-- where no processor is 0 stands, so that who looks at more than there are finds none of those later than any moment
+abbrev pub AreSpare : SchedulerState → List ℕ → Type 0
+AreSpare s dues = (d : ℕ) → length s.cpus ≤ d → slice_index dues d ≡ 0
 
 -- the dues where this processor, if there is one, is due at this moment
 abbrev pub dues_flagged : List ℕ → ℕ → Option ℕ → List ℕ

@@ -72,25 +72,3 @@ fn is_first(part: &PartFacts, critical: bool) -> bool
 {
     part.funded | (critical & part.standing)
 }
-
-/// The classes after one partition stands otherwise. They are as they were where nothing changed that they go by.
-#[inline(always)]
-pub fn classes_after(
-    classes: Classes,
-    p: PartitionId,
-    before: &PartFacts,
-    part: &PartFacts,
-) -> Classes
-    ensures { (parts : List PartFactsOf)
-        → AreClasses parts classes
-        → p < length parts
-        → part_at parts p ≡ before.now
-        → AreClasses (slice_set parts p part.now) result }
-{
-    if before.funded == part.funded && before.standing == part.standing {
-        return classes;
-    }
-    let mut after = classes;
-    after.set(p, part);
-    after
-}

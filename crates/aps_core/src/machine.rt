@@ -9,9 +9,9 @@ ghost use Rattle.aps_model.specs.Step.{pick, step};
 ghost use Rattle.aps_model.specs.Valid.{IsScenario};
 ghost use Rattle.aps_laws.specs.Moments.{moment};
 ghost use Rattle.aps_core.specs.Counts.{Counts, parts_in};
-ghost use Rattle.aps_core.specs.LastEnds.{AreEnds};
+ghost use Rattle.aps_core.specs.LastEnds.{AreEnds, IsLast};
 ghost use Rattle.aps_core.specs.Kept.{IsKept};
-ghost use Rattle.aps_core.specs.NextDues.{AreDues, AreOthersDues};
+ghost use Rattle.aps_core.specs.NextDues.{AreDues, AreOthersDues, AreSpare};
 ghost use Rattle.aps_core.specs.Pending.{IsPending};
 ghost use Rattle.aps_core.specs.Posts.{AreOthersPosts, ArePosts};
 ghost use Rattle.aps_core.specs.Ready.{IsReady};
@@ -138,8 +138,25 @@ impl Machine {
         CpuId::at(first)
     }
 
+    /// Whether each processor has stepped at the horizon, where this is the last entry. The others are looked at only if this
+    /// one ends there.
+    #[inline(always)]
+    pub fn is_at_horizon_after(&self, entries: &[Entry], ends: &Ends, last: &Entry) -> bool
+        requires entries { All IsEntry entries.now }
+        requires ends { AreEnds entries.now ends.now }
+        requires last { IsLast entries.now last.now }
+        requires cpu { last.now.cpu < length self.now.cpus }
+        ensures { result ≡ is_at_horizon self.now entries.now }
+    {
+        if last.to != self.shape.horizon() {
+            return false;
+        }
+        self.is_at_horizon(entries, ends)
+    }
+
     /// Whether each processor has stepped at the horizon.
-    pub fn is_at_horizon(&self, entries: &[Entry], ends: &Ends) -> bool
+    #[inline(never)]
+    fn is_at_horizon(&self, entries: &[Entry], ends: &Ends) -> bool
         requires entries { All IsEntry entries.now }
         requires ends { AreEnds entries.now ends.now }
         ensures { result ≡ is_at_horizon self.now entries.now }
@@ -169,12 +186,14 @@ impl Machine {
         requires cpu { cpu < length self.old.cpus }
         requires seats { ready.old ≡ seats_of self.old }
         requires dues { AreOthersDues self.old entries.now cpu dues.now }
+        requires spare { AreSpare self.old dues.now }
         requires own { slice_index dues.now cpu ≤ e.to }
         requires posts { AreOthersPosts self.old cpu posts.old }
         ensures same { pick self.old entries.now cpu e.to e ≡ record { entry = result; state = self.new; reboot = None } }
         ensures kept { IsKept self.old self.new }
         ensures seats { ready.new ≡ seats_of self.new }
         ensures posts { ArePosts self.new posts.new }
+        ensures flagged { IfSome result.flagged (λ d. d < length self.new.cpus) }
     {
         let now = e.to;
         let parts = standing.parts();
@@ -254,6 +273,7 @@ impl Machine {
         requires entries { All IsEntry entries.now }
         requires ends { AreEnds entries.now ends.now }
         requires dues { AreDues self.old entries.now dues.now }
+        requires spare { AreSpare self.old dues.now }
         requires posts { ArePosts self.old posts.old }
         requires rising { IsRising entries.now }
         requires counts { Counts self.old.shape entries.now (moment entries.now / self.old.shape.tick) window.old }
@@ -266,6 +286,7 @@ impl Machine {
         ensures seats { ready.new ≡ seats_of self.new }
         ensures timed { timer.new ≡ sleepers_of self.new }
         ensures posts { ArePosts self.new posts.new }
+        ensures flagged { IfSome result.entry.flagged (λ d. d < length self.new.cpus) }
     {
         let now = dues.of(cpu);
         let from = ends.last_end(entries, cpu);

@@ -6,7 +6,7 @@ ghost use Rattle.aps_model.specs.After.{is_at_horizon, or_limit, over_by};
 ghost use Rattle.aps_model.specs.History.{IsEntry};
 ghost use Rattle.aps_model.specs.Partition.{IsRow};
 ghost use Rattle.aps_core.specs.CanRecord.{CanRecord, HasTold, with_told};
-ghost use Rattle.aps_core.specs.LastEnds.{AreEnds};
+ghost use Rattle.aps_core.specs.LastEnds.{AreEnds, IsLast};
 ghost use Rattle.aps_core.specs.Run.{with_last};
 
 use crate::ends::Ends;
@@ -22,11 +22,13 @@ pub fn record(history: &mut History, made: Stepped, machine: &Machine, ends: &En
     requires machine { CanRecord history.old machine.now }
     requires told { made.is_changed ≡ false → HasTold history.old machine.now }
     requires ends { AreEnds (history.old.entries ++ made.entry ∷ []) ends.now }
+    requires cpu { made.entry.cpu < length machine.now.cpus }
     ensures { history.new ≡ with_last history.old limit made.reboot machine.now made.entry }
 {
     tell(history, machine, made.is_changed);
     history.add_entry(made.entry);
-    if let Some(end) = end_after(machine, ends, made.reboot, history.entries(), limit) {
+    let entries = history.entries();
+    if let Some(end) = end_after(machine, ends, made.reboot, entries, &made.entry, limit) {
         history.set_end(end);
     }
 }
@@ -80,21 +82,25 @@ fn set_rows(history: &mut History, rows: &[PartitionRow])
     }
 }
 
-/// The end of a run that has these entries and left this machine, and perhaps a partition for which it ends.
+/// The end of a run that has these entries, of which this is the last, and left this machine, and perhaps a partition for
+/// which it ends.
 fn end_after(
     machine: &Machine,
     ends: &Ends,
     reboot: Option<PartitionId>,
     entries: &[Entry],
+    last: &Entry,
     limit: u32,
 ) -> Option<End>
     requires entries { All IsEntry entries.now }
     requires ends { AreEnds entries.now ends.now }
+    requires last { IsLast entries.now last.now }
+    requires cpu { last.now.cpu < length machine.now.cpus }
     ensures { result ≡ or_limit (over_by reboot (is_at_horizon machine.now entries.now)) limit (length entries.now) }
 {
     if let Some(p) = reboot {
         Some(End::Reboot(p))
-    } else if machine.is_at_horizon(entries, ends) {
+    } else if machine.is_at_horizon_after(entries, ends, last) {
         Some(End::Horizon)
     } else if entries.len() == limit as usize {
         Some(End::Limit)

@@ -1,8 +1,6 @@
 //! How the partitions stand in the window, and the gates of that, kept from step to step.
-ghost use Rattle.std.specs.Prelude.{◌≡◌, List, ◌<◌, ◌≤◌, ◌++◌, [], ◌∷◌, length, slice_set, All, IfOk, Some, true};
-ghost use Rattle.aps_model.specs.Budget.{part_at};
+ghost use Rattle.std.specs.Prelude.{◌≡◌, ◌<◌, ◌≤◌, ◌++◌, [], ◌∷◌, length, slice_set, All, IfOk, Some, true};
 ghost use Rattle.aps_model.specs.Partition.{IsRow};
-ghost use Rattle.aps_model.specs.declared.merit.PartFacts.{PartFacts as PartFactsOf};
 ghost use Rattle.aps_model.specs.Shape.{IsShape};
 ghost use Rattle.aps_ready.specs.Gates.{AreGates};
 ghost use Rattle.aps_core.specs.Classes.{AreClasses};
@@ -10,7 +8,7 @@ ghost use Rattle.aps_core.specs.Counts.{parts_in};
 ghost use Rattle.aps_core.specs.Small.{IsSmall};
 ghost use Rattle.aps_core.specs.Standing.{DoOthersStand, OpensAlike};
 
-use crate::classes::{Classes, classes_after};
+use crate::classes::Classes;
 use crate::usage::part_by;
 use aps_model::{NoMemory, PartFacts, PartitionId, PartitionRow, Shape};
 use aps_ready::Gates;
@@ -102,17 +100,32 @@ impl Standing {
         self.parts.push_reserved(part);
     }
 
-    /// The partition stands so, and each other as before.
+    /// The partition stands so, and each other as before. Where nothing changed that opens a gate, what it used is all that
+    /// changes.
     #[inline(always)]
     fn set(&mut self, p: PartitionId, part: PartFacts)
         requires inside { p < length self.old }
         requires small { IsSmall part }
         ensures { self.new ≡ slice_set self.old p part }
     {
-        let before = self.parts[p.index()];
-        self.gates = gates_after(self.gates, p, &before, &part);
-        self.classes = classes_after(self.classes, p, &before, &part);
-        self.parts[p.index()] = part;
+        let index = p.index();
+        if opens_alike(&self.parts[index], &part) {
+            self.parts[index].used = part.used;
+        } else {
+            self.set_anew(p, part);
+        }
+    }
+
+    /// The same, whatever changed.
+    #[inline(never)]
+    fn set_anew(&mut self, p: PartitionId, next: PartFacts)
+        requires inside { p < length self.old }
+        requires small { IsSmall next }
+        ensures { self.new ≡ slice_set self.old p next }
+    {
+        self.gates.set(p, &next);
+        self.classes.set(p, &next);
+        self.parts[p.index()] = next;
     }
 
     /// Each partition stands by its row and what the window has of it.
@@ -139,9 +152,11 @@ impl Standing {
         requires count { length self.old ≡ length rows.now }
         ensures { self.new ≡ parts_in shape.now rows.now window.now }
     {
+        // a copy, which what is set can't change
+        let shape = *shape;
         for p in 0..rows.len() {
             let at = PartitionId::at(p);
-            self.set(at, part_by(shape, &rows[p], window, at));
+            self.set(at, part_by(&shape, &rows[p], window, at));
         }
     }
 
@@ -171,21 +186,4 @@ fn opens_alike(a: &PartFacts, b: &PartFacts) -> bool
     ensures { result ≡ true → OpensAlike a.now b.now }
 {
     a.funded == b.funded && a.standing == b.standing && a.shut == b.shut && a.budget == b.budget
-}
-
-/// The gates after one partition stands otherwise. They are as they were where nothing changed that opens one.
-#[inline(always)]
-fn gates_after(gates: Gates, p: PartitionId, before: &PartFacts, part: &PartFacts) -> Gates
-    ensures { (parts : List PartFactsOf)
-        → AreGates parts gates
-        → p < length parts
-        → part_at parts p ≡ before.now
-        → AreGates (slice_set parts p part.now) result }
-{
-    if opens_alike(before, part) {
-        return gates;
-    }
-    let mut after = gates;
-    after.set(p, part);
-    after
 }

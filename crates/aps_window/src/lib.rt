@@ -4,6 +4,7 @@
 
 mod account;
 mod laws;
+mod ring;
 mod slot;
 mod window;
 

@@ -5,7 +5,7 @@ ghost use Rattle.aps_model.specs.Pick.{contenders, greatest, merit_among};
 ghost use Rattle.aps_ready.specs.Gates.{AreGates, is_first};
 ghost use Rattle.aps_core.specs.Classes.{AreClasses};
 ghost use Rattle.aps_core.specs.Lowest.{IsKey, IsLeast, IsLeastOf, IsNoLess, IsRank, IsTold, height_of, limit, lowest, ranked_at};
-ghost use Rattle.aps_core.specs.NextDues.{AreOthersDues};
+ghost use Rattle.aps_core.specs.NextDues.{AreOthersDues, AreSpare};
 ghost use Rattle.aps_core.specs.Posts.{AreHigh, ArePosts};
 ghost use Rattle.aps_core.specs.Seats.{seats_of};
 
@@ -35,7 +35,7 @@ struct Lowest {
 
 impl Machine {
     /// The key by which the processor of this number is looked at, if it is another one and isn't due yet; else a key past
-    /// all. The own one is due no later than now.
+    /// all. The own one is due no later than now, and so is what stands where there is none.
     #[inline(always)]
     fn key_at(
         &self,
@@ -52,13 +52,14 @@ impl Machine {
         requires classes { AreClasses parts.now classes }
         requires high { AreHigh classes posts.now }
         requires dues { AreOthersDues self.now entries.now c dues.now }
+        requires spare { AreSpare self.now dues.now }
         requires own { slice_index dues.now c ≤ now }
         requires d { d < 16 }
         ensures key { d < length self.now.cpus → IsKey (ranked_at self.now entries.now parts.now c now d) d result }
         ensures rank { d < length self.now.cpus → IsRank (ranked_at self.now entries.now parts.now c now d) }
         ensures past { length self.now.cpus ≤ d → 16000 ≤ result }
     {
-        let past = past_if((dues.at(d) <= now) | (self.cpus.len() <= d));
+        let past = past_if(dues.at(d) <= now);
         posts.at(d).key + past
     }
 
@@ -81,6 +82,7 @@ impl Machine {
         requires classes { AreClasses parts.now classes }
         requires high { AreHigh classes posts.now }
         requires dues { AreOthersDues self.now entries.now c dues.now }
+        requires spare { AreSpare self.now dues.now }
         requires own { slice_index dues.now c ≤ now }
         requires forward { from ≤ to }
         requires few { to ≤ 16 }
@@ -112,6 +114,7 @@ impl Machine {
         requires classes { AreClasses parts.now classes }
         requires high { AreHigh classes posts.now }
         requires dues { AreOthersDues self.now entries.now c dues.now }
+        requires spare { AreSpare self.now dues.now }
         requires own { slice_index dues.now c ≤ now }
         ensures least { IsLeast (lowest self.now entries.now parts.now c now self.now.shape.cpus) self.now.shape.cpus result }
         ensures few { self.now.shape.cpus ≤ 16 }
@@ -145,6 +148,7 @@ impl Machine {
         requires classes { AreClasses parts.now classes }
         requires high { AreHigh classes posts.now }
         requires dues { AreOthersDues self.now entries.now c dues.now }
+        requires spare { AreSpare self.now dues.now }
         requires own { slice_index dues.now c ≤ now }
         ensures same { IsTold (lowest self.now entries.now parts.now c now self.now.shape.cpus) result.cpu result.height }
         ensures within { result.height < 1000 → result.cpu < length self.now.cpus }
@@ -177,6 +181,7 @@ impl Machine {
         requires classes { AreClasses parts.now classes }
         requires high { AreHigh classes posts.now }
         requires dues { AreOthersDues self.now entries.now c dues.now }
+        requires spare { AreSpare self.now dues.now }
         requires own { slice_index dues.now c ≤ now }
         requires seats { ready.now ≡ seats_of self.now }
         requires picked { IsNoLess self.now.shape.free parts.now (contenders self.now) picked.now }

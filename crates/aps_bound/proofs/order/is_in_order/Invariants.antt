@@ -1,9 +1,10 @@
 use Rattle.std.proofs.Common.{◌*◌, ◌≤◌}
+use Rattle.aps_bound.specs.Order.{IsBoundary}
 use Rattle.aps_bound.proofs.Rising.{IsOrderedTo}
 use Rattle.aps_bound.proofs.order.is_in_order.Given as goal
 
 abbrev pub invariant-loop-e : goal.invariant-loop-e
 invariant-loop-e l = record {
   ordered : IsOrderedTo l.tick l.entries l.e-index l.last;
-  near : l.at_hand * l.tick ≤ 10000000000000;
+  boundary : IsBoundary l.tick l.boundary;
 }

@@ -5,6 +5,6 @@ use Rattle.aps_bound.proofs.usage.add.Given as goal
 
 abbrev pub invariant-loop-e : goal.invariant-loop-e
 invariant-loop-e l = record {
-  same : IsMore l.tick l.a l.b (take l.e-index l.entries) l.initial.usage l.usage;
+  same : IsMore l._tick l._a (l._a + 1) (take l.e-index l.entries) l.initial.usage l.usage;
   room : IsAtMost (2 ^ 62 + 10000000 * l.e-index) l.usage;
 }

@@ -18,10 +18,14 @@ returns-clause-key c inside =
     omega (arith, there, due))
     (ap (λ (p : Post). p.key) c.at-2.ensures ∙ high.same
     ∙ ap (λ n. n * 16 + (15 - c.args.d)) (post_height s c.args.parts.now c.args.classes (cpu_at s c.args.d).running (post_at c.args.posts.now c.args.d) c.requires.classes (c.requires.posts c.args.d inside)))
-    (λ most. c.past_if-past.ensures ∙ ap (λ t. cond (t || nat_le c.len.result c.args.d) 16000 0) (le_true c.at.result c.args.now most))
-    (λ less.
-    c.past_if-past.ensures ∙ ap (λ t. cond (t || nat_le c.len.result c.args.d) 16000 0) (le_false c.at.result c.args.now less)
-    ∙ ap (λ t. cond t 16000 0) (le_false c.len.result c.args.d (omega (arith, inside, c.len.ensures, ap (λ (s : SchedulerState). length s.cpus) c.self.view_is))))
+    (λ most. c.past_if-past.ensures ∙ ap (λ t. cond t 16000 0) (le_true c.at.result c.args.now most))
+    (λ less. c.past_if-past.ensures ∙ ap (λ t. cond t 16000 0) (le_false c.at.result c.args.now less))
+
+pub returns-clause-past : goal.returns-clause-past
+returns-clause-past c spare =
+    let none = c.at.ensures ∙ c.requires.spare c.args.d spare in
+    let on = c.past_if-past.ensures ∙ ap (λ t. cond t 16000 0) (le_true c.at.result c.args.now (omega (arith, none))) in
+    omega (arith, on)
 
 pub returns-clause-rank : goal.returns-clause-rank
 returns-clause-rank c inside =

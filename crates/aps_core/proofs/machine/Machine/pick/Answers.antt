@@ -1,4 +1,4 @@
-use Rattle.std.proofs.Common.{◌≡◌, ap, ◌∙◌, ◌++◌, [], ◌∷◌, ◌/◌, subst, sym, length, arith}
+use Rattle.std.proofs.Common.{◌≡◌, ◌<◌, ap, ◌∙◌, ◌++◌, [], ◌∷◌, ◌/◌, IfSome, subst, sym, length, arith}
 use Rattle.aps_model.specs.declared.shape.Shape.{Shape}
 use Rattle.aps_model.specs.Budget.{all_parts}
 use Rattle.aps_model.specs.Pick.{contenders, greatest, missing}
@@ -8,7 +8,7 @@ use Rattle.aps_ready.specs.Gates.{AreGates}
 use Rattle.aps_ready.specs.Ready.{members}
 use Rattle.aps_core.specs.Seats.{seats_of}
 use Rattle.aps_core.proofs.FlagAfter.{picked_no_less}
-use Rattle.aps_core.proofs.NextDues.{others_chosen}
+use Rattle.aps_core.proofs.NextDues.{chosen_count, others_chosen}
 use Rattle.aps_core.specs.Kept.{IsKept}
 use Rattle.aps_core.proofs.PickStep.{pick_by_parts}
 use Rattle.aps_core.proofs.Frame.{chosen_kept, flagged_kept, kept_then}
@@ -46,6 +46,17 @@ returns-clause-seats c =
 pub flag_after-flagged-requires-clause-dues : goal.flag_after-flagged-requires-clause-dues
 flag_after-flagged-requires-clause-dues c =
     others_chosen c.args.self.now c.choose.new.self c.parts-parts.result.now c.args.cpu c.take_greatest-best.result c.args.entries.now c.args.dues.now c.requires.dues c.choose.ensures
+
+pub flag_after-flagged-requires-clause-spare : goal.flag_after-flagged-requires-clause-spare
+flag_after-flagged-requires-clause-spare c d past =
+    let count = ap (λ (s : SchedulerState). length s.cpus) c.choose.ensures in
+    c.requires.spare d (omega (arith, past, count, chosen_count c.args.self.now c.parts-parts.result.now c.args.cpu c.take_greatest-best.result))
+
+pub returns-clause-flagged : goal.returns-clause-flagged
+returns-clause-flagged c =
+    let count : length c.choose.new.self.cpus ≡ length c.flag.new.self.cpus =
+    sym (ap (λ (s : SchedulerState). length s.cpus) c.flag.ensures ∙ (flagged_kept c.choose.new.self c.args.e.to c.flag_after-flagged.result).cpus) in
+    subst (λ n. IfSome c.flag_after-flagged.result (λ d. d < n)) count c.flag_after-flagged.ensures.within
 
 pub flag_after-flagged-requires-clause-seats : goal.flag_after-flagged-requires-clause-seats
 flag_after-flagged-requires-clause-seats c =

@@ -1,4 +1,4 @@
-use Rattle.std.proofs.Common.{◌≡◌, ◌≢◌, ℕ, ◌/◌, ◌||◌, List, Option, Some, None, ◌≤◌, [], ◌∷◌, ◌++◌, sym, ◌∙◌, refl, subst, length, ap, arith, inl, inr}
+use Rattle.std.proofs.Common.{◌≡◌, ◌≢◌, ℕ, ◌<◌, IfSome, ◌/◌, ◌||◌, List, Option, Some, None, ◌≤◌, [], ◌∷◌, ◌++◌, sym, ◌∙◌, refl, subst, length, ap, arith, inl, inr}
 use Rattle.std.specs.Option.{option_map}
 use Rattle.aps_model.specs.declared.entry.Entry.{Entry}
 use Rattle.aps_model.specs.declared.merit.Contender.{Contender}
@@ -23,6 +23,7 @@ use Rattle.aps_core.proofs.Counting.{parts_are}
 use Rattle.aps_core.proofs.Frame.{kept_then, settled_kept}
 use Rattle.aps_core.proofs.Seats.{seats_count, who_seats}
 use Rattle.aps_core.proofs.FactsStay.{step_facts}
+use Rattle.aps_core.proofs.NextDues.{unflagged_bill}
 use Rattle.aps_core.proofs.PostsStay.{posts_stay, runs_apart}
 use Rattle.aps_core.proofs.SeatsStay.{running_out, step_seat}
 use Rattle.aps_core.proofs.Asleep.{running_awake, sleepers_count}
@@ -262,6 +263,24 @@ pick-entry-requires-clause-dues c =
     λ d inside ne.
     let there = ap (λ (u : SchedulerState). length u.cpus) before in
     c.requires.dues d (omega (arith, inside, there, c.requires.ready.counted)) ∙ sym (c.requires.ready.others d ne) ∙ ap (λ (u : SchedulerState). due u h d) (sym before)
+
+pub pick-entry-requires-clause-spare : goal.pick-entry-requires-clause-spare
+pick-entry-requires-clause-spare c d past =
+    let s = c.args.self.now in
+    let h = c.args.entries.now in
+    let before =
+    settled_is c.args.scenario.now s h c.args.cpu c.of-now.result c.begin-running.result c.bill_of-e.result c.test-reboot.new.self c.test-reboot.result _
+    (tested_by c.args.scenario.now s h c.args.cpu _ _ _ _ _ _ _ _ _
+    (c.of-now.ensures ∙ c.requires.dues c.args.cpu c.requires.ready.exists) c.last_end-from.ensures.same c.begin-running.ensures.running c.begin-running.ensures.same c.work_tick-commanded.ensures.same c.bill_of-e.ensures.same c.bill.ensures c.test-reboot.ensures)
+    c.settle-done.ensures in
+    let there = ap (λ (u : SchedulerState). length u.cpus) before in
+    c.requires.spare d (omega (arith, past, there, c.requires.ready.counted))
+
+pub returns-then-is_over-clause-flagged : goal.returns-then-is_over-clause-flagged
+returns-then-is_over-clause-flagged c =
+    let nobody : c.bill_of-e.result.flagged ≡ None =
+    ap (λ (e : Entry). e.flagged) c.bill_of-e.ensures.same ∙ unflagged_bill c.args.cpu c.last_end-from.result c.of-now.result c.begin-running.result in
+    subst (λ o. IfSome o (λ d. d < length c.test-reboot.new.self.cpus)) (sym nobody) tt
 
 -- ---- the queues
 

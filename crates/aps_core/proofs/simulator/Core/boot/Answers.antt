@@ -30,6 +30,7 @@ invariant_of-result c =
       lasts = c.new-ends.ensures;
       stands = c.in_ok-window.ensures.standing;
       posted = c.start_posts-posts.ensures;
+      spare = λ d past. c.new-dues.ensures d;
       nexts = dues_none c.in_ok-machine.machine _ c.new-dues.ensures;
       counts = counts_begin c.args.scenario c.in_ok-machine.machine _ c.in_ok-window.window c.commands.ensures.valid.shape c.in_ok-machine.ensures refl c.in_ok-window.ensures.window;
     })

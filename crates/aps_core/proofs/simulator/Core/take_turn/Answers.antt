@@ -1,4 +1,4 @@
-use Rattle.std.proofs.Common.{◌≡◌, ◌/◌, ◌∙◌, refl, [], ◌∷◌, ◌++◌, ap, IfSome, None, subst, sym}
+use Rattle.std.proofs.Common.{◌≡◌, ◌<◌, ◌≤◌, ◌/◌, ◌∙◌, length, arith, refl, [], ◌∷◌, ◌++◌, ap, IfSome, None, subst, sym}
 use Rattle.aps_model.specs.Due.{due, last_to}
 use Rattle.aps_model.specs.History.{History}
 use Rattle.aps_model.specs.Scenario.{Scenario}
@@ -8,14 +8,15 @@ use Rattle.aps_laws.proofs.MomentLaws.{last_own, moment-append}
 use Rattle.aps_core.specs.Counts.{Counts}
 use Rattle.aps_core.specs.CoreView.{run_of}
 use Rattle.aps_core.specs.LastEnds.{AreEnds}
-use Rattle.aps_core.specs.NextDues.{AreDues}
+use Rattle.aps_core.specs.NextDues.{AreDues, AreSpare}
 use Rattle.aps_core.specs.Rising.{IsRising}
 use Rattle.aps_core.specs.Run.{end_of_run}
 use Rattle.aps_core.specs.declared.turn.Turn.TheVariants.{Took}
 use Rattle.aps_core.specs.Turn.{HasTurnIn, IsFed}
 use Rattle.aps_core.proofs.Counting.{counts_like}
-use Rattle.aps_core.proofs.DuesKept.{dues_more, own_within}
+use Rattle.aps_core.proofs.DuesKept.{cpus_after, cpus_now, dues_more, own_within}
 use Rattle.aps_core.proofs.Kept.{can_record_in, core_kept, entry_fits, fed_in, own_entry, pending_read, ready_in, step_read, tick_of_core, told_in}
+use Rattle.aps_core.proofs.NextDues.{spare_after}
 use Rattle.aps_core.proofs.Rising.{rising_law}
 use Rattle.aps_core.proofs.simulator.Core.take_turn.Goals as goal
 
@@ -101,6 +102,22 @@ due-due-requires-clause-at_hand c =
     subst (λ l. IfSome (last_to l c.args.cpu) (λ to. c.tick-tick.result ≡ to / n)) (sym more)
     (subst (λ o. IfSome o (λ to. c.tick-tick.result ≡ to / n)) (sym (last_own h e c.args.cpu own)) (c.tick-tick.ensures.same ∙ c.step-made.ensures.counts.tick))
 
+pub record-requires-clause-cpu : goal.record-requires-clause-cpu
+record-requires-clause-cpu c =
+    let own =
+    own_entry (run_of c.self.inside) c.self.inside.history c.self.inside.machine c.args.cpu c.step-made.result.entry (record { state = c.step-made.new.self; reboot = c.step-made.result.reboot })
+    c.self.invariant.core
+    (subst (λ run. end_of_run run ≡ None) (sym c.self.view_is) c.requires.goes_on)
+    (subst (λ run. HasTurnIn run c.args.cpu) (sym c.self.view_is) c.requires.turn)
+    (step_read _ _ c.self.inside.machine _ _ c.args.cpu _ c.scenario.ensures c.entries.ensures.same c.step-made.ensures.same) in
+    let within =
+    own_within (run_of c.self.inside) c.self.inside.history c.self.inside.machine c.args.cpu c.step-made.result.entry (record { state = c.step-made.new.self; reboot = c.step-made.result.reboot })
+    c.self.invariant.core
+    (subst (λ run. end_of_run run ≡ None) (sym c.self.view_is) c.requires.goes_on)
+    (subst (λ run. HasTurnIn run c.args.cpu) (sym c.self.view_is) c.requires.turn)
+    (step_read _ _ c.self.inside.machine _ _ c.args.cpu _ c.scenario.ensures c.entries.ensures.same c.step-made.ensures.same) in
+    omega (arith, own, within)
+
 pub step-made-requires-clause-counts : goal.step-made-requires-clause-counts
 step-made-requires-clause-counts c =
     let shape = c.self.inside.machine.shape in
@@ -111,6 +128,29 @@ record-requires-clause-ends c = c.add.ensures c.self.inside.history.entries c.se
 
 pub invariant_of-self : goal.invariant_of-self
 invariant_of-self c = record {
+  spare =
+      let count =
+      cpus_after (run_of c.self.inside) c.self.inside.history c.self.inside.machine c.args.cpu c.step-made.result.entry (record { state = c.step-made.new.self; reboot = c.step-made.result.reboot })
+    c.self.invariant.core
+    (subst (λ run. end_of_run run ≡ None) (sym c.self.view_is) c.requires.goes_on)
+    (subst (λ run. HasTurnIn run c.args.cpu) (sym c.self.view_is) c.requires.turn)
+    (step_read _ _ c.self.inside.machine _ _ c.args.cpu _ c.scenario.ensures c.entries.ensures.same c.step-made.ensures.same) in
+      let own =
+      own_entry (run_of c.self.inside) c.self.inside.history c.self.inside.machine c.args.cpu c.step-made.result.entry (record { state = c.step-made.new.self; reboot = c.step-made.result.reboot })
+    c.self.invariant.core
+    (subst (λ run. end_of_run run ≡ None) (sym c.self.view_is) c.requires.goes_on)
+    (subst (λ run. HasTurnIn run c.args.cpu) (sym c.self.view_is) c.requires.turn)
+    (step_read _ _ c.self.inside.machine _ _ c.args.cpu _ c.scenario.ensures c.entries.ensures.same c.step-made.ensures.same) in
+      let within =
+      own_within (run_of c.self.inside) c.self.inside.history c.self.inside.machine c.args.cpu c.step-made.result.entry (record { state = c.step-made.new.self; reboot = c.step-made.result.reboot })
+    c.self.invariant.core
+    (subst (λ run. end_of_run run ≡ None) (sym c.self.view_is) c.requires.goes_on)
+    (subst (λ run. HasTurnIn run c.args.cpu) (sym c.self.view_is) c.requires.turn)
+    (step_read _ _ c.self.inside.machine _ _ c.args.cpu _ c.scenario.ensures c.entries.ensures.same c.step-made.ensures.same) in
+      let before = cpus_now (run_of c.self.inside) c.self.inside.history c.self.inside.machine c.self.invariant.core in
+      subst (AreSpare c.step-made.new.self) (sym c.go_on.ensures.same)
+      (spare_after (length c.step-made.new.self.cpus) c.self.inside.dues c.step-made.result.entry c.due-due.result
+      (λ d past. c.self.invariant.spare d (omega (arith, past, before, count))) (omega (arith, own, within)) c.step-made.ensures.flagged);
   core =
       core_kept (run_of c.self.inside) c.self.inside.history c.self.inside.machine c.args.cpu c.step-made.result.entry c.record.new.history (record { state = c.step-made.new.self; reboot = c.step-made.result.reboot })
       c.self.invariant.core
