@@ -22,8 +22,8 @@ use Rattle.aps_tasks.specs.Table.{Table}
 use Rattle.aps_core.specs.Conversation.{channels_of, received_in, replied_in, sent_in, with_channels}
 use Rattle.aps_core.specs.Machine.{IsMachine}
 use Rattle.aps_core.specs.Room.{HasRoom}
-use Rattle.aps_core.specs.Threads.{with_tasks}
 use Rattle.aps_core.proofs.SeatsStay.{tops_stay}
+use Rattle.aps_core.proofs.Threads.{with_tasks}
 
 -- ---- who runs waits nowhere, and who waits at a channel waits for no reply
 

@@ -17,9 +17,9 @@ mod ClassesStay
 pub mod Boot
 pub mod Waking
 pub mod Turns
+pub mod Threads
 pub mod Conversing
 pub mod Servers
-pub mod Threads
 pub mod Tasking
 pub mod Ready
 pub mod Taken

@@ -22,8 +22,8 @@ use Rattle.aps_inherit.specs.Own.{own_of, with_own}
 use Rattle.aps_tasks.specs.declared.task.Task.{Task}
 use Rattle.aps_tasks.specs.Table.{Table, entering, put_back, put_entered, put_given, put_on, put_ready, put_spent, put_stamped, put_state, put_task, task_in}
 use Rattle.aps_core.specs.Machine.{IsMachine}
-use Rattle.aps_core.specs.Threads.{thread_of, threads_of, with_tasks}
-use Rattle.aps_core.proofs.Threads.{own_put, owns_read, task_put, task_read, threads_count}
+use Rattle.aps_core.specs.Threads.{thread_of, threads_of}
+use Rattle.aps_core.proofs.Threads.{own_put, owns_read, task_put, task_read, threads_count, with_tasks}
 
 -- ---- the state
 
@@ -49,18 +49,29 @@ gone_on scenario s t u own x place now op behind there leaves =
     ap (λ (v : Table). with_tasks s v own) (leaves ∙ ap (λ o. put_on t x s.shape place o now) there ∙ ap (λ p. put_on t x s.shape p (op_at scenario x p) now) behind)
     ∙ by (state_in (op_at scenario x next) now Ready)
   where
-    next : ℕ
-    next = (thread_at (with_tasks s t own) x).place + 1
+    z : SchedulerState
+    z = with_tasks s t own
 
-    by : (st : State) → with_tasks s (put_ready t x (entering s.shape next (op_at scenario x next) now Ready (task_in t x)) st) own
-        ≡ with_ready (with_tasks s t own) x (enter scenario s.shape x next now Ready (thread_at (with_tasks s t own) x)) st
-    by Ready = stamped s t _ own x (entering s.shape next (op_at scenario x next) now Ready) (enter scenario s.shape x next now Ready) (λ a o. refl) refl
-    by (Running c) = written s t _ own x (entering s.shape next (op_at scenario x next) now Ready) (enter scenario s.shape x next now Ready) (λ a o. refl) refl
-    by (Sleeping until) = written s t _ own x (entering s.shape next (op_at scenario x next) now Ready) (enter scenario s.shape x next now Ready) (λ a o. refl) refl
-    by (Sending c) = written s t _ own x (entering s.shape next (op_at scenario x next) now Ready) (enter scenario s.shape x next now Ready) (λ a o. refl) refl
-    by (Receiving c) = written s t _ own x (entering s.shape next (op_at scenario x next) now Ready) (enter scenario s.shape x next now Ready) (λ a o. refl) refl
-    by (Replying y) = written s t _ own x (entering s.shape next (op_at scenario x next) now Ready) (enter scenario s.shape x next now Ready) (λ a o. refl) refl
-    by Gone = written s t _ own x (entering s.shape next (op_at scenario x next) now Ready) (enter scenario s.shape x next now Ready) (λ a o. refl) refl
+    next : ℕ
+    next = (thread_at z x).place + 1
+
+    f : Task → Task
+    f = entering s.shape next (op_at scenario x next) now Ready
+
+    g : ThreadNow → ThreadNow
+    g = enter scenario s.shape x next now Ready
+
+    still : with_tasks s (put_task t x (f (task_in t x))) own ≡ with_thread z x (g (thread_at z x))
+    still = written s t _ own x f g (λ a o. refl) refl
+
+    by : (st : State) → with_tasks s (put_ready t x (f (task_in t x)) st) own ≡ with_ready z x (g (thread_at z x)) st
+    by Ready = stamped s t _ own x f g (λ a o. refl) refl
+    by (Running c) = still
+    by (Sleeping until) = still
+    by (Sending c) = still
+    by (Receiving c) = still
+    by (Replying y) = still
+    by Gone = still
 
 pub entered : (scenario : Scenario) (s : SchedulerState) (t u : Table) (own : List Facts) (x place now c : ℕ) (op next : Op) → (thread_at (with_tasks s t own) x).state ≡ Running c
     → place ≡ place_after op (thread_at (with_tasks s t own) x).place → next ≡ op_at scenario x place → u ≡ put_entered t x s.shape place next now

@@ -2,11 +2,16 @@
 use Rattle.std.proofs.Common.{◌≡◌, ℕ, zero, suc, List, [], ◌∷◌, length, map, set, get_or, refl, ap, arith}
 use Rattle.aps_model.specs.declared.state.Facts.{Facts}
 use Rattle.aps_model.specs.declared.state.ThreadNow.{ThreadNow}
-use Rattle.aps_model.specs.SchedulerState.{no_facts, no_thread}
+use Rattle.aps_model.specs.SchedulerState.{SchedulerState, no_facts, no_thread}
 use Rattle.aps_tasks.specs.declared.task.Task.{Task}
 use Rattle.aps_tasks.specs.Start.{task_of}
+use Rattle.aps_tasks.specs.Table.{Table}
 use Rattle.aps_tasks.specs.Tasks.{no_task}
 use Rattle.aps_core.specs.Threads.{thread_of, threads_of}
+
+-- the state with these as its threads
+abbrev pub with_tasks : SchedulerState → Table → List Facts → SchedulerState
+with_tasks s t own = record s { threads = threads_of t.tasks own; stamps = t.stamps }
 
 pub threads_count : (tasks : List Task) (own : List Facts) → length (threads_of tasks own) ≡ length tasks
 threads_count [] own = refl

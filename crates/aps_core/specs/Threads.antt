@@ -2,9 +2,8 @@
 use Rattle.std.specs.Prelude.{List, [], ◌∷◌}
 use Rattle.aps_model.specs.declared.state.Facts.{Facts}
 use Rattle.aps_model.specs.declared.state.ThreadNow.{ThreadNow}
-use Rattle.aps_model.specs.SchedulerState.{SchedulerState, no_facts}
+use Rattle.aps_model.specs.SchedulerState.{no_facts}
 use Rattle.aps_tasks.specs.declared.task.Task.{Task}
-use Rattle.aps_tasks.specs.Table.{Table}
 
 -- the thread of this task and these own values
 abbrev pub thread_of : Task → Facts → ThreadNow
@@ -22,7 +21,3 @@ abbrev pub threads_of : List Task → List Facts → List ThreadNow
 threads_of [] own = []
 threads_of (task ∷ tasks) [] = thread_of task no_facts ∷ threads_of tasks []
 threads_of (task ∷ tasks) (facts ∷ own) = thread_of task facts ∷ threads_of tasks own
-
--- the state with these as its threads
-abbrev pub with_tasks : SchedulerState → Table → List Facts → SchedulerState
-with_tasks s t own = record s { threads = threads_of t.tasks own; stamps = t.stamps }

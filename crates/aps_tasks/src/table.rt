@@ -84,9 +84,13 @@ impl TaskTable {
         requires short { IsShort op.now }
         ensures { self.new ≡ put_entered self.old x shape.now place op.now now }
     {
-        let task = self.task(x);
-        let otherwise = task.state;
-        self.set_task(x, entering(task, place, op, shape, now, otherwise));
+        let index = x.index();
+        if index < self.tasks.len() {
+            let task = &mut self.tasks[index];
+            task.state = state_in(op, now, task.state);
+            task.place = place;
+            task.left = duration(shape, op);
+        }
     }
 
     /// The thread, which waited, goes on with the operation at this place of its program. Where that is a sleep the thread
@@ -107,14 +111,14 @@ impl TaskTable {
         requires { self.old.stamps < 2 ^ 63 }
         ensures { self.new ≡ put_back self.old x }
     {
-        let task = self.task(x);
-        self.set_stamped(
-            x,
-            Task {
-                state: State::Ready,
-                ..task
-            },
-        );
+        let stamp = self.next_stamp();
+        let index = x.index();
+        if index < self.tasks.len() {
+            let task = &mut self.tasks[index];
+            task.state = State::Ready;
+            task.stamp = stamp;
+            task.since = 0;
+        }
     }
 
     /// A thread that runs is ready again; if it has this policy and by that its slice is over, with a new stamp. Any other
@@ -141,8 +145,13 @@ impl TaskTable {
         requires { self.old.stamps < 2 ^ 63 }
         ensures { self.new ≡ put_stamped self.old x (task_in self.old x) }
     {
-        let task = self.task(x);
-        self.set_stamped(x, task);
+        let stamp = self.next_stamp();
+        let index = x.index();
+        if index < self.tasks.len() {
+            let task = &mut self.tasks[index];
+            task.stamp = stamp;
+            task.since = 0;
+        }
     }
 
     /// The thread has run for so many ns, and since its stamp at most 20,000,000,000,000 in all. Nothing is left of its
@@ -158,6 +167,18 @@ impl TaskTable {
             task.left = left_after(&task.left, ns);
             task.since += ns;
         }
+    }
+
+    /// The next stamp, which is given by this.
+    #[inline(always)]
+    fn next_stamp(&mut self) -> u64
+        requires { self.old.stamps < 2 ^ 63 }
+        ensures stamp { result ≡ self.old.stamps }
+        ensures given { self.new ≡ record self.old { stamps = self.old.stamps + 1 } }
+    {
+        let stamp = self.stamps;
+        self.stamps += 1;
+        stamp
     }
 
     /// The thread's task is this one.
@@ -177,8 +198,7 @@ impl TaskTable {
         requires { self.old.stamps < 2 ^ 63 }
         ensures { self.new ≡ put_stamped self.old x task }
     {
-        let stamp = self.stamps;
-        self.stamps += 1;
+        let stamp = self.next_stamp();
         self.set_task(
             x,
             Task {

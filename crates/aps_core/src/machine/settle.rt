@@ -57,6 +57,9 @@ impl Machine {
         requires stamps { self.old.stamps < 2 ^ 63 }
         ensures { self.new ≡ give_back scenario.now self.old x (thread_at self.old x).state }
     {
+        let State::Running(_) = self.task(x).state else {
+            return;
+        };
         let policy = policy_of(scenario, x);
         self.tasks.give_back(x, &self.shape, policy);
     }
