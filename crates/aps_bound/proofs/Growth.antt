@@ -1,12 +1,13 @@
 -- The audit as it grows by windows is that over all windows.
-use Rattle.std.proofs.Common.{◌≡◌, ℕ, ◌+◌, ◌-◌, ◌≤◌, List, [], ◌∷◌, length, max, refl, sym, ◌∙◌, ap, Option, None, arith}
+use Rattle.std.proofs.Common.{◌≡◌, ℕ, ◌+◌, ◌-◌, ◌≤◌, List, [], ◌∷◌, length, max, refl, sym, ◌∙◌, ap, Option, Some, None, cond, false, nat_lt, arith}
 use Rattle.std.specs.List.{fold, range_with_len}
+use Rattle.std.proofs.lemmas.Bool.Decides.{nat_tests}
 use Rattle.aps_model.specs.declared.audit.Audit.{Audit}
 use Rattle.aps_model.specs.declared.audit.Worst.{Worst}
 use Rattle.aps_model.specs.declared.command.Change.{Change}
 use Rattle.aps_model.specs.declared.entry.Entry.{Entry}
 use Rattle.aps_model.specs.declared.shape.Shape.{Shape}
-use Rattle.aps_model.specs.Audit.{audit_of, critical_over_from, over_from, short_from}
+use Rattle.aps_model.specs.Audit.{audit_of, critical_over_from, over_from, short_from, worse}
 use Rattle.aps_model.specs.History.{History}
 use Rattle.aps_model.specs.Loaded.{finished_ticks, loaded_tick, loaded_windows}
 use Rattle.aps_bound.specs.Worst.{with_partition, with_partitions, with_window, with_windows, worst_with}
@@ -21,6 +22,22 @@ partitions-more h audit a n =
     ap (λ (o : Option Worst). record audit { worst_over = o; worst_short = fold (worst_with (short_from h) a) audit.worst_short (range_with_len 0 (n + 1)); critical_worst = fold (worst_with (critical_over_from h) a) audit.critical_worst (range_with_len 0 (n + 1)) }) over
     ∙ ap (λ (o : Option Worst). record audit { worst_over = worst_with (over_from h) a (fold (worst_with (over_from h) a) audit.worst_over (range_with_len 0 n)) n; worst_short = o; critical_worst = fold (worst_with (critical_over_from h) a) audit.critical_worst (range_with_len 0 (n + 1)) }) short
     ∙ ap (λ (o : Option Worst). record audit { worst_over = worst_with (over_from h) a (fold (worst_with (over_from h) a) audit.worst_over (range_with_len 0 n)) n; worst_short = worst_with (short_from h) a (fold (worst_with (short_from h) a) audit.worst_short (range_with_len 0 n)) n; critical_worst = o }) critical
+
+-- an amount that is no greater than the worst so far leaves that
+kept_worst : (found : Option Worst) (best one : Worst) → found ≡ Some best → one.amount ≤ best.amount → worse found one ≡ found
+kept_worst found best one is few =
+    let test : nat_lt best.amount one.amount ≡ false = grind (arith, nat_tests) in
+    ap (λ o. worse o one) is ∙ ap (λ t. Some (cond t one best)) test ∙ sym is
+
+-- a partition of which no amount is
+pub partition_stays : (h : History) (audit : Audit) (a p : ℕ) (over short critical : Worst) → audit.worst_over ≡ Some over → audit.worst_short ≡ Some short → audit.critical_worst ≡ Some critical
+    → over_from h a p ≤ over.amount → short_from h a p ≤ short.amount → critical_over_from h a p ≤ critical.amount → with_partition h audit a p ≡ audit
+partition_stays h audit a p over short critical is_over is_short is_critical few few' few'' =
+    λ i. record audit {
+      worst_over = kept_worst audit.worst_over over (record { amount = over_from h a p; partition = p; window = a }) is_over few i;
+      worst_short = kept_worst audit.worst_short short (record { amount = short_from h a p; partition = p; window = a }) is_short few' i;
+      critical_worst = kept_worst audit.critical_worst critical (record { amount = critical_over_from h a p; partition = p; window = a }) is_critical few'' i;
+    }
 
 -- over these windows, as three separate scans
 windows_apart : (h : History) (audit : Audit) (windows : List ℕ) → fold (with_window h) audit windows ≡ record audit {

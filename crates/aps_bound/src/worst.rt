@@ -1,7 +1,7 @@
 //! The greatest amounts over windows and partitions.
-ghost use Rattle.std.specs.Prelude.{◌≡◌, ◌+◌, ◌≤◌, ◌<◌, ◌*◌, ◌/◌, length, if◌then◌else◌, Some};
+ghost use Rattle.std.specs.Prelude.{◌≡◌, ◌+◌, ◌≤◌, ◌<◌, ◌*◌, ◌/◌, length, if◌then◌else◌, Some, true};
 ghost use Rattle.aps_model.specs.declared.audit.Worst.{Worst as WorstOf};
-ghost use Rattle.aps_model.specs.Audit.{worse};
+ghost use Rattle.aps_model.specs.Audit.{critical_over_from, over_from, short_from, worse};
 ghost use Rattle.aps_model.specs.Sums.{IsUsage};
 ghost use Rattle.aps_bound.specs.Allowed.{AreAllowed};
 ghost use Rattle.aps_bound.specs.Worst.{with_partition, with_window};
@@ -22,9 +22,71 @@ pub fn with_partitions(
     requires a { a ≤ 100000000 }
     ensures { audit.new ≡ with_window history.now audit.old a }
 {
+    if is_no_worse(history, allowed, usage, audit, a) {
+        return;
+    }
     for p in 0..history.rows().len() {
         with_partition(history, allowed, usage, audit, a, p);
     }
+}
+
+/// Whether in the window from tick `a` on no amount is greater than the worst so far: so it is in most windows, and is seen
+/// sooner than which amount stands where.
+#[inline(always)]
+fn is_no_worse(
+    history: &History,
+    allowed: &Allowed,
+    usage: &Usage,
+    audit: &Audit,
+    _a: u64,
+) -> bool
+    requires allowed { AreAllowed history.now allowed.now }
+    requires usage { IsUsage history.now.shape.tick _a (_a + history.now.shape.window) history.now.entries usage.now }
+    ensures { result ≡ true → with_window history.now audit.now _a ≡ audit.now }
+{
+    let Some(over) = audit.worst_over else {
+        return false;
+    };
+    let Some(short) = audit.worst_short else {
+        return false;
+    };
+    let Some(critical) = audit.critical_worst else {
+        return false;
+    };
+    let (over, short, critical) = (over.amount, short.amount, critical.amount);
+    for p in 0..history.rows().len() {
+        if !stays_within(history, allowed, usage, over, short, critical, _a, p) {
+            return false;
+        }
+    }
+    true
+}
+
+/// Whether the partition's amounts in the window from tick `a` on are at most these.
+#[inline(always)]
+fn stays_within(
+    history: &History,
+    allowed: &Allowed,
+    usage: &Usage,
+    over: Nanos,
+    short: Nanos,
+    critical: Nanos,
+    _a: u64,
+    p: usize,
+) -> bool
+    requires p { p < length history.now.rows }
+    requires allowed { AreAllowed history.now allowed.now }
+    requires usage { IsUsage history.now.shape.tick _a (_a + history.now.shape.window) history.now.entries usage.now }
+    ensures over { result ≡ true → over_from history.now _a p ≤ over }
+    ensures short { result ≡ true → short_from history.now _a p ≤ short }
+    ensures critical { result ≡ true → critical_over_from history.now _a p ≤ critical }
+{
+    let row = &history.rows()[p];
+    let allowed = allowed_at(allowed, history, p);
+    let spent = usage.used[p];
+    spent.saturating_sub(allowed) <= over
+        && allowed.saturating_sub(spent) <= short
+        && usage.critical[p].saturating_sub(row.critical) <= critical
 }
 
 /// The audit goes on with one partition's usage of the window from tick `a` on.

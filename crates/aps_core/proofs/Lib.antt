@@ -1,5 +1,6 @@
 pub mod Ranges
 pub mod Seats
+pub mod TickDone
 pub mod Touched
 pub mod SeatsStay
 pub mod Asleep

@@ -35,6 +35,7 @@ mod settle;
 mod start;
 mod sync;
 mod threads;
+mod tick;
 mod timer;
 pub mod wake;
 
@@ -293,7 +294,9 @@ impl Machine {
         let tick = self.tick_of(now, window.tick());
         let is_later = usage::go_on(window, tick);
         let running = self.begin(cpu);
-        let commanded = self.work_tick(scenario, entries, window, timer, woken, ctl, now, tick);
+        let commanded = self.begin_tick(
+            scenario, entries, window, timer, woken, ctl, now, tick, is_later,
+        );
         let e = bill::bill_of(cpu, from, now, &running);
         usage::add_time(window, &self.shape, &e);
         self.bill(&e, &running);

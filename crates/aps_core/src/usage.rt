@@ -20,6 +20,7 @@ pub fn go_on(window: &mut Window, tick: u64) -> bool
     requires few { tick ≤ 1000000 }
     ensures same { window.new ≡ advanced (tick - window.old.tick) window.old }
     ensures stays { result ≡ false → window.new ≡ window.old }
+    ensures at_hand { result ≡ false → tick ≡ window.old.tick }
 {
     let ticks = tick as u32 - window.tick();
     if ticks > 0 {

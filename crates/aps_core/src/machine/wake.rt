@@ -54,7 +54,7 @@ impl Woken {
     }
 
     /// The same, so that others can be added.
-    fn clear(&mut self)
+    pub fn clear(&mut self)
         ensures { self.new ≡ [] }
     {
         self.list.clear();

@@ -1,4 +1,4 @@
-use Rattle.std.proofs.Common.{◌≡◌, ◌≢◌, ℕ, ◌<◌, IfSome, ◌/◌, ◌||◌, List, Option, Some, None, ◌≤◌, [], ◌∷◌, ◌++◌, sym, ◌∙◌, refl, subst, length, ap, arith, inl, inr}
+use Rattle.std.proofs.Common.{◌≡◌, ◌≢◌, ℕ, false, ◌<◌, IfSome, ◌/◌, ◌||◌, List, Option, Some, None, ◌≤◌, [], ◌∷◌, ◌++◌, sym, ◌∙◌, refl, subst, length, ap, arith, inl, inr}
 use Rattle.std.specs.Option.{option_map}
 use Rattle.aps_model.specs.declared.entry.Entry.{Entry}
 use Rattle.aps_model.specs.declared.merit.Contender.{Contender}
@@ -8,6 +8,8 @@ use Rattle.aps_model.specs.Due.{due}
 use Rattle.aps_model.specs.Messages.{Effect}
 use Rattle.aps_model.specs.SchedulerState.{SchedulerState, cpu_at, thread_at}
 use Rattle.aps_model.specs.Step.{Step}
+use Rattle.aps_model.specs.TickWork.{has_tick_work}
+use Rattle.aps_laws.specs.Moments.{moment}
 use Rattle.aps_laws.specs.Servers.{IsNobodysClient}
 use Rattle.aps_laws.specs.Stamps.{IsStamped}
 use Rattle.aps_window.specs.Window.{Window, total_of}
@@ -31,33 +33,42 @@ use Rattle.aps_core.proofs.SleepersStay.{picked_sleepers, settled_timer, tested_
 use Rattle.aps_core.proofs.StandsStay.{calm_kept, neither, others_stand}
 use Rattle.aps_core.proofs.StepCounts.{IsBilling, counts_begun, counts_left, done_bill, entry_of, own_bill, picked_bill, room_to_bill, settled_shape, spent_shape, tested_shape}
 use Rattle.aps_core.proofs.StepParts.{billed_by, room_after, settled_by, settled_is, step_at_horizon, step_below, step_over, tested_by, ticked_by}
+use Rattle.aps_core.proofs.TickDone.{work_done}
 use Rattle.aps_core.proofs.machine.Machine.step.Goals as goal
 
 -- ---- the work of the tick
 
-pub work_tick-commanded-requires-clause-now : goal.work_tick-commanded-requires-clause-now
-work_tick-commanded-requires-clause-now c = rw (c.of-now.ensures ∙ c.requires.dues c.args.cpu c.requires.ready.exists) c.requires.ready.early
+pub begin_tick-commanded-requires-clause-now : goal.begin_tick-commanded-requires-clause-now
+begin_tick-commanded-requires-clause-now c = rw (c.of-now.ensures ∙ c.requires.dues c.args.cpu c.requires.ready.exists) c.requires.ready.early
 
-pub work_tick-commanded-requires-clause-tick : goal.work_tick-commanded-requires-clause-tick
-work_tick-commanded-requires-clause-tick c = c.tick_of-tick.ensures.same ∙ ap (λ (s : SchedulerState). c.of-now.result / s.shape.tick) (sym c.begin-running.ensures.same)
+pub begin_tick-commanded-requires-clause-tick : goal.begin_tick-commanded-requires-clause-tick
+begin_tick-commanded-requires-clause-tick c = c.tick_of-tick.ensures.same ∙ ap (λ (s : SchedulerState). c.of-now.result / s.shape.tick) (sym c.begin-running.ensures.same)
 
-pub work_tick-commanded-requires-clause-room : goal.work_tick-commanded-requires-clause-room
-work_tick-commanded-requires-clause-room c =
+pub begin_tick-commanded-requires-clause-done : goal.begin_tick-commanded-requires-clause-done
+begin_tick-commanded-requires-clause-done c calm nonempty =
+    let s = c.args.self.now in
+    let h = c.args.entries.now in
+    let at : c.of-now.result / s.shape.tick ≡ moment h / s.shape.tick = sym c.tick_of-tick.ensures.same ∙ c.go_on-is_later.ensures.at_hand calm ∙ c.requires.counts.tick in
+    let rises : moment h ≤ c.of-now.result = omega (arith, c.requires.ready.rises, (c.of-now.ensures ∙ c.requires.dues c.args.cpu c.requires.ready.exists)) in
+    subst (λ (u : SchedulerState). has_tick_work u h c.of-now.result ≡ false) (sym c.begin-running.ensures.same) (work_done s h c.of-now.result nonempty rises at)
+
+pub begin_tick-commanded-requires-clause-room : goal.begin_tick-commanded-requires-clause-room
+begin_tick-commanded-requires-clause-room c =
     subst (HasRoomToWake 256 6000000000) (sym c.begin-running.ensures.same)
     (record { places = c.requires.ready.wakes.places; stamps = c.requires.ready.wakes.stamps })
 
-pub work_tick-commanded-requires-clause-replies : goal.work_tick-commanded-requires-clause-replies
-work_tick-commanded-requires-clause-replies c =
+pub begin_tick-commanded-requires-clause-replies : goal.begin_tick-commanded-requires-clause-replies
+begin_tick-commanded-requires-clause-replies c =
     subst (λ (s : SchedulerState). length s.replies ≤ 1024)
     (sym (ticked_by c.args.scenario.now c.args.self.now c.args.entries.now c.args.cpu _ _ _ (c.of-now.ensures ∙ c.requires.dues c.args.cpu c.requires.ready.exists) c.begin-running.ensures.same refl)) c.requires.ready.replies
 
-pub work_tick-commanded-requires-clause-changes : goal.work_tick-commanded-requires-clause-changes
-work_tick-commanded-requires-clause-changes c =
+pub begin_tick-commanded-requires-clause-changes : goal.begin_tick-commanded-requires-clause-changes
+begin_tick-commanded-requires-clause-changes c =
     subst (λ (s : SchedulerState). length s.changes ≤ 2079)
     (sym (ticked_by c.args.scenario.now c.args.self.now c.args.entries.now c.args.cpu _ _ _ (c.of-now.ensures ∙ c.requires.dues c.args.cpu c.requires.ready.exists) c.begin-running.ensures.same refl)) c.requires.ready.changes_ticked
 
-pub work_tick-commanded-requires-clause-pending : goal.work_tick-commanded-requires-clause-pending
-work_tick-commanded-requires-clause-pending c =
+pub begin_tick-commanded-requires-clause-pending : goal.begin_tick-commanded-requires-clause-pending
+begin_tick-commanded-requires-clause-pending c =
     subst (λ (s : SchedulerState). IsPending c.args.scenario.now s.shape.tick c.args.entries.now c.args.ctl.now) (sym c.begin-running.ensures.same) c.requires.pending
 
 -- ---- the bill
@@ -71,7 +82,7 @@ bill-requires-clause-forward c = rw (c.bill_of-e.ensures.from, c.bill_of-e.ensur
 pub bill-requires-clause-since : goal.bill-requires-clause-since
 bill-requires-clause-since c =
     subst (λ (s : SchedulerState). (x : ℕ) → (thread_at s x).since ≤ 10000000000000)
-    (sym (ticked_by c.args.scenario.now c.args.self.now c.args.entries.now c.args.cpu _ _ _ (c.of-now.ensures ∙ c.requires.dues c.args.cpu c.requires.ready.exists) c.begin-running.ensures.same c.work_tick-commanded.ensures.same))
+    (sym (ticked_by c.args.scenario.now c.args.self.now c.args.entries.now c.args.cpu _ _ _ (c.of-now.ensures ∙ c.requires.dues c.args.cpu c.requires.ready.exists) c.begin-running.ensures.same c.begin_tick-commanded.ensures.same))
     c.requires.ready.since
 
 -- ---- the whole
@@ -80,15 +91,15 @@ pub returns-clause-same : goal.returns-clause-same
 returns-clause-same c =
     let b =
     tested_by c.args.scenario.now c.args.self.now c.args.entries.now c.args.cpu _ _ _ _ _ _ _ _ _
-    (c.of-now.ensures ∙ c.requires.dues c.args.cpu c.requires.ready.exists) c.last_end-from.ensures.same c.begin-running.ensures.running c.begin-running.ensures.same c.work_tick-commanded.ensures.same c.bill_of-e.ensures.same c.bill.ensures c.test-reboot.ensures in
+    (c.of-now.ensures ∙ c.requires.dues c.args.cpu c.requires.ready.exists) c.last_end-from.ensures.same c.begin-running.ensures.running c.begin-running.ensures.same c.begin_tick-commanded.ensures.same c.bill_of-e.ensures.same c.bill.ensures c.test-reboot.ensures in
     step_below c.args.scenario.now c.args.self.now c.args.entries.now c.args.cpu _ _ _ _ _ _ _ b
     (c.is_over.ensures.on c.if-is_over.false).0
     (c.is_over.ensures.on c.if-is_over.false).1 c.settle-done.ensures c.bill_of-e.ensures.to c.pick-entry.ensures.same
 
 -- ---- the window
 
-pub work_tick-commanded-requires-clause-counts : goal.work_tick-commanded-requires-clause-counts
-work_tick-commanded-requires-clause-counts c =
+pub begin_tick-commanded-requires-clause-counts : goal.begin_tick-commanded-requires-clause-counts
+begin_tick-commanded-requires-clause-counts c =
     counts_begun c.args.self.now c.begin-running.new.self c.args.entries.now c.args.cpu c.of-now.result c.tick_of-tick.result c.args.window.now c.go_on-is_later.new.window c.requires.counts
     (omega (arith, c.requires.ready.rises, (c.of-now.ensures ∙ c.requires.dues c.args.cpu c.requires.ready.exists))) c.tick_of-tick.ensures.same c.go_on-is_later.ensures.same c.begin-running.ensures.same
 
@@ -102,7 +113,7 @@ add_time-requires-clause-entry c =
       from_end = c.last_end-from.ensures.same;
       ran = c.begin-running.ensures.running;
       begun = c.begin-running.ensures.same;
-      ticked = c.self.view_is ∙ c.work_tick-commanded.ensures.same;
+      ticked = c.self.view_is ∙ c.begin_tick-commanded.ensures.same;
       entry = c.bill_of-e.ensures.same;
       begins = c.bill_of-e.ensures.from;
       ends = c.bill_of-e.ensures.to;
@@ -120,14 +131,14 @@ add_time-requires-clause-room c =
       from_end = c.last_end-from.ensures.same;
       ran = c.begin-running.ensures.running;
       begun = c.begin-running.ensures.same;
-      ticked = c.self.view_is ∙ c.work_tick-commanded.ensures.same;
+      ticked = c.self.view_is ∙ c.begin_tick-commanded.ensures.same;
       entry = c.bill_of-e.ensures.same;
       begins = c.bill_of-e.ensures.from;
       ends = c.bill_of-e.ensures.to;
       at_tick = c.tick_of-tick.ensures.same;
     } in
-    let before = subst (λ (u : SchedulerState). Counts u.shape c.args.entries.now (c.of-now.result / c.begin-running.new.self.shape.tick) c.work_tick-commanded.new.window) (sym c.self.view_is) c.work_tick-commanded.ensures.counts in
-    room_to_bill c.args.scenario.now c.args.self.now c.args.entries.now c.args.cpu c.of-now.result c.last_end-from.result c.tick_of-tick.result c.begin-running.result c.begin-running.new.self s2 e c.work_tick-commanded.new.window
+    let before = subst (λ (u : SchedulerState). Counts u.shape c.args.entries.now (c.of-now.result / c.begin-running.new.self.shape.tick) c.begin_tick-commanded.new.window) (sym c.self.view_is) c.begin_tick-commanded.ensures.counts in
+    room_to_bill c.args.scenario.now c.args.self.now c.args.entries.now c.args.cpu c.of-now.result c.last_end-from.result c.tick_of-tick.result c.begin-running.result c.begin-running.new.self s2 e c.begin_tick-commanded.new.window
     c.requires.ready b c.tick_of-tick.ensures.few c.self.invariant.shape
     (entry_of c.args.scenario.now c.args.self.now c.args.entries.now c.args.cpu c.of-now.result c.last_end-from.result c.tick_of-tick.result c.begin-running.result c.begin-running.new.self s2 e c.requires.ready b)
     before
@@ -142,22 +153,22 @@ test-reboot-requires-clause-counts c =
       from_end = c.last_end-from.ensures.same;
       ran = c.begin-running.ensures.running;
       begun = c.begin-running.ensures.same;
-      ticked = c.self.view_is ∙ c.work_tick-commanded.ensures.same;
+      ticked = c.self.view_is ∙ c.begin_tick-commanded.ensures.same;
       entry = c.bill_of-e.ensures.same;
       begins = c.bill_of-e.ensures.from;
       ends = c.bill_of-e.ensures.to;
       at_tick = c.tick_of-tick.ensures.same;
     } in
-    let before = subst (λ (u : SchedulerState). Counts u.shape c.args.entries.now (c.of-now.result / c.begin-running.new.self.shape.tick) c.work_tick-commanded.new.window) (sym c.self.view_is) c.work_tick-commanded.ensures.counts in
+    let before = subst (λ (u : SchedulerState). Counts u.shape c.args.entries.now (c.of-now.result / c.begin-running.new.self.shape.tick) c.begin_tick-commanded.new.window) (sym c.self.view_is) c.begin_tick-commanded.ensures.counts in
     let with_bill = c.add_time.ensures.counts c.args.entries.now (c.of-now.result / c.begin-running.new.self.shape.tick) before in
-    let spent : c.bill.new.self.shape ≡ s2.shape = spent_shape c.work_tick-commanded.new.self e c.begin-running.result c.bill.new.self c.bill.ensures ∙ ap (λ (u : SchedulerState). u.shape) (sym c.self.view_is) in
+    let spent : c.bill.new.self.shape ≡ s2.shape = spent_shape c.begin_tick-commanded.new.self e c.begin-running.result c.bill.new.self c.bill.ensures ∙ ap (λ (u : SchedulerState). u.shape) (sym c.self.view_is) in
     counts_left c.args.scenario.now c.args.self.now c.args.entries.now c.args.cpu c.of-now.result c.last_end-from.result c.tick_of-tick.result c.begin-running.result c.begin-running.new.self s2 e c.add_time.new.window
     c.requires.ready b with_bill c.bill.new.self e (spent) (own_bill e)
 
 pub returns-then-is_over-clause-pending : goal.returns-then-is_over-clause-pending
 returns-then-is_over-clause-pending c =
-    subst (λ n. IsPending c.args.scenario.now n (c.args.entries.now ++ c.bill_of-e.result ∷ []) c.work_tick-commanded.new.ctl) (ap (λ (u : SchedulerState). u.shape.tick) c.begin-running.ensures.same)
-    (c.work_tick-commanded.ensures.pending c.bill_of-e.result (c.bill_of-e.ensures.to))
+    subst (λ n. IsPending c.args.scenario.now n (c.args.entries.now ++ c.bill_of-e.result ∷ []) c.begin_tick-commanded.new.ctl) (ap (λ (u : SchedulerState). u.shape.tick) c.begin-running.ensures.same)
+    (c.begin_tick-commanded.ensures.pending c.bill_of-e.result (c.bill_of-e.ensures.to))
 
 pub returns-then-is_over-clause-counts : goal.returns-then-is_over-clause-counts
 returns-then-is_over-clause-counts c =
@@ -169,15 +180,15 @@ returns-then-is_over-clause-counts c =
       from_end = c.last_end-from.ensures.same;
       ran = c.begin-running.ensures.running;
       begun = c.begin-running.ensures.same;
-      ticked = c.self.view_is ∙ c.work_tick-commanded.ensures.same;
+      ticked = c.self.view_is ∙ c.begin_tick-commanded.ensures.same;
       entry = c.bill_of-e.ensures.same;
       begins = c.bill_of-e.ensures.from;
       ends = c.bill_of-e.ensures.to;
       at_tick = c.tick_of-tick.ensures.same;
     } in
-    let before = subst (λ (u : SchedulerState). Counts u.shape c.args.entries.now (c.of-now.result / c.begin-running.new.self.shape.tick) c.work_tick-commanded.new.window) (sym c.self.view_is) c.work_tick-commanded.ensures.counts in
+    let before = subst (λ (u : SchedulerState). Counts u.shape c.args.entries.now (c.of-now.result / c.begin-running.new.self.shape.tick) c.begin_tick-commanded.new.window) (sym c.self.view_is) c.begin_tick-commanded.ensures.counts in
     let with_bill = c.add_time.ensures.counts c.args.entries.now (c.of-now.result / c.begin-running.new.self.shape.tick) before in
-    let spent : c.bill.new.self.shape ≡ s2.shape = spent_shape c.work_tick-commanded.new.self e c.begin-running.result c.bill.new.self c.bill.ensures ∙ ap (λ (u : SchedulerState). u.shape) (sym c.self.view_is) in
+    let spent : c.bill.new.self.shape ≡ s2.shape = spent_shape c.begin_tick-commanded.new.self e c.begin-running.result c.bill.new.self c.bill.ensures ∙ ap (λ (u : SchedulerState). u.shape) (sym c.self.view_is) in
     let tested = tested_shape c.bill.new.self c.args.entries.now e c.test-reboot.new.self c.test-reboot.result c.test-reboot.ensures in
     counts_left c.args.scenario.now c.args.self.now c.args.entries.now c.args.cpu c.of-now.result c.last_end-from.result c.tick_of-tick.result c.begin-running.result c.begin-running.new.self s2 e c.add_time.new.window
     c.requires.ready b with_bill c.test-reboot.new.self e (tested ∙ spent) (own_bill e)
@@ -186,7 +197,7 @@ pub settle-done-requires-clause-room : goal.settle-done-requires-clause-room
 settle-done-requires-clause-room c =
     room_after c.args.scenario.now c.args.self.now c.args.entries.now c.args.cpu c.of-now.result c.begin-running.result c.bill_of-e.result c.test-reboot.new.self c.test-reboot.result
     (tested_by c.args.scenario.now c.args.self.now c.args.entries.now c.args.cpu _ _ _ _ _ _ _ _ _
-    (c.of-now.ensures ∙ c.requires.dues c.args.cpu c.requires.ready.exists) c.last_end-from.ensures.same c.begin-running.ensures.running c.begin-running.ensures.same c.work_tick-commanded.ensures.same c.bill_of-e.ensures.same c.bill.ensures c.test-reboot.ensures)
+    (c.of-now.ensures ∙ c.requires.dues c.args.cpu c.requires.ready.exists) c.last_end-from.ensures.same c.begin-running.ensures.running c.begin-running.ensures.same c.begin_tick-commanded.ensures.same c.bill_of-e.ensures.same c.bill.ensures c.test-reboot.ensures)
     c.requires.ready.room
 
 pub pick-entry-requires-clause-stands : goal.pick-entry-requires-clause-stands
@@ -199,15 +210,15 @@ pick-entry-requires-clause-stands c =
       from_end = c.last_end-from.ensures.same;
       ran = c.begin-running.ensures.running;
       begun = c.begin-running.ensures.same;
-      ticked = c.self.view_is ∙ c.work_tick-commanded.ensures.same;
+      ticked = c.self.view_is ∙ c.begin_tick-commanded.ensures.same;
       entry = c.bill_of-e.ensures.same;
       begins = c.bill_of-e.ensures.from;
       ends = c.bill_of-e.ensures.to;
       at_tick = c.tick_of-tick.ensures.same;
     } in
-    let before = subst (λ (u : SchedulerState). Counts u.shape c.args.entries.now (c.of-now.result / c.begin-running.new.self.shape.tick) c.work_tick-commanded.new.window) (sym c.self.view_is) c.work_tick-commanded.ensures.counts in
+    let before = subst (λ (u : SchedulerState). Counts u.shape c.args.entries.now (c.of-now.result / c.begin-running.new.self.shape.tick) c.begin_tick-commanded.new.window) (sym c.self.view_is) c.begin_tick-commanded.ensures.counts in
     let with_bill = c.add_time.ensures.counts c.args.entries.now (c.of-now.result / c.begin-running.new.self.shape.tick) before in
-    let spent : c.bill.new.self.shape ≡ s2.shape = spent_shape c.work_tick-commanded.new.self e c.begin-running.result c.bill.new.self c.bill.ensures ∙ ap (λ (u : SchedulerState). u.shape) (sym c.self.view_is) in
+    let spent : c.bill.new.self.shape ≡ s2.shape = spent_shape c.begin_tick-commanded.new.self e c.begin-running.result c.bill.new.self c.bill.ensures ∙ ap (λ (u : SchedulerState). u.shape) (sym c.self.view_is) in
     let tested = tested_shape c.bill.new.self c.args.entries.now e c.test-reboot.new.self c.test-reboot.result c.test-reboot.ensures in
     let settled = settled_shape c.args.scenario.now c.test-reboot.new.self c.of-now.result c.begin-running.result _ c.settle-done.ensures in
     let e' = record e { done = c.settle-done.result } in
@@ -224,8 +235,8 @@ pick-entry-requires-clause-stands c =
 
 pub returns-clause-pending : goal.returns-clause-pending
 returns-clause-pending c =
-    subst (λ n. IsPending c.args.scenario.now n (c.args.entries.now ++ c.pick-entry.result ∷ []) c.work_tick-commanded.new.ctl) (ap (λ (u : SchedulerState). u.shape.tick) c.begin-running.ensures.same)
-    (c.work_tick-commanded.ensures.pending c.pick-entry.result ((picked_bill c.settle-done.new.self c.args.entries.now c.args.cpu c.bill_of-e.result.to c.bill_of-e.result c.settle-done.result _ c.pick-entry.ensures.same).to ∙ c.bill_of-e.ensures.to))
+    subst (λ n. IsPending c.args.scenario.now n (c.args.entries.now ++ c.pick-entry.result ∷ []) c.begin_tick-commanded.new.ctl) (ap (λ (u : SchedulerState). u.shape.tick) c.begin-running.ensures.same)
+    (c.begin_tick-commanded.ensures.pending c.pick-entry.result ((picked_bill c.settle-done.new.self c.args.entries.now c.args.cpu c.bill_of-e.result.to c.bill_of-e.result c.settle-done.result _ c.pick-entry.ensures.same).to ∙ c.bill_of-e.ensures.to))
 
 pub returns-clause-counts : goal.returns-clause-counts
 returns-clause-counts c =
@@ -237,15 +248,15 @@ returns-clause-counts c =
       from_end = c.last_end-from.ensures.same;
       ran = c.begin-running.ensures.running;
       begun = c.begin-running.ensures.same;
-      ticked = c.self.view_is ∙ c.work_tick-commanded.ensures.same;
+      ticked = c.self.view_is ∙ c.begin_tick-commanded.ensures.same;
       entry = c.bill_of-e.ensures.same;
       begins = c.bill_of-e.ensures.from;
       ends = c.bill_of-e.ensures.to;
       at_tick = c.tick_of-tick.ensures.same;
     } in
-    let before = subst (λ (u : SchedulerState). Counts u.shape c.args.entries.now (c.of-now.result / c.begin-running.new.self.shape.tick) c.work_tick-commanded.new.window) (sym c.self.view_is) c.work_tick-commanded.ensures.counts in
+    let before = subst (λ (u : SchedulerState). Counts u.shape c.args.entries.now (c.of-now.result / c.begin-running.new.self.shape.tick) c.begin_tick-commanded.new.window) (sym c.self.view_is) c.begin_tick-commanded.ensures.counts in
     let with_bill = c.add_time.ensures.counts c.args.entries.now (c.of-now.result / c.begin-running.new.self.shape.tick) before in
-    let spent : c.bill.new.self.shape ≡ s2.shape = spent_shape c.work_tick-commanded.new.self e c.begin-running.result c.bill.new.self c.bill.ensures ∙ ap (λ (u : SchedulerState). u.shape) (sym c.self.view_is) in
+    let spent : c.bill.new.self.shape ≡ s2.shape = spent_shape c.begin_tick-commanded.new.self e c.begin-running.result c.bill.new.self c.bill.ensures ∙ ap (λ (u : SchedulerState). u.shape) (sym c.self.view_is) in
     let tested = tested_shape c.bill.new.self c.args.entries.now e c.test-reboot.new.self c.test-reboot.result c.test-reboot.ensures in
     let settled = settled_shape c.args.scenario.now c.test-reboot.new.self c.of-now.result c.begin-running.result _ c.settle-done.ensures in
     counts_left c.args.scenario.now c.args.self.now c.args.entries.now c.args.cpu c.of-now.result c.last_end-from.result c.tick_of-tick.result c.begin-running.result c.begin-running.new.self s2 e c.add_time.new.window
@@ -258,7 +269,7 @@ pick-entry-requires-clause-dues c =
     let before =
     settled_is c.args.scenario.now s h c.args.cpu c.of-now.result c.begin-running.result c.bill_of-e.result c.test-reboot.new.self c.test-reboot.result _
     (tested_by c.args.scenario.now s h c.args.cpu _ _ _ _ _ _ _ _ _
-    (c.of-now.ensures ∙ c.requires.dues c.args.cpu c.requires.ready.exists) c.last_end-from.ensures.same c.begin-running.ensures.running c.begin-running.ensures.same c.work_tick-commanded.ensures.same c.bill_of-e.ensures.same c.bill.ensures c.test-reboot.ensures)
+    (c.of-now.ensures ∙ c.requires.dues c.args.cpu c.requires.ready.exists) c.last_end-from.ensures.same c.begin-running.ensures.running c.begin-running.ensures.same c.begin_tick-commanded.ensures.same c.bill_of-e.ensures.same c.bill.ensures c.test-reboot.ensures)
     c.settle-done.ensures in
     λ d inside ne.
     let there = ap (λ (u : SchedulerState). length u.cpus) before in
@@ -271,7 +282,7 @@ pick-entry-requires-clause-spare c d past =
     let before =
     settled_is c.args.scenario.now s h c.args.cpu c.of-now.result c.begin-running.result c.bill_of-e.result c.test-reboot.new.self c.test-reboot.result _
     (tested_by c.args.scenario.now s h c.args.cpu _ _ _ _ _ _ _ _ _
-    (c.of-now.ensures ∙ c.requires.dues c.args.cpu c.requires.ready.exists) c.last_end-from.ensures.same c.begin-running.ensures.running c.begin-running.ensures.same c.work_tick-commanded.ensures.same c.bill_of-e.ensures.same c.bill.ensures c.test-reboot.ensures)
+    (c.of-now.ensures ∙ c.requires.dues c.args.cpu c.requires.ready.exists) c.last_end-from.ensures.same c.begin-running.ensures.running c.begin-running.ensures.same c.begin_tick-commanded.ensures.same c.bill_of-e.ensures.same c.bill.ensures c.test-reboot.ensures)
     c.settle-done.ensures in
     let there = ap (λ (u : SchedulerState). length u.cpus) before in
     c.requires.spare d (omega (arith, past, there, c.requires.ready.counted))
@@ -288,7 +299,7 @@ pub sync_all-requires-clause-count : goal.sync_all-requires-clause-count
 sync_all-requires-clause-count c =
     let b =
     tested_by c.args.scenario.now c.args.self.now c.args.entries.now c.args.cpu _ _ _ _ _ _ _ _ _
-    (c.of-now.ensures ∙ c.requires.dues c.args.cpu c.requires.ready.exists) c.last_end-from.ensures.same c.begin-running.ensures.running c.begin-running.ensures.same c.work_tick-commanded.ensures.same c.bill_of-e.ensures.same c.bill.ensures c.test-reboot.ensures in
+    (c.of-now.ensures ∙ c.requires.dues c.args.cpu c.requires.ready.exists) c.last_end-from.ensures.same c.begin-running.ensures.running c.begin-running.ensures.same c.begin_tick-commanded.ensures.same c.bill_of-e.ensures.same c.bill.ensures c.test-reboot.ensures in
     ap length c.requires.seats ∙ seats_count c.args.self.now ∙ sym c.requires.ready.count_billed
     ∙ ap (λ (s : SchedulerState). length s.threads) (sym (billed_by c.args.scenario.now c.args.self.now c.args.entries.now c.args.cpu _ _ _ _ _ b))
 
@@ -296,7 +307,7 @@ pub sync-requires-clause-count : goal.sync-requires-clause-count
 sync-requires-clause-count c =
     let b =
     tested_by c.args.scenario.now c.args.self.now c.args.entries.now c.args.cpu _ _ _ _ _ _ _ _ _
-    (c.of-now.ensures ∙ c.requires.dues c.args.cpu c.requires.ready.exists) c.last_end-from.ensures.same c.begin-running.ensures.running c.begin-running.ensures.same c.work_tick-commanded.ensures.same c.bill_of-e.ensures.same c.bill.ensures c.test-reboot.ensures in
+    (c.of-now.ensures ∙ c.requires.dues c.args.cpu c.requires.ready.exists) c.last_end-from.ensures.same c.begin-running.ensures.running c.begin-running.ensures.same c.begin_tick-commanded.ensures.same c.bill_of-e.ensures.same c.bill.ensures c.test-reboot.ensures in
     ap length c.requires.seats ∙ seats_count c.args.self.now ∙ sym c.requires.ready.count_settled
     ∙ ap (λ (s : SchedulerState). length s.threads)
     (sym (settled_by c.args.scenario.now c.args.self.now c.args.entries.now c.args.cpu _ _ _ _ _ _ b c.settle-done.ensures))
@@ -310,17 +321,17 @@ pub sync-requires-clause-tied : goal.sync-requires-clause-tied
 sync-requires-clause-tied c idle calm y apart =
     let b =
     tested_by c.args.scenario.now c.args.self.now c.args.entries.now c.args.cpu _ _ _ _ _ _ _ _ _
-    (c.of-now.ensures ∙ c.requires.dues c.args.cpu c.requires.ready.exists) c.last_end-from.ensures.same c.begin-running.ensures.running c.begin-running.ensures.same c.work_tick-commanded.ensures.same c.bill_of-e.ensures.same c.bill.ensures c.test-reboot.ensures in
+    (c.of-now.ensures ∙ c.requires.dues c.args.cpu c.requires.ready.exists) c.last_end-from.ensures.same c.begin-running.ensures.running c.begin-running.ensures.same c.begin_tick-commanded.ensures.same c.bill_of-e.ensures.same c.bill.ensures c.test-reboot.ensures in
     let billed = billed_by c.args.scenario.now c.args.self.now c.args.entries.now c.args.cpu _ _ _ _ _ b in
     let own : c.bill_of-e.result.ran ≡ option_map (λ (p : Pick). p.thread) c.begin-running.result =
     ap (λ (e : Entry). e.ran) c.bill_of-e.ensures.same ∙ ran c.args.cpu c.last_end-from.result c.of-now.result c.begin-running.result in
     ap (λ (l : List (Option Contender)). who_at l y) c.requires.seats ∙ who_seats c.args.self.now y
     ∙ sym (step_seat c.args.scenario.now c.args.self.now c.args.entries.now c.args.cpu c.of-now.result y _ c.begin-running.result c.bill_of-e.result _ _ _ _ c.test-reboot.result
-    (record { state = c.settle-done.new.self; done = c.settle-done.result }) c.work_tick-commanded.new.woken
-    c.begin-running.ensures.same (c.work_tick-commanded.ensures.idle idle y) c.bill.ensures c.test-reboot.ensures c.settle-done.ensures
+    (record { state = c.settle-done.new.self; done = c.settle-done.result }) c.begin_tick-commanded.new.woken
+    c.begin-running.ensures.same (c.begin_tick-commanded.ensures.idle idle y) c.bill.ensures c.test-reboot.ensures c.settle-done.ensures
     (λ p runs. subst (λ (s : SchedulerState). IsNobodysClient s.triples p.thread) (sym billed) (c.requires.ready.free_billed p (sym c.begin-running.ensures.running ∙ runs)))
     calm
-    (subst (λ o. IsTouched c.work_tick-commanded.new.woken o (peer_of c.settle-done.result) (is_at_channel c.settle-done.result) c.settle-done.new.self.triples y → ⊥) own apart))
+    (subst (λ o. IsTouched c.begin_tick-commanded.new.woken o (peer_of c.settle-done.result) (is_at_channel c.settle-done.result) c.settle-done.new.self.triples y → ⊥) own apart))
 
 pub sync-requires-clause-out : goal.sync-requires-clause-out
 sync-requires-clause-out c y own =
@@ -334,28 +345,28 @@ sync-requires-clause-out c y own =
 
 pub stand_by-requires : goal.stand_by-requires
 stand_by-requires c still =
-    let calm = neither c.go_on-is_later.result (c.work_tick-commanded.result || c.bill_of-e.result.critical) still in
-    let both = neither c.work_tick-commanded.result c.bill_of-e.result.critical calm.1 in
-    let kept = calm_kept c.args.self.now c.args.entries.now c.args.cpu c.begin-running.result c.begin-running.new.self c.work_tick-commanded.new.self c.bill.new.self c.test-reboot.new.self c.bill_of-e.result c.test-reboot.result
-    c.begin-running.ensures.same (c.work_tick-commanded.ensures.kept both.0) c.bill.ensures c.test-reboot.ensures both.1 in
+    let calm = neither c.go_on-is_later.result (c.begin_tick-commanded.result || c.bill_of-e.result.critical) still in
+    let both = neither c.begin_tick-commanded.result c.bill_of-e.result.critical calm.1 in
+    let kept = calm_kept c.args.self.now c.args.entries.now c.args.cpu c.begin-running.result c.begin-running.new.self c.begin_tick-commanded.new.self c.bill.new.self c.test-reboot.new.self c.bill_of-e.result c.test-reboot.result
+    c.begin-running.ensures.same (c.begin_tick-commanded.ensures.kept both.0) c.bill.ensures c.test-reboot.ensures both.1 in
     others_stand c.bill_of-e.result.billed c.args.self.now.shape c.test-reboot.new.self.shape c.args.self.now.rows c.test-reboot.new.self.rows c.args.window.now c.add_time.new.window c.args.standing.now
     c.requires.stands kept.shape kept.rows
-    (λ p apart. c.add_time.ensures.others p apart ∙ ap (λ (w : Window). total_of w p) (c.work_tick-commanded.ensures.window both.0 ∙ c.go_on-is_later.ensures.stays calm.0))
+    (λ p apart. c.add_time.ensures.others p apart ∙ ap (λ (w : Window). total_of w p) (c.begin_tick-commanded.ensures.window both.0 ∙ c.go_on-is_later.ensures.stays calm.0))
 
 pub returns-then-is_over-clause-kept : goal.returns-then-is_over-clause-kept
 returns-then-is_over-clause-kept c calm =
-    let both = neither c.work_tick-commanded.result c.bill_of-e.result.critical calm in
-    calm_kept c.args.self.now c.args.entries.now c.args.cpu c.begin-running.result c.begin-running.new.self c.work_tick-commanded.new.self c.bill.new.self c.test-reboot.new.self c.bill_of-e.result c.test-reboot.result
-    c.begin-running.ensures.same (c.work_tick-commanded.ensures.kept both.0) c.bill.ensures c.test-reboot.ensures both.1
+    let both = neither c.begin_tick-commanded.result c.bill_of-e.result.critical calm in
+    calm_kept c.args.self.now c.args.entries.now c.args.cpu c.begin-running.result c.begin-running.new.self c.begin_tick-commanded.new.self c.bill.new.self c.test-reboot.new.self c.bill_of-e.result c.test-reboot.result
+    c.begin-running.ensures.same (c.begin_tick-commanded.ensures.kept both.0) c.bill.ensures c.test-reboot.ensures both.1
 
 pub returns-clause-kept : goal.returns-clause-kept
 returns-clause-kept c calm =
-    let both = neither c.work_tick-commanded.result c.bill_of-e.result.critical calm in
+    let both = neither c.begin_tick-commanded.result c.bill_of-e.result.critical calm in
     let settled : IsKept c.test-reboot.new.self c.settle-done.new.self =
     subst (λ (x : Effect). IsKept c.test-reboot.new.self x.state) c.settle-done.ensures (settled_kept c.args.scenario.now c.test-reboot.new.self c.of-now.result c.begin-running.result) in
     kept_then
-    (calm_kept c.args.self.now c.args.entries.now c.args.cpu c.begin-running.result c.begin-running.new.self c.work_tick-commanded.new.self c.bill.new.self c.test-reboot.new.self c.bill_of-e.result c.test-reboot.result
-    c.begin-running.ensures.same (c.work_tick-commanded.ensures.kept both.0) c.bill.ensures c.test-reboot.ensures both.1)
+    (calm_kept c.args.self.now c.args.entries.now c.args.cpu c.begin-running.result c.begin-running.new.self c.begin_tick-commanded.new.self c.bill.new.self c.test-reboot.new.self c.bill_of-e.result c.test-reboot.result
+    c.begin-running.ensures.same (c.begin_tick-commanded.ensures.kept both.0) c.bill.ensures c.test-reboot.ensures both.1)
     (kept_then settled c.pick-entry.ensures.kept)
 
 pub returns-clause-stands : goal.returns-clause-stands
@@ -369,7 +380,7 @@ pub returns-then-is_over-clause-same : goal.returns-then-is_over-clause-same
 returns-then-is_over-clause-same c =
     let b =
     tested_by c.args.scenario.now c.args.self.now c.args.entries.now c.args.cpu _ _ _ _ _ _ _ _ _
-    (c.of-now.ensures ∙ c.requires.dues c.args.cpu c.requires.ready.exists) c.last_end-from.ensures.same c.begin-running.ensures.running c.begin-running.ensures.same c.work_tick-commanded.ensures.same c.bill_of-e.ensures.same c.bill.ensures c.test-reboot.ensures in
+    (c.of-now.ensures ∙ c.requires.dues c.args.cpu c.requires.ready.exists) c.last_end-from.ensures.same c.begin-running.ensures.running c.begin-running.ensures.same c.begin_tick-commanded.ensures.same c.bill_of-e.ensures.same c.bill.ensures c.test-reboot.ensures in
     elim (c.is_over.ensures.over c.if-is_over.true) [
       | inl rebooted ↦ step_over c.args.scenario.now c.args.self.now c.args.entries.now c.args.cpu _ _ _ _ c.test-reboot.result b rebooted
       | inr end ↦
@@ -384,7 +395,7 @@ pub pick-entry-requires-clause-cpu : goal.pick-entry-requires-clause-cpu
 pick-entry-requires-clause-cpu c =
     let b =
     tested_by c.args.scenario.now c.args.self.now c.args.entries.now c.args.cpu _ _ _ _ _ _ _ _ _
-    (c.of-now.ensures ∙ c.requires.dues c.args.cpu c.requires.ready.exists) c.last_end-from.ensures.same c.begin-running.ensures.running c.begin-running.ensures.same c.work_tick-commanded.ensures.same c.bill_of-e.ensures.same c.bill.ensures c.test-reboot.ensures in
+    (c.of-now.ensures ∙ c.requires.dues c.args.cpu c.requires.ready.exists) c.last_end-from.ensures.same c.begin-running.ensures.running c.begin-running.ensures.same c.begin_tick-commanded.ensures.same c.bill_of-e.ensures.same c.bill.ensures c.test-reboot.ensures in
     let before = settled_by c.args.scenario.now c.args.self.now c.args.entries.now c.args.cpu _ _ _ _ _ _ b c.settle-done.ensures in
     let there = c.requires.ready.exists_settled in
     omega (arith, there, ap (λ (s : SchedulerState). length s.cpus) before)
@@ -393,7 +404,7 @@ pub sync_all-requires-clause-stamped : goal.sync_all-requires-clause-stamped
 sync_all-requires-clause-stamped c =
     let b =
     tested_by c.args.scenario.now c.args.self.now c.args.entries.now c.args.cpu _ _ _ _ _ _ _ _ _
-    (c.of-now.ensures ∙ c.requires.dues c.args.cpu c.requires.ready.exists) c.last_end-from.ensures.same c.begin-running.ensures.running c.begin-running.ensures.same c.work_tick-commanded.ensures.same c.bill_of-e.ensures.same c.bill.ensures c.test-reboot.ensures in
+    (c.of-now.ensures ∙ c.requires.dues c.args.cpu c.requires.ready.exists) c.last_end-from.ensures.same c.begin-running.ensures.running c.begin-running.ensures.same c.begin_tick-commanded.ensures.same c.bill_of-e.ensures.same c.bill.ensures c.test-reboot.ensures in
     subst (λ (s : SchedulerState). IsStamped s.threads s.stamps)
     (sym (billed_by c.args.scenario.now c.args.self.now c.args.entries.now c.args.cpu _ _ _ _ _ b)) c.requires.ready.stamped_billed
 
@@ -401,41 +412,41 @@ pub sync-requires-clause-stamped : goal.sync-requires-clause-stamped
 sync-requires-clause-stamped c =
     let b =
     tested_by c.args.scenario.now c.args.self.now c.args.entries.now c.args.cpu _ _ _ _ _ _ _ _ _
-    (c.of-now.ensures ∙ c.requires.dues c.args.cpu c.requires.ready.exists) c.last_end-from.ensures.same c.begin-running.ensures.running c.begin-running.ensures.same c.work_tick-commanded.ensures.same c.bill_of-e.ensures.same c.bill.ensures c.test-reboot.ensures in
+    (c.of-now.ensures ∙ c.requires.dues c.args.cpu c.requires.ready.exists) c.last_end-from.ensures.same c.begin-running.ensures.running c.begin-running.ensures.same c.begin_tick-commanded.ensures.same c.bill_of-e.ensures.same c.bill.ensures c.test-reboot.ensures in
     subst (λ (s : SchedulerState). IsStamped s.threads s.stamps)
     (sym (settled_by c.args.scenario.now c.args.self.now c.args.entries.now c.args.cpu _ _ _ _ _ _ b c.settle-done.ensures)) c.requires.ready.stamped_settled
 
 -- ---- the timer
 
-pub work_tick-commanded-requires-clause-timed : goal.work_tick-commanded-requires-clause-timed
-work_tick-commanded-requires-clause-timed c = c.requires.timed ∙ ap sleepers_of (sym c.begin-running.ensures.same)
+pub begin_tick-commanded-requires-clause-timed : goal.begin_tick-commanded-requires-clause-timed
+begin_tick-commanded-requires-clause-timed c = c.requires.timed ∙ ap sleepers_of (sym c.begin-running.ensures.same)
 
 pub returns-then-is_over-clause-timed : goal.returns-then-is_over-clause-timed
 returns-then-is_over-clause-timed c =
-    tested_timer c.work_tick-commanded.new.self c.bill.new.self c.test-reboot.new.self c.args.entries.now c.bill_of-e.result c.begin-running.result c.test-reboot.result c.work_tick-commanded.new.timer
-    c.work_tick-commanded.ensures.timed c.bill.ensures c.test-reboot.ensures
+    tested_timer c.begin_tick-commanded.new.self c.bill.new.self c.test-reboot.new.self c.args.entries.now c.bill_of-e.result c.begin-running.result c.test-reboot.result c.begin_tick-commanded.new.timer
+    c.begin_tick-commanded.ensures.timed c.bill.ensures c.test-reboot.ensures
 
 pub time_done-requires-clause-count : goal.time_done-requires-clause-count
 time_done-requires-clause-count c =
     let settled : IsKept c.test-reboot.new.self c.settle-done.new.self =
     subst (λ (x : Effect). IsKept c.test-reboot.new.self x.state) c.settle-done.ensures (settled_kept c.args.scenario.now c.test-reboot.new.self c.of-now.result c.begin-running.result) in
     let timed =
-    tested_timer c.work_tick-commanded.new.self c.bill.new.self c.test-reboot.new.self c.args.entries.now c.bill_of-e.result c.begin-running.result c.test-reboot.result c.work_tick-commanded.new.timer
-    c.work_tick-commanded.ensures.timed c.bill.ensures c.test-reboot.ensures in
+    tested_timer c.begin_tick-commanded.new.self c.bill.new.self c.test-reboot.new.self c.args.entries.now c.bill_of-e.result c.begin-running.result c.test-reboot.result c.begin_tick-commanded.new.timer
+    c.begin_tick-commanded.ensures.timed c.bill.ensures c.test-reboot.ensures in
     ap length timed ∙ sleepers_count c.test-reboot.new.self ∙ sym settled.threads
 
 pub time_done-requires-clause-out : goal.time_done-requires-clause-out
 time_done-requires-clause-out c y own =
     let b =
     tested_by c.args.scenario.now c.args.self.now c.args.entries.now c.args.cpu _ _ _ _ _ _ _ _ _
-    (c.of-now.ensures ∙ c.requires.dues c.args.cpu c.requires.ready.exists) c.last_end-from.ensures.same c.begin-running.ensures.running c.begin-running.ensures.same c.work_tick-commanded.ensures.same c.bill_of-e.ensures.same c.bill.ensures c.test-reboot.ensures in
+    (c.of-now.ensures ∙ c.requires.dues c.args.cpu c.requires.ready.exists) c.last_end-from.ensures.same c.begin-running.ensures.running c.begin-running.ensures.same c.begin_tick-commanded.ensures.same c.bill_of-e.ensures.same c.bill.ensures c.test-reboot.ensures in
     let billed = billed_by c.args.scenario.now c.args.self.now c.args.entries.now c.args.cpu _ _ _ _ _ b in
     let who : c.bill_of-e.result.ran ≡ option_map (λ (p : Pick). p.thread) c.begin-running.result =
     ap (λ (e : Entry). e.ran) c.bill_of-e.ensures.same ∙ ran c.args.cpu c.last_end-from.result c.of-now.result c.begin-running.result in
     let timed =
-    tested_timer c.work_tick-commanded.new.self c.bill.new.self c.test-reboot.new.self c.args.entries.now c.bill_of-e.result c.begin-running.result c.test-reboot.result c.work_tick-commanded.new.timer
-    c.work_tick-commanded.ensures.timed c.bill.ensures c.test-reboot.ensures in
-    running_awake c.test-reboot.new.self c.args.cpu y c.work_tick-commanded.new.timer c.begin-running.result timed
+    tested_timer c.begin_tick-commanded.new.self c.bill.new.self c.test-reboot.new.self c.args.entries.now c.bill_of-e.result c.begin-running.result c.test-reboot.result c.begin_tick-commanded.new.timer
+    c.begin_tick-commanded.ensures.timed c.bill.ensures c.test-reboot.ensures in
+    running_awake c.test-reboot.new.self c.args.cpu y c.begin_tick-commanded.new.timer c.begin-running.result timed
     (λ p runs. ap (λ (s : SchedulerState). (thread_at s p.thread).state) billed ∙ c.requires.ready.runs_billed p (sym c.begin-running.ensures.running ∙ runs))
     (sym who ∙ own)
 
@@ -444,9 +455,9 @@ time_done-requires-clause-tied c calm y own peer =
     let who : c.bill_of-e.result.ran ≡ option_map (λ (p : Pick). p.thread) c.begin-running.result =
     ap (λ (e : Entry). e.ran) c.bill_of-e.ensures.same ∙ ran c.args.cpu c.last_end-from.result c.of-now.result c.begin-running.result in
     let timed =
-    tested_timer c.work_tick-commanded.new.self c.bill.new.self c.test-reboot.new.self c.args.entries.now c.bill_of-e.result c.begin-running.result c.test-reboot.result c.work_tick-commanded.new.timer
-    c.work_tick-commanded.ensures.timed c.bill.ensures c.test-reboot.ensures in
-    settled_timer c.args.scenario.now c.test-reboot.new.self c.of-now.result y c.begin-running.result (record { state = c.settle-done.new.self; done = c.settle-done.result }) c.work_tick-commanded.new.timer
+    tested_timer c.begin_tick-commanded.new.self c.bill.new.self c.test-reboot.new.self c.args.entries.now c.bill_of-e.result c.begin-running.result c.test-reboot.result c.begin_tick-commanded.new.timer
+    c.begin_tick-commanded.ensures.timed c.bill.ensures c.test-reboot.ensures in
+    settled_timer c.args.scenario.now c.test-reboot.new.self c.of-now.result y c.begin-running.result (record { state = c.settle-done.new.self; done = c.settle-done.result }) c.begin_tick-commanded.new.timer
     timed c.settle-done.ensures calm (subst (λ o. o ≢ Some y) who own) peer
 
 pub returns-clause-timed : goal.returns-clause-timed
@@ -461,7 +472,7 @@ post_others-requires c idle alone =
     let h = c.args.entries.now in
     let b =
     tested_by c.args.scenario.now s h c.args.cpu _ _ _ _ _ _ _ _ _
-    (c.of-now.ensures ∙ c.requires.dues c.args.cpu c.requires.ready.exists) c.last_end-from.ensures.same c.begin-running.ensures.running c.begin-running.ensures.same c.work_tick-commanded.ensures.same c.bill_of-e.ensures.same c.bill.ensures c.test-reboot.ensures in
+    (c.of-now.ensures ∙ c.requires.dues c.args.cpu c.requires.ready.exists) c.last_end-from.ensures.same c.begin-running.ensures.running c.begin-running.ensures.same c.begin_tick-commanded.ensures.same c.bill_of-e.ensures.same c.bill.ensures c.test-reboot.ensures in
     let billed = billed_by c.args.scenario.now s h c.args.cpu _ _ _ _ _ b in
     let before = settled_is c.args.scenario.now s h c.args.cpu c.of-now.result c.begin-running.result c.bill_of-e.result c.test-reboot.new.self c.test-reboot.result _ b c.settle-done.ensures in
     posts_stay s c.settle-done.new.self c.args.cpu c.args.posts.now
@@ -470,7 +481,7 @@ post_others-requires c idle alone =
     (λ d q ne other.
     step_facts c.args.scenario.now s h c.args.cpu c.of-now.result q.thread _ c.begin-running.result c.bill_of-e.result _ _ _ _ c.test-reboot.result
     (record { state = c.settle-done.new.self; done = c.settle-done.result })
-    c.begin-running.ensures.same (c.work_tick-commanded.ensures.facts idle q.thread) c.bill.ensures c.test-reboot.ensures c.settle-done.ensures
+    c.begin-running.ensures.same (c.begin_tick-commanded.ensures.facts idle q.thread) c.bill.ensures c.test-reboot.ensures c.settle-done.ensures
     (λ p runs. subst (λ (u : SchedulerState). IsNobodysClient u.triples p.thread) (sym billed) (c.requires.ready.free_billed p (sym c.begin-running.ensures.running ∙ runs)))
     (λ p runs. runs_apart s c.args.cpu d p q c.requires.ready.runs ne (sym c.begin-running.ensures.running ∙ runs) other)
     alone)
