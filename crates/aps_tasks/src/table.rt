@@ -2,7 +2,7 @@
 ghost use Rattle.std.specs.Prelude.{◌≡◌, ◌+◌, ◌<◌, ◌≤◌, ◌^◌, length, IfOk};
 ghost use Rattle.aps_tasks.specs.Kept.{IsShort};
 ghost use Rattle.aps_tasks.specs.Start.{start_table};
-ghost use Rattle.aps_tasks.specs.Table.{entering, put_back, put_entered, put_given, put_on, put_ready, put_spent, put_stamped, put_state, put_task, task_in};
+ghost use Rattle.aps_tasks.specs.Table.{put_back, put_entered, put_given, put_on, put_ready, put_spent, put_stamped, put_state, put_task, task_in};
 
 use crate::operation::{duration, is_slice_over, left_after, state_in};
 use crate::start::start_tasks;
@@ -102,8 +102,16 @@ impl TaskTable {
         requires stamps { self.old.stamps < 2 ^ 63 }
         ensures { self.new ≡ put_on self.old x shape.now place op.now now }
     {
-        let task = entering(self.task(x), place, op, shape, now, State::Ready);
-        self.set_ready(x, task);
+        let task = self.task(x);
+        self.set_ready(
+            x,
+            Task {
+                state: state_in(op, now, State::Ready),
+                place,
+                left: duration(shape, op),
+                ..task
+            },
+        );
     }
 
     /// The thread is ready, with a new stamp. Fewer than 2^63 stamps were given.
@@ -220,21 +228,5 @@ impl TaskTable {
             State::Ready => self.set_stamped(x, task),
             _ => self.set_task(x, task),
         }
-    }
-}
-
-/// The task of one that enters the operation at this place of its program; where that is no sleep, it is in the state that
-/// is named.
-#[inline(always)]
-fn entering(task: Task, place: u16, op: &Op, shape: &Shape, now: Nanos, otherwise: State) -> Task
-    requires now { now ≤ 10000000000000 }
-    requires short { IsShort op.now }
-    ensures { result ≡ entering shape.now place op.now now otherwise task }
-{
-    Task {
-        state: state_in(op, now, otherwise),
-        place,
-        left: duration(shape, op),
-        ..task
     }
 }
