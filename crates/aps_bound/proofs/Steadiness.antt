@@ -1,5 +1,5 @@
 -- The least tick from which all finished ticks are steady.
-use Rattle.std.proofs.Common.{◌≡◌, ℕ, zero, suc, ◌+◌, ◌*◌, ◌/◌, ◌<◌, ◌≤◌, List, Bool, true, false, cond, not, ◌&&◌, nat_lt, nat_le, is_some, length, get_or, max, Some, refl, sym, ◌∙◌, ap, arith, inl, inr}
+use Rattle.std.proofs.Common.{◌≡◌, ℕ, zero, suc, ◌+◌, ◌/◌, ◌<◌, ◌≤◌, List, Bool, true, false, cond, not, ◌&&◌, nat_lt, nat_le, is_some, length, get_or, max, Some, refl, sym, ◌∙◌, ap, arith, inl, inr}
 use Rattle.std.specs.Prelude.{unwrap_or}
 use Rattle.std.specs.List.{AllWithin, find, range_with_len}
 use Rattle.std.proofs.lemmas.Bool.{cases_eq, cases_lt}
@@ -95,13 +95,13 @@ pub last_starved : (n tick count s : ℕ) (h : List Entry) (e : Entry) → n < l
 last_starved n tick count s h e inside is some order here later = elim (cases_lt (e.to / tick) s) [
   | inr early ↦ list_any_at test h n e inside (ap test (sym is) ∙ among (is_some e.starved) s (e.to / tick) count here early) ∙ sym (passes early)
   | inl late ↦ list_any_none test h (All-from_all_within (λ (x : Entry). test x ≡ false) h (λ k d from below. elim (cases_lt n k) [
-      | inl after ↦ not_among (is_some (get_or h k d).starved) s ((get_or h k d).to / tick) count (later k d (omega arith) below)
-      | inr before ↦
-          let at : e.to ≡ (get_or h n d).to = ap (λ (x : Entry). x.to) (get_or_read h n e inside is d) in
-          let up = order.rising k n d before inside in
-          let ticks = tick_rises tick (get_or h k d).to e.to some (omega arith) in
-          not_so_late (is_some (get_or h k d).starved) s ((get_or h k d).to / tick) count (omega arith)
-    ])) ∙ sym (fails late)
+    | inl after ↦ not_among (is_some (get_or h k d).starved) s ((get_or h k d).to / tick) count (later k d (omega arith) below)
+    | inr before ↦
+        let at : e.to ≡ (get_or h n d).to = ap (λ (x : Entry). x.to) (get_or_read h n e inside is d) in
+        let up = order.rising k n d before inside in
+        let ticks = tick_rises tick (get_or h k d).to e.to some (omega arith) in
+        not_so_late (is_some (get_or h k d).starved) s ((get_or h k d).to / tick) count (omega arith)
+  ])) ∙ sym (fails late)
 ]
   where
     test : Entry → Bool

@@ -33,13 +33,7 @@ pub fn with_partitions(
 /// Whether in the window from tick `a` on no amount is greater than the worst so far: so it is in most windows, and is seen
 /// sooner than which amount stands where.
 #[inline(always)]
-fn is_no_worse(
-    history: &History,
-    allowed: &Allowed,
-    usage: &Usage,
-    audit: &Audit,
-    _a: u64,
-) -> bool
+fn is_no_worse(history: &History, allowed: &Allowed, usage: &Usage, audit: &Audit, _a: u64) -> bool
     requires allowed { AreAllowed history.now allowed.now }
     requires usage { IsUsage history.now.shape.tick _a (_a + history.now.shape.window) history.now.entries usage.now }
     ensures { result ≡ true → with_window history.now audit.now _a ≡ audit.now }

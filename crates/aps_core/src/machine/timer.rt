@@ -84,6 +84,7 @@ impl Machine {
 
     /// The timer has the sleeping threads after this thread, if there is one, did its operation, where it had all others with
     /// which that has nothing to do, and not this one.
+    #[inline(always)]
     pub fn time_done(&self, timer: &mut Timer, own: &Option<ThreadId>, done: &Done)
         requires count { length timer.old ≡ length self.now.threads }
         requires out { (x : ℕ) → own.now ≡ Some x → slice_index_or timer.old x None ≡ None }

@@ -1,4 +1,4 @@
-use Rattle.std.proofs.Common.{◌≡◌, ◌+◌, ◌-◌, ◌<◌, ◌≤◌, ◌/◌, length, get_or, ap, arith}
+use Rattle.std.proofs.Common.{◌+◌, ◌-◌, ◌<◌, ◌/◌, length, ap, arith}
 use Rattle.std.proofs.lemmas.List.{get_or-take, get_or_read, length-take}
 use Rattle.aps_model.specs.declared.entry.Entry.{Entry}
 use Rattle.aps_bound.proofs.cursor.place_after.Goals as goal

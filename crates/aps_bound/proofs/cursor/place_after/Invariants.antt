@@ -1,4 +1,4 @@
-use Rattle.std.proofs.Common.{ℕ, ◌-◌, ◌<◌, ◌≤◌, length, take, All, get_or}
+use Rattle.std.proofs.Common.{◌-◌, ◌<◌, ◌≤◌, length, take, All, get_or}
 use Rattle.aps_model.specs.declared.entry.Entry.{Entry}
 use Rattle.aps_bound.proofs.cursor.place_after.Given as goal
 

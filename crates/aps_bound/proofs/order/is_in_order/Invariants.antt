@@ -1,4 +1,3 @@
-use Rattle.std.proofs.Common.{◌*◌, ◌≤◌}
 use Rattle.aps_bound.specs.Order.{IsBoundary}
 use Rattle.aps_bound.proofs.Rising.{IsOrderedTo}
 use Rattle.aps_bound.proofs.order.is_in_order.Given as goal

@@ -1,4 +1,4 @@
-use Rattle.std.proofs.Common.{◌≡◌, ap, ◌∙◌}
+use Rattle.std.proofs.Common.{ap, ◌∙◌}
 use Rattle.aps_model.specs.declared.audit.Audit.{Audit}
 use Rattle.aps_bound.specs.Worst.{with_partition}
 use Rattle.aps_bound.proofs.Growth.{partition_stays, partitions-more}

@@ -1,4 +1,4 @@
-use Rattle.std.proofs.Common.{rules, arith}
+use Rattle.std.proofs.Common.{arith}
 use Rattle.aps_bound.proofs.Sliding.{empty_usage}
 use Rattle.aps_bound.proofs.window.Window.before.Goals as goal
 

@@ -131,22 +131,22 @@ invariant_of-self c = record {
   spare =
       let count =
       cpus_after (run_of c.self.inside) c.self.inside.history c.self.inside.machine c.args.cpu c.step-made.result.entry (record { state = c.step-made.new.self; reboot = c.step-made.result.reboot })
-    c.self.invariant.core
-    (subst (λ run. end_of_run run ≡ None) (sym c.self.view_is) c.requires.goes_on)
-    (subst (λ run. HasTurnIn run c.args.cpu) (sym c.self.view_is) c.requires.turn)
-    (step_read _ _ c.self.inside.machine _ _ c.args.cpu _ c.scenario.ensures c.entries.ensures.same c.step-made.ensures.same) in
+      c.self.invariant.core
+      (subst (λ run. end_of_run run ≡ None) (sym c.self.view_is) c.requires.goes_on)
+      (subst (λ run. HasTurnIn run c.args.cpu) (sym c.self.view_is) c.requires.turn)
+      (step_read _ _ c.self.inside.machine _ _ c.args.cpu _ c.scenario.ensures c.entries.ensures.same c.step-made.ensures.same) in
       let own =
       own_entry (run_of c.self.inside) c.self.inside.history c.self.inside.machine c.args.cpu c.step-made.result.entry (record { state = c.step-made.new.self; reboot = c.step-made.result.reboot })
-    c.self.invariant.core
-    (subst (λ run. end_of_run run ≡ None) (sym c.self.view_is) c.requires.goes_on)
-    (subst (λ run. HasTurnIn run c.args.cpu) (sym c.self.view_is) c.requires.turn)
-    (step_read _ _ c.self.inside.machine _ _ c.args.cpu _ c.scenario.ensures c.entries.ensures.same c.step-made.ensures.same) in
+      c.self.invariant.core
+      (subst (λ run. end_of_run run ≡ None) (sym c.self.view_is) c.requires.goes_on)
+      (subst (λ run. HasTurnIn run c.args.cpu) (sym c.self.view_is) c.requires.turn)
+      (step_read _ _ c.self.inside.machine _ _ c.args.cpu _ c.scenario.ensures c.entries.ensures.same c.step-made.ensures.same) in
       let within =
       own_within (run_of c.self.inside) c.self.inside.history c.self.inside.machine c.args.cpu c.step-made.result.entry (record { state = c.step-made.new.self; reboot = c.step-made.result.reboot })
-    c.self.invariant.core
-    (subst (λ run. end_of_run run ≡ None) (sym c.self.view_is) c.requires.goes_on)
-    (subst (λ run. HasTurnIn run c.args.cpu) (sym c.self.view_is) c.requires.turn)
-    (step_read _ _ c.self.inside.machine _ _ c.args.cpu _ c.scenario.ensures c.entries.ensures.same c.step-made.ensures.same) in
+      c.self.invariant.core
+      (subst (λ run. end_of_run run ≡ None) (sym c.self.view_is) c.requires.goes_on)
+      (subst (λ run. HasTurnIn run c.args.cpu) (sym c.self.view_is) c.requires.turn)
+      (step_read _ _ c.self.inside.machine _ _ c.args.cpu _ c.scenario.ensures c.entries.ensures.same c.step-made.ensures.same) in
       let before = cpus_now (run_of c.self.inside) c.self.inside.history c.self.inside.machine c.self.invariant.core in
       subst (AreSpare c.step-made.new.self) (sym c.go_on.ensures.same)
       (spare_after (length c.step-made.new.self.cpus) c.self.inside.dues c.step-made.result.entry c.due-due.result

@@ -1,5 +1,4 @@
 use Rattle.std.proofs.Common.{◌≡◌, ◌<◌, length, refl, sym, ap, ◌∙◌, arith}
-use Rattle.aps_window.specs.declared.account.Account.{Account}
 use Rattle.std.proofs.lemmas.List.Elements.{All-get_or}
 use Rattle.aps_window.specs.Slots.{IsSlot, no_slot, slot_billed, slots_billed, slots_total}
 use Rattle.aps_window.proofs.Totals.{account_small, account_total, account_within, total_billed}

@@ -1,7 +1,7 @@
 use Rattle.std.proofs.Common.{◌≡◌, List, set, slice_index_or, sym, ap, ◌∙◌, arith}
 use Rattle.std.proofs.lemmas.Grind.{common_steps}
 use Rattle.aps_window.specs.declared.slot.Slot.{Slot}
-use Rattle.aps_window.specs.Ring.{place_of, turned}
+use Rattle.aps_window.specs.Ring.{turned}
 use Rattle.aps_window.specs.Slots.{no_slot, slot_at, slot_billed}
 use Rattle.aps_window.proofs.Rings.{turned_at, turned_set}
 use Rattle.aps_window.proofs.ring.Ring.bill.Goals as goal
