@@ -41,7 +41,7 @@ account_at inside q account keeps few e =
     (All-get_or (IsAccount inside.span) inside.accounts.items q account (omega (arith, keeps.count)) keeps.accounts)
 
 slots_at : (inside : Inside) (q : ℕ) (account : Account) → Keeps inside → q ≤ 31
-    → account ≡ get_or inside.accounts.items q account → slots_of (window_of inside) q ≡ account.ring
+    → account ≡ get_or inside.accounts.items q account → slots_of (window_of inside) q ≡ account.ring.items
 slots_at inside q account keeps few e =
     get_or-map slots_in inside.accounts.items q account [] (omega (arith, keeps.count)) ∙ ap slots_in (sym e)
 
@@ -76,9 +76,9 @@ critical_stands inside window p q account bills keeps view same few e stands =
 pub fits_at : (inside : Inside) (window : Window) (p q tick ns : ℕ) (account : Account) → Keeps inside
     → window_of inside ≡ window → q ≡ p → q ≤ 31
     → account ≡ get_or inside.accounts.items q account → billed_on window p tick + ns ≤ 160000000
-    → (slot_at account.ring (inside.tick - tick)).billed + ns ≤ 160000000
+    → (slot_at account.ring.items (inside.tick - tick)).billed + ns ≤ 160000000
 fits_at inside window p q tick ns account keeps view same few e fits =
-    let there : billed_on window p tick ≡ (slot_at account.ring (inside.tick - tick)).billed =
+    let there : billed_on window p tick ≡ (slot_at account.ring.items (inside.tick - tick)).billed =
     (λ i. billed_on (sym view i) (sym same i) tick)
     ∙ ap (λ (slots : List Slot). (slot_at slots (inside.tick - tick)).billed)
     (slots_at inside q account keeps few e) in
@@ -87,16 +87,16 @@ fits_at inside window p q tick ns account keeps view same few e fits =
 pub billed_keeps : (inside after : Inside) (q age ns : ℕ) (critical : Bool) (account next : Account) → Keeps inside
     → q ≤ 31
     → account ≡ get_or inside.accounts.items q account → age < 400
-    → (slot_at account.ring age).billed + ns ≤ 160000000
-    → next ≡ account_of inside.span (slots_billed account.ring age ns critical)
+    → (slot_at account.ring.items age).billed + ns ≤ 160000000
+    → next ≡ account_of inside.span (slots_billed account.ring.items age ns critical)
     → after.tick ≡ inside.tick → after.span ≡ inside.span → after.in_use ≡ max inside.in_use (q + 1)
     → after.accounts.items ≡ set inside.accounts.items q next → Keeps after
 billed_keeps inside after q age ns critical account next keeps few e kept fits is tick span used accounts =
     let was = account_at inside q account keeps few e in
-    let slots = slots_billed account.ring age ns critical in
-    let full : length slots ≡ 400 = length-set account.ring age _ ∙ was.full in
+    let slots = slots_billed account.ring.items age ns critical in
+    let full : length slots ≡ 400 = length-set account.ring.items age _ ∙ was.full in
     let stays : IsAccount inside.span next = subst (IsAccount inside.span) (sym is)
-    (is_account inside.span slots full (billed_are_slots account.ring age ns critical was.small (omega (
+    (is_account inside.span slots full (billed_are_slots account.ring.items age ns critical was.small (omega (
       arith,
       was.full,
     )) fits)) in
@@ -116,7 +116,7 @@ billed_keeps inside after q age ns critical account next keeps few e kept fits i
 pub billed_view : (inside after : Inside) (window : Window) (p q tick ns : ℕ) (critical : Bool)
     (account next : Account) → Keeps inside
     → window_of inside ≡ window → q ≡ p → q ≤ 31 → account ≡ get_or inside.accounts.items q account
-    → next ≡ account_of inside.span (slots_billed account.ring (inside.tick - tick) ns critical)
+    → next ≡ account_of inside.span (slots_billed account.ring.items (inside.tick - tick) ns critical)
     → after.tick ≡ inside.tick → after.span ≡ inside.span → after.accounts.items ≡ set inside.accounts.items q next
     → window_of after ≡ billed window p tick ns critical
 billed_view inside after window p q tick ns critical account next keeps view same few e is at span accounts =
@@ -159,8 +159,8 @@ moved_keeps inside after ticks moves keeps early tick span used accounts =
     ))
     used (account_moved moves inside.span) (no_account_moved moves inside.span keeps.most) accounts
     (λ a is. subst (λ (n : ℕ). IsAccount n (account_moved moves inside.span a)) (sym span)
-    (is_account inside.span (slots_moved moves a.ring) (length-moved moves a.ring
-    ∙ is.full) (moved_are_slots moves a.ring is.small)))
+    (is_account inside.span (slots_moved moves a.ring.items) (length-moved moves a.ring.items
+    ∙ is.full) (moved_are_slots moves a.ring.items is.small)))
 
 pub moved_view : (inside after : Inside) (window : Window) (ticks moves : ℕ) → Keeps inside
     → window_of inside ≡ window → moves ≡ min ticks 400
@@ -190,7 +190,7 @@ resized_keeps inside after span keeps least most tick same used accounts =
     ))
     used (account_resized span) (no_account_resized span most) accounts
     (λ a is. subst (λ (n : ℕ). IsAccount n (account_resized span a)) (sym same)
-    (is_account span a.ring is.full is.small))
+    (is_account span a.ring.items is.full is.small))
 
 pub resized_view : (inside after : Inside) (window : Window) (span : ℕ) → window_of inside ≡ window
     → after.tick ≡ inside.tick → after.span ≡ span

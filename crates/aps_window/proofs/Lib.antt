@@ -1,7 +1,6 @@
 pub mod Accounts
 pub mod Entries
 pub mod Moves
-pub mod Rings
 pub mod Stands
 pub mod Sums
 pub mod Totals

@@ -104,17 +104,17 @@ is_account span slots full small = record { same = refl; full = full; small = sm
 
 -- the total of an account
 pub account_total : (span : ℕ) (account : Account) → IsAccount span account
-    → account.total ≡ slots_total span account.ring
+    → account.total ≡ slots_total span account.ring.items
 account_total span account is = ap (λ (a : Account). a.total) is.same
 
 pub account_small : (span : ℕ) (account : Account) → IsAccount span account → span ≤ 400
     → account.total.billed ≤ 64000000000
 account_small span account is few = rw (account_total span account is)
-    (total_small span account.ring few is.small)
+    (total_small span account.ring.items few is.small)
 
 pub account_within : (span : ℕ) (account : Account) → IsAccount span account
     → account.total.critical ≤ account.total.billed
-account_within span account is = rw (account_total span account is) (total_within span account.ring is.small)
+account_within span account is = rw (account_total span account is) (total_within span account.ring.items is.small)
 
 -- so many slots and one more
 pub next_billed : (age : ℕ) (slots : List Slot) → age < 400 → length slots ≡ 400 → All IsSlot slots

@@ -4,6 +4,7 @@ use Rattle.std.specs.List.{All}
 use Rattle.std.proofs.lemmas.List.{drop-drop, drop-map, drop-set-lt, length-replicate, map-append, take-append-drop, take-replicate}
 use Rattle.std.proofs.lemmas.List.Elements.{All-drop, All-head, All-replicate, All-tail}
 use Rattle.std.proofs.lemmas.List.Folds.{sum_by-replicate}
+use Rattle.circular_buffer.specs.Buffer.{buffer}
 use Rattle.aps_window.specs.declared.slot.Slot.{Slot}
 use Rattle.aps_window.specs.declared.account.Account.{Account}
 use Rattle.aps_window.specs.Account.{IsAccount, IsUnused, account_moved, account_of, account_resized, no_account}
@@ -22,7 +23,7 @@ no_total span few =
 pub no_account_is : (span : ℕ) → span ≤ 400 → IsAccount span no_account
 unfolding no_slots
 no_account_is span few = record {
-  same = λ i. record { ring = no_slots; total = no_total span few i };
+  same = λ i. record { ring = buffer no_slots 400; total = no_total span few i };
   full = length-replicate 400 no_slot;
   small = All-replicate IsSlot 400 no_slot (record { small = lit≤ tt; within = lit≤ tt });
 }
@@ -42,7 +43,7 @@ no_slots_moved ticks = replicate_moved ticks 400
 
 -- it has no bill where another number of slots counts
 pub no_account_resized : (span : ℕ) → span ≤ 400 → account_resized span no_account ≡ no_account
-no_account_resized span few = λ i. record { ring = no_slots; total = sym (no_total span few) i }
+no_account_resized span few = λ i. record { ring = buffer no_slots 400; total = sym (no_total span few) i }
 
 -- and none however many ticks later
 pub no_account_moved : (ticks span : ℕ) → span ≤ 400 → account_moved ticks span no_account ≡ no_account

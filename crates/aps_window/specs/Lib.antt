@@ -1,7 +1,6 @@
 pub mod Account
 pub mod Bills
 pub mod Entries
-pub mod Ring
 pub mod Slots
 pub mod StandsFor
 pub mod Whole

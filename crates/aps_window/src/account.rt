@@ -1,30 +1,68 @@
 //! The account of one partition.
 ghost use Rattle.std.specs.Prelude.{◌≡◌, ◌+◌, ◌<◌, ◌≤◌, length, replicate, IfOk};
 ghost use Rattle.std.specs.List.{All};
+ghost use Rattle.circular_buffer.specs.Buffer.{buffer};
 ghost use Rattle.aps_window.specs.Slots.{no_slot, no_slots, slot_at, slots_billed, slots_total, IsSlot};
 ghost use Rattle.aps_window.specs.Account.{IsAccount, account_of, account_moved, account_resized};
 
-use crate::ring::Ring;
 use crate::slot::Slot;
 use aps_model::NoMemory;
+use circular_buffer::HeapCircularBuffer;
 use std::alloc::Global;
+
+/// How many ticks back a bill is kept.
+pub const SLOTS: usize = 400;
 
 /// A partition's slots, that of the current tick first, and the total of those that count.
 #[derive(Drop)]
 pub struct Account {
-    pub ring: Ring,
+    pub ring: HeapCircularBuffer<Slot>,
     pub total: Slot,
+}
+
+/// 400 slots with no bill.
+fn empty_ring(alloc: Global) -> Result<HeapCircularBuffer<Slot>, NoMemory>
+    ensures { IfOk result (λ ring. ring ≡ buffer (replicate 400 no_slot) 400) }
+{
+    let mut ring = HeapCircularBuffer::with_capacity(alloc, SLOTS)?;
+    for count in 0..SLOTS {
+        ring.push_back(Slot::EMPTY);
+    }
+    Ok(ring)
+}
+
+/// Bills so many ns in the slot at a place.
+fn bill_slot(ring: &mut HeapCircularBuffer<Slot>, age: usize, ns: u64, critical: bool)
+    requires inside { age < length ring.old.items }
+    requires billed { (slot_at ring.old.items age).billed + ns ≤ 160000000 }
+    requires critical { (slot_at ring.old.items age).critical ≤ (slot_at ring.old.items age).billed }
+    ensures { ring.new ≡ buffer (slots_billed ring.old.items age ns critical) ring.old.capacity }
+{
+    if let Some(slot) = ring.get_mut(age) {
+        slot.bill(ns, critical);
+    }
 }
 
 impl Account {
     /// An account with no bill.
     pub fn new(alloc: Global) -> Result<Account, NoMemory>
-        ensures { IfOk result (λ account. account ≡ record { ring = no_slots; total = no_slot }) }
+        ensures { IfOk result (λ account. account ≡ record { ring = buffer no_slots 400; total = no_slot }) }
     {
         Ok(Account {
-            ring: Ring::new(alloc)?,
+            ring: empty_ring(alloc)?,
             total: Slot::EMPTY,
         })
+    }
+
+    /// The slot of the tick so many ticks ago.
+    fn slot(&self, age: usize) -> Slot
+        requires { age < length self.now.ring.items }
+        ensures { result ≡ slot_at self.now.ring.items age }
+    {
+        match self.ring.get(age) {
+            Some(slot) => *slot,
+            None => unreachable!(),
+        }
     }
 
     /// Bills so many ns in the tick so many ticks ago. The total has them only where that tick counts.
@@ -32,10 +70,10 @@ impl Account {
         requires account { IsAccount span self.old }
         requires kept { age < 400 }
         requires span { span ≤ 400 }
-        requires fits { (slot_at self.old.ring age).billed + ns ≤ 160000000 }
-        ensures { self.new ≡ account_of span (slots_billed self.old.ring age ns critical) }
+        requires fits { (slot_at self.old.ring.items age).billed + ns ≤ 160000000 }
+        ensures { self.new ≡ account_of span (slots_billed self.old.ring.items age ns critical) }
     {
-        self.ring.bill(age, ns, critical);
+        bill_slot(&mut self.ring, age, ns, critical);
         if age < span {
             self.total.bill(ns, critical);
         }
@@ -48,10 +86,10 @@ impl Account {
         requires span { span ≤ 400 }
         ensures { self.new ≡ account_moved 1 span self.old }
     {
-        let leaving = self.ring.at(span - 1);
+        let leaving = self.slot(span - 1);
         self.total.billed -= leaving.billed;
         self.total.critical -= leaving.critical;
-        self.ring.rotate();
+        self.ring.push_front(Slot::EMPTY);
     }
 
     /// Goes on by so many ticks.
@@ -68,14 +106,15 @@ impl Account {
 
     /// Counts this number of slots, by a sum afresh.
     pub fn resize(&mut self, span: usize)
-        requires full { length self.old.ring ≡ 400 }
-        requires small { All IsSlot self.old.ring }
+        requires capacity { self.old.ring.capacity ≡ 400 }
+        requires full { length self.old.ring.items ≡ 400 }
+        requires small { All IsSlot self.old.ring.items }
         requires span { span ≤ 400 }
         ensures { self.new ≡ account_resized span self.old }
     {
         let mut total = Slot::EMPTY;
         for age in 0..span {
-            let slot = self.ring.at(age);
+            let slot = self.slot(age);
             total.billed += slot.billed;
             total.critical += slot.critical;
         }

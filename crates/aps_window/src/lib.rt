@@ -4,7 +4,6 @@
 
 mod account;
 mod laws;
-mod ring;
 mod slot;
 mod window;
 

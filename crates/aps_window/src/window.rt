@@ -4,8 +4,7 @@ ghost use Rattle.aps_window.specs.Bills.{Bill, bills_used, bills_critical};
 ghost use Rattle.aps_window.specs.StandsFor.{StandsFor};
 ghost use Rattle.aps_window.specs.Window.{advanced, billed, billed_on, opened, resized, rotated, total_of};
 
-use crate::account::Account;
-use crate::ring::SLOTS;
+use crate::account::{Account, SLOTS};
 use aps_model::{NoMemory, PartitionId};
 use std::alloc::Global;
 use std::marker::Model;

@@ -6,7 +6,7 @@ use Rattle.aps_window.proofs.account.Account.advance.Goals as goal
 
 pub rotate-requires-clause-account : goal.rotate-requires-clause-account
 rotate-requires-clause-account c =
-    let slots = c.args.self.now.ring in
+    let slots = c.args.self.now.ring.items in
     subst (IsAccount c.args.span) (sym c.loop-count.invariant)
     (is_account c.args.span (slots_moved c.loop-count.count slots)
     (length-moved c.loop-count.count slots ∙ c.requires.account.full)

@@ -8,9 +8,9 @@ overflow_add-total c =
     let inside : c.loop-age.age < 400 = omega (arith, c.requires.span) in
     omega (
       arith,
-      next_billed c.loop-age.age c.args.self.now.ring inside c.requires.full c.requires.small,
+      next_billed c.loop-age.age c.args.self.now.ring.items inside c.requires.full c.requires.small,
       ap (λ (s : Slot). s.billed) c.loop-age.invariant,
-      ap (λ (s : Slot). s.billed) c.at-slot.ensures,
+      ap (λ (s : Slot). s.billed) c.slot-slot.ensures,
     )
 
 pub overflow_add-total-in-loop-age : goal.overflow_add-total-in-loop-age
@@ -18,7 +18,7 @@ overflow_add-total-in-loop-age c =
     let inside : c.loop-age.age < 400 = omega (arith, c.requires.span) in
     omega (
       arith,
-      next_critical c.loop-age.age c.args.self.now.ring inside c.requires.full c.requires.small,
+      next_critical c.loop-age.age c.args.self.now.ring.items inside c.requires.full c.requires.small,
       ap (λ (s : Slot). s.critical) c.loop-age.invariant,
-      ap (λ (s : Slot). s.critical) c.at-slot.ensures,
+      ap (λ (s : Slot). s.critical) c.slot-slot.ensures,
     )
