@@ -25,6 +25,7 @@ pub struct Traced {
 
 impl Model for Traced {
     ghost use Rattle.std.specs.Prelude.{◌≤◌};
+    ghost use Rattle.aps_model.specs.Limits.{most_entries};
     ghost use Rattle.aps_view.specs.Traced.{Traced as Plain};
 
     ghost Value = { Plain };
