@@ -3,3 +3,4 @@ pub mod Growth
 pub mod Rising
 pub mod Overlaps
 pub mod Sliding
+pub mod Limiting

@@ -1,5 +1,6 @@
 pub mod Allowed
 pub mod Usage
+pub mod Limits
 pub mod Worst
 pub mod Order
 pub mod Cursor

@@ -7,6 +7,7 @@ mod allowed;
 mod audited;
 mod cursor;
 mod finished;
+mod limits;
 mod loaded;
 mod order;
 mod recount;

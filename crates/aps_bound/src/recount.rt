@@ -1,9 +1,11 @@
 //! The audit by a recount of each window.
 ghost use Rattle.std.specs.Prelude.{◌≡◌, ◌+◌, ◌-◌, ◌*◌, ◌<◌, ◌≤◌};
 ghost use Rattle.aps_bound.specs.Allowed.{AreAllowed};
+ghost use Rattle.aps_bound.specs.Limits.{AreLimits};
 ghost use Rattle.aps_bound.specs.Worst.{with_window, with_windows};
 
 use crate::allowed::{Allowed, allowed_of};
+use crate::limits::{Limits, no_limits};
 use crate::worst::with_partitions;
 use aps_model::{Audit, History, Usage};
 
@@ -15,20 +17,23 @@ pub fn by_recount(history: &History, audit: &Audit, from: u64, end: u64) -> Audi
 {
     let allowed = allowed_of(history);
     let mut audit = *audit;
+    let mut limits = no_limits();
     for a in from..end {
-        with_window(history, &allowed, &mut audit, a);
+        with_window(history, &allowed, &mut audit, &mut limits, a);
     }
     audit
 }
 
 /// The audit goes on with the window from tick `a` on.
-fn with_window(history: &History, allowed: &Allowed, audit: &mut Audit, a: u64)
+fn with_window(history: &History, allowed: &Allowed, audit: &mut Audit, limits: &mut Limits, a: u64)
     requires allowed { AreAllowed history.now allowed.now }
+    requires limits { AreLimits history.now audit.old limits.old }
     requires a { a ≤ 100000000 }
-    ensures { audit.new ≡ with_window history.now audit.old a }
+    ensures audit { audit.new ≡ with_window history.now audit.old a }
+    ensures limits { AreLimits history.now audit.new limits.new }
 {
     let shape = history.shape();
     let b = a + u64::from(shape.window);
     let usage = Usage::of(history.entries(), shape.tick, a, b);
-    with_partitions(history, allowed, &usage, audit, a);
+    with_partitions(history, allowed, &usage, audit, limits, a);
 }

@@ -4,6 +4,7 @@ ghost use Rattle.aps_bound.specs.Order.{IsInOrder};
 ghost use Rattle.aps_bound.specs.Worst.{with_windows};
 
 use crate::allowed::allowed_of;
+use crate::limits::no_limits;
 use crate::window::Window;
 use crate::worst::with_partitions;
 use aps_model::{Audit, History};
@@ -21,8 +22,9 @@ pub fn by_slide(history: &History, audit: &Audit, from: u64, end: u64) -> Audit
     let mut window = Window::over(entries, shape.tick, from, from + u64::from(shape.window));
     let allowed = allowed_of(history);
     let mut audit = *audit;
+    let mut limits = no_limits();
     for a in from..end {
-        with_partitions(history, &allowed, &window.usage, &mut audit, a);
+        with_partitions(history, &allowed, &window.usage, &mut audit, &mut limits, a);
         window.slide(entries, shape.tick);
     }
     audit

@@ -4,83 +4,52 @@ ghost use Rattle.aps_model.specs.declared.audit.Worst.{Worst as WorstOf};
 ghost use Rattle.aps_model.specs.Audit.{critical_over_from, over_from, short_from, worse};
 ghost use Rattle.aps_model.specs.Sums.{IsUsage};
 ghost use Rattle.aps_bound.specs.Allowed.{AreAllowed};
+ghost use Rattle.aps_bound.specs.Limits.{AreLimits};
 ghost use Rattle.aps_bound.specs.Worst.{with_partition, with_window};
 
 use crate::allowed::{Allowed, allowed_at};
+use crate::limits::{Limits, is_within, limits_of};
 use aps_model::{Audit, History, Nanos, PartitionId, Usage, Worst};
 
-/// The audit goes on with all partitions' usage of the window from tick `a` on.
+/// The audit goes on with all partitions' usage of the window from tick `a` on, and so do the limits.
 pub fn with_partitions(
     history: &History,
     allowed: &Allowed,
     usage: &Usage,
     audit: &mut Audit,
+    limits: &mut Limits,
     a: u64,
 )
     requires allowed { AreAllowed history.now allowed.now }
+    requires limits { AreLimits history.now audit.old limits.old }
     requires usage { IsUsage history.now.shape.tick a (a + history.now.shape.window) history.now.entries usage.now }
     requires a { a ≤ 100000000 }
-    ensures { audit.new ≡ with_window history.now audit.old a }
+    ensures audit { audit.new ≡ with_window history.now audit.old a }
+    ensures limits { AreLimits history.now audit.new limits.new }
 {
-    if is_no_worse(history, allowed, usage, audit, a) {
+    if is_no_worse(history, limits, usage, audit, a) {
         return;
     }
     for p in 0..history.rows().len() {
         with_partition(history, allowed, usage, audit, a, p);
     }
+    *limits = limits_of(history, allowed, audit);
 }
 
 /// Whether in the window from tick `a` on no amount is greater than the worst so far: so it is in most windows, and is seen
 /// sooner than which amount stands where.
 #[inline(always)]
-fn is_no_worse(history: &History, allowed: &Allowed, usage: &Usage, audit: &Audit, _a: u64) -> bool
-    requires allowed { AreAllowed history.now allowed.now }
+fn is_no_worse(history: &History, limits: &Limits, usage: &Usage, _audit: &Audit, _a: u64) -> bool
+    requires limits { AreLimits history.now _audit.now limits.now }
     requires usage { IsUsage history.now.shape.tick _a (_a + history.now.shape.window) history.now.entries usage.now }
-    ensures { result ≡ true → with_window history.now audit.now _a ≡ audit.now }
+    ensures { result ≡ true → with_window history.now _audit.now _a ≡ _audit.now }
 {
-    let Some(over) = audit.worst_over else {
-        return false;
-    };
-    let Some(short) = audit.worst_short else {
-        return false;
-    };
-    let Some(critical) = audit.critical_worst else {
-        return false;
-    };
-    let (over, short, critical) = (over.amount, short.amount, critical.amount);
     for p in 0..history.rows().len() {
-        if !stays_within(history, allowed, usage, over, short, critical, _a, p) {
+        if !is_within(&limits[p], usage.used[p], usage.critical[p]) {
             return false;
         }
     }
     true
-}
-
-/// Whether the partition's amounts in the window from tick `a` on are at most these.
-#[inline(always)]
-fn stays_within(
-    history: &History,
-    allowed: &Allowed,
-    usage: &Usage,
-    over: Nanos,
-    short: Nanos,
-    critical: Nanos,
-    _a: u64,
-    p: usize,
-) -> bool
-    requires p { p < length history.now.rows }
-    requires allowed { AreAllowed history.now allowed.now }
-    requires usage { IsUsage history.now.shape.tick _a (_a + history.now.shape.window) history.now.entries usage.now }
-    ensures over { result ≡ true → over_from history.now _a p ≤ over }
-    ensures short { result ≡ true → short_from history.now _a p ≤ short }
-    ensures critical { result ≡ true → critical_over_from history.now _a p ≤ critical }
-{
-    let row = &history.rows()[p];
-    let allowed = allowed_at(allowed, history, p);
-    let spent = usage.used[p];
-    spent.saturating_sub(allowed) <= over
-        && allowed.saturating_sub(spent) <= short
-        && usage.critical[p].saturating_sub(row.critical) <= critical
 }
 
 /// The audit goes on with one partition's usage of the window from tick `a` on.

@@ -13,10 +13,10 @@ use Rattle.aps_model.specs.SchedulerState.{SchedulerState, no_thread, with_threa
 use Rattle.aps_model.specs.TickWork.{waking}
 use Rattle.aps_laws.proofs.Walk.{go_on_other}
 use Rattle.aps_laws.proofs.WaitFacts.{test_eq, test_ne}
-use Rattle.aps_timer.specs.Sleepers.{all_due}
+use Rattle.aps_timer.specs.Sleepers.{all_due, without_all}
 use Rattle.aps_timer.specs.Waking.{sleeps_until}
 use Rattle.aps_timer.proofs.Wakes.{wakes}
-use Rattle.aps_core.specs.Sleepers.{IsTimed, sleepers_of, until_at}
+use Rattle.aps_core.specs.Sleepers.{IsTimed, numbers_of, sleepers_of, until_at}
 use Rattle.aps_core.specs.Touched.{woke}
 use Rattle.aps_core.proofs.Touched.{none_some, some_number}
 
@@ -79,18 +79,17 @@ whole false b e f = f
 apart : (x y : ℕ) → nat_eq x y ≡ false → y ≢ x
 apart x y absent same = clash (sym (test_eq x y (sym same)) ∙ absent)
 
--- who isn't one of these and one more
-pub woke_before : (woken : List ℕ) (x y : ℕ) → woke (woken ++ x ∷ []) y ≡ false → (woke woken y ≡ false) × (y ≢ x)
-woke_before [] x y absent = (refl, apart x y (parts (nat_eq x y) false absent).0)
-woke_before (z ∷ zs) x y absent =
-    let both = parts (nat_eq z y) (woke (zs ++ x ∷ []) y) absent in
-    let rest = woke_before zs x y both.1 in
-    (whole (nat_eq z y) (woke zs y) both.0 rest.0, rest.1)
-
 -- another than the next one, who isn't one of those after it
 pub woke_after : (woken : List ℕ) (i y : ℕ) → i < length woken → y ≢ get_or woken i 0 → woke (drop (i + 1) woken) y ≡ false → woke (drop i woken) y ≡ false
 woke_after woken i y below other absent =
     ap (λ (l : List ℕ). woke l y) (drop_more woken i 0 below) ∙ whole (nat_eq (get_or woken i 0) y) (woke (drop (i + 1) woken) y) (test_ne (get_or woken i 0) y (λ e. other (sym e))) absent
+
+-- whoever isn't one of those who are taken out sleeps as before
+pub without_others : (row : List (Option ℕ)) (sleepers : List (ℕ × ℕ)) (y : ℕ) → woke (numbers_of sleepers) y ≡ false → get_or (without_all row sleepers) y None ≡ get_or row y None
+without_others row [] y absent = refl
+without_others row (s ∷ ss) y absent =
+    let both = parts (nat_eq s.1 y) (woke (numbers_of ss) y) absent in
+    without_others (set row s.1 None) ss y both.1 ∙ get_or-set_other row s.1 y None None (apart s.1 y both.0)
 
 -- a thread that doesn't go on sleeps as before
 pub others_sleep : (scenario : Scenario) (s : SchedulerState) (timer : List (Option ℕ)) (x now y : ℕ) → y ≢ x → IsTimed s timer y → IsTimed (go_on scenario s x now) timer y

@@ -1,18 +1,22 @@
 -- How the partitions stand through the parts of a step.
-use Rattle.std.proofs.Common.{◌≡◌, ◌≢◌, ℕ, ◌<◌, ◌/◌, ◌++◌, List, [], ◌∷◌, Bool, true, false, ◌&&◌, ◌||◌, nat_lt, cond, length, length-set, slice_set, get_or, ◌⊎◌, inl, inr, Option, Some, None, refl, sym, ap, ◌∙◌, subst, arith}
+use Rattle.std.proofs.Common.{◌≡◌, ◌≢◌, ℕ, ◌<◌, ◌≤◌, ◌/◌, ◌++◌, List, [], ◌∷◌, Bool, true, false, ◌||◌, nat_eq, cond, length, length-set, slice_set, get_or, ◌⊎◌, inl, inr, Option, Some, None, refl, sym, ap, ◌∙◌, subst, arith}
 use Rattle.std.proofs.lemmas.List.FromFn.{fill_by_all, get_or-map-range_with_len, length-map-range_with_len}
-use Rattle.std.proofs.lemmas.Bool.{cases_lt}
-use Rattle.std.proofs.lemmas.List.{get_or-set_same, get_or-set_other}
+use Rattle.std.proofs.lemmas.Bool.{cases_lt, eqb-true}
+use Rattle.std.proofs.lemmas.List.{get_or-set_same, get_or-set_other, length-append, set-get_or}
+use Rattle.aps_model.specs.declared.command.ChangeKind.TheVariants.{Cancelled}
 use Rattle.aps_model.specs.declared.entry.Entry.{Entry}
 use Rattle.aps_model.specs.declared.merit.PartFacts.{PartFacts}
 use Rattle.aps_model.specs.declared.partition.PartitionRow.{PartitionRow}
+use Rattle.aps_model.specs.declared.shape.Bankruptcy.{Bankruptcy}
+use Rattle.aps_model.specs.declared.shape.Bankruptcy.TheVariants.{Basic, Cancel, Reboot}
 use Rattle.aps_model.specs.declared.shape.Shape.{Shape}
 use Rattle.aps_model.specs.declared.state.Pick.{Pick}
-use Rattle.aps_model.specs.Bill.{Tested, after_test, exceeding}
+use Rattle.aps_model.specs.Bill.{Tested, after_test, bankrupt, cancel}
 use Rattle.aps_model.specs.Budget.{no_part, part_at}
-use Rattle.aps_model.specs.Partition.{row_or_none}
-use Rattle.aps_model.specs.SchedulerState.{SchedulerState, cpu_at, with_cpu}
+use Rattle.aps_model.specs.Partition.{no_row, row_or_none}
+use Rattle.aps_model.specs.SchedulerState.{SchedulerState, cpu_at, row_at, with_cpu}
 use Rattle.aps_model.specs.Step.{billed, tested}
+use Rattle.aps_model.specs.Tree.{rows_cancelled}
 use Rattle.aps_window.specs.Window.{Window, total_of}
 use Rattle.aps_core.specs.Counts.{part_in, parts_in}
 use Rattle.aps_core.specs.Kept.{IsKept}
@@ -78,15 +82,39 @@ others_stand billed shape shape' rows rows' w w' parts is same_shape same_rows t
           ∙ (λ i. part_of shape (row_or_none rows p) (sym (totals p apart) i).billed (sym (totals p apart) i).critical);
     }))
 
--- a bill that isn't critical makes nobody bankrupt
-calm_test : (s : SchedulerState) (h : List Entry) (e : Entry) (t : SchedulerState) (reboot : Option ℕ) → e.critical ≡ false → tested s h e ≡ record { state = t; reboot = reboot } → t ≡ s
-calm_test s h e t reboot calm is =
-    sym (ap (λ (x : Tested). x.state) is)
-    ∙ ap (λ b. (after_test s.shape.bankruptcy s (e.to / s.shape.tick) (cond (b && nat_lt e.from e.to) (exceeding s (h ++ e ∷ []) (e.to / s.shape.tick) e.billed) None)).state) calm
+-- a cancel that records no change leaves all as it was
+calm_cancel : (s : SchedulerState) (j p : ℕ) → length (cancel s j p).changes ≤ length s.changes → cancel s j p ≡ s
+calm_cancel s j p = by_test (nat_eq (row_at s p).critical 0) refl
+  where
+    same_rows : (row_at s p).critical ≡ 0 → rows_cancelled s.rows p ≡ s.rows
+    same_rows none = ap (λ n. slice_set s.rows p (record (row_or_none s.rows p) { critical = n })) (sym none) ∙ set-get_or s.rows p no_row
 
--- what the parts of a step before the operation leave, where no command was done and no critical time billed
+    by_test : (t : Bool) → nat_eq (row_at s p).critical 0 ≡ t
+        → length (cond t s.changes (s.changes ++ (record { tick = j; kind = Cancelled p }) ∷ [])) ≤ length s.changes
+        → record s { rows = rows_cancelled s.rows p; changes = cond t s.changes (s.changes ++ (record { tick = j; kind = Cancelled p }) ∷ []) } ≡ s
+    by_test true none few = ap (λ rows. record s { rows = rows }) (same_rows (eqb-true (row_at s p).critical 0 none))
+    by_test false some few =
+        let more = length-append s.changes ((record { tick = j; kind = Cancelled p }) ∷ []) in
+        absurd (omega (arith, few, more))
+
+-- so does a test
+calm_policy : (policy : Bankruptcy) (s : SchedulerState) (j : ℕ) (o : Option ℕ)
+    → length (after_test policy s j o).state.changes ≤ length s.changes → (after_test policy s j o).state ≡ s
+calm_policy policy s j None few = refl
+calm_policy Basic s j (Some p) few = refl
+calm_policy Cancel s j (Some p) few = calm_cancel s j p few
+calm_policy Reboot s j (Some p) few = refl
+
+calm_test : (s : SchedulerState) (h : List Entry) (e : Entry) (t : SchedulerState) (reboot : Option ℕ)
+    → length t.changes ≤ length s.changes → tested s h e ≡ record { state = t; reboot = reboot } → t ≡ s
+calm_test s h e t reboot few is =
+    let left : (tested s h e).state ≡ t = ap (λ (x : Tested). x.state) is in
+    let fewer : length (tested s h e).state.changes ≤ length s.changes = subst (λ (u : SchedulerState). length u.changes ≤ length s.changes) (sym left) few in
+    sym left ∙ calm_policy s.shape.bankruptcy s (e.to / s.shape.tick) (bankrupt s (h ++ e ∷ []) e) fewer
+
+-- what the parts of a step before the operation leave, where no command was done and the test recorded no change
 pub calm_kept : (s : SchedulerState) (h : List Entry) (c : ℕ) (running : Option Pick) (s1 s2 t0 t : SchedulerState) (e : Entry) (reboot : Option ℕ)
-    → s1 ≡ with_cpu s c (record (cpu_at s c) { flag = None }) → IsKept s1 s2 → t0 ≡ billed s2 e running → tested t0 h e ≡ record { state = t; reboot = reboot } → e.critical ≡ false
+    → s1 ≡ with_cpu s c (record (cpu_at s c) { flag = None }) → IsKept s1 s2 → t0 ≡ billed s2 e running → tested t0 h e ≡ record { state = t; reboot = reboot } → length t.changes ≤ length t0.changes
     → IsKept s t
 calm_kept s h c running s1 s2 t0 t e reboot begun ticked spent test calm =
     let first : IsKept s s1 = subst (IsKept s) (sym begun) (record { rows = refl; shape = refl; threads = refl; cpus = length-set s.cpus c _; replies = refl; changes = refl }) in

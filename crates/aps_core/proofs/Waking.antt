@@ -1,5 +1,5 @@
 -- The sleepers that wake at a moment, taken out of the timer and woken one after the other.
-use Rattle.std.proofs.Common.{◌≡◌, ℕ, ◌+◌, ◌<◌, ◌≤◌, ◌++◌, List, [], ◌∷◌, length, take, refl, ◌∙◌, ap, Option, Some, None, Bool, true, false, cond, get_or, arith}
+use Rattle.std.proofs.Common.{◌≡◌, length-set, set, ℕ, ◌+◌, ◌<◌, ◌≤◌, ◌++◌, List, [], ◌∷◌, length, take, refl, ◌∙◌, ap, Option, Some, None, Bool, true, false, cond, get_or, arith}
 use Rattle.std.specs.List.{cons_option, filter_map, fold, range_with_len}
 use Rattle.std.proofs.lemmas.List.{append_assoc, length-append, length-map, take_more}
 use Rattle.std.proofs.lemmas.List.FromFn.{length-range_with_len}
@@ -8,7 +8,7 @@ use Rattle.aps_model.specs.Operation.{go_on}
 use Rattle.aps_model.specs.Scenario.{Scenario}
 use Rattle.aps_model.specs.SchedulerState.{SchedulerState}
 use Rattle.aps_model.specs.TickWork.{insert_sleeper, is_earlier, wake_all, waking}
-use Rattle.aps_timer.specs.Sleepers.{all_due, due_by, later_due, next_due}
+use Rattle.aps_timer.specs.Sleepers.{all_due, due_by, without_all}
 use Rattle.aps_core.specs.Sleepers.{numbers_of}
 
 abbrev Sleepers : Type 0
@@ -43,34 +43,10 @@ few_due row now =
     let xs = range_with_len 0 (length row) in
     omega (arith, inserted_length [] (filter_map f xs), kept_length f xs, length-range_with_len 0 (length row))
 
--- ---- one after the other
-
--- the next one is due
-pub record IsNext (sleepers : Sleepers) (x : ℕ) (woken : List ℕ) : Type 0 where
-  pub told : (woken ++ x ∷ []) ++ numbers_of (later_due sleepers) ≡ woken ++ numbers_of sleepers
-  pub fewer : length (later_due sleepers) + 1 ≡ length sleepers
-
-pub next_one : (sleepers : Sleepers) (x : ℕ) (woken : List ℕ) → Some x ≡ next_due sleepers → IsNext sleepers x woken
-next_one [] x woken is = absurd cc
-next_one (z ∷ zs) x woken is =
-    let same : x ≡ z.1 = some_number x z.1 is in
-    record {
-      told = append_assoc woken (x ∷ []) (numbers_of zs) ∙ ap (λ y. woken ++ y ∷ numbers_of zs) same;
-      fewer = omega arith;
-    }
-  where
-    some_number : (a b : ℕ) → Some a ≡ Some b → a ≡ b
-    some_number a b e = cc
-
-pub next_none : (sleepers : Sleepers) → None ≡ next_due sleepers → sleepers ≡ []
-next_none [] is = refl
-next_none (z ∷ zs) is = absurd cc
-
--- those who woke and those who are left are all
-pub in_all : (woken : List ℕ) (left all : Sleepers) → woken ++ numbers_of left ≡ numbers_of all → length woken + length left ≡ length all
-in_all woken left all told =
-    let of : ℕ × ℕ → ℕ = λ sleeper. sleeper.1 in
-    omega (arith, length-append woken (numbers_of left), length-map left of, length-map all of, ap length told)
+-- the row has as many places without them
+pub without_count : (row : List (Option ℕ)) (sleepers : List (ℕ × ℕ)) → length (without_all row sleepers) ≡ length row
+without_count row [] = refl
+without_count row (s ∷ ss) = without_count (set row s.1 None) ss ∙ length-set row s.1 None
 
 -- ---- the wakes
 

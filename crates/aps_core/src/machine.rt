@@ -171,8 +171,7 @@ impl Machine {
         true
     }
 
-    /// The pick of the processor after this entry, which has its operation, and then the flag. The answer is the
-    /// entry with both.
+    /// The pick of the processor after this entry, which has its operation, and then the flag. The entry has both then.
     fn pick(
         &mut self,
         entries: &[Entry],
@@ -181,20 +180,20 @@ impl Machine {
         standing: &Standing,
         ready: &mut Ready,
         cpu: CpuId,
-        e: Entry,
-    ) -> Entry
-        requires stands { standing.now ≡ all_parts self.old.shape self.old.rows (entries.now ++ e ∷ []) (e.to / self.old.shape.tick) }
+        e: &mut Entry,
+    )
+        requires stands { standing.now ≡ all_parts self.old.shape self.old.rows (entries.now ++ e.old ∷ []) (e.old.to / self.old.shape.tick) }
         requires cpu { cpu < length self.old.cpus }
         requires seats { ready.old ≡ seats_of self.old }
         requires dues { AreOthersDues self.old entries.now cpu dues.now }
         requires spare { AreSpare self.old dues.now }
-        requires own { slice_index dues.now cpu ≤ e.to }
+        requires own { slice_index dues.now cpu ≤ e.old.to }
         requires posts { AreOthersPosts self.old cpu posts.old }
-        ensures same { pick self.old entries.now cpu e.to e ≡ record { entry = result; state = self.new; reboot = None } }
+        ensures same { pick self.old entries.now cpu e.old.to e.old ≡ record { entry = e.new; state = self.new; reboot = None } }
         ensures kept { IsKept self.old self.new }
         ensures seats { ready.new ≡ seats_of self.new }
         ensures posts { ArePosts self.new posts.new }
-        ensures flagged { IfSome result.flagged (λ d. d < length self.new.cpus) }
+        ensures flagged { IfSome e.new.flagged (λ d. d < length self.new.cpus) }
     {
         let now = e.to;
         let parts = standing.parts();
@@ -210,12 +209,9 @@ impl Machine {
             entries, dues, parts, posts, gates, classes, ready, cpu, now, &best,
         );
         self.flag(now, &flagged);
-        Entry {
-            picked,
-            starved,
-            flagged,
-            ..e
-        }
+        e.picked = picked;
+        e.starved = starved;
+        e.flagged = flagged;
     }
 
     /// The tick of a moment. The tick at hand is best that of the moment.
@@ -300,8 +296,9 @@ impl Machine {
         let e = bill::bill_of(cpu, from, now, &running);
         usage::add_time(window, &self.shape, &e);
         self.bill(&e, &running);
+        let changes = self.change_count();
         let reboot = self.test(entries, window, &e);
-        let is_changed = commanded | e.critical;
+        let is_changed = commanded | (changes < self.change_count());
         self.stand_by(window, standing, is_later | is_changed, &e.billed);
         if self.is_over(&reboot, now) {
             self.sync_all(ready);
@@ -316,13 +313,21 @@ impl Machine {
         self.sync(ready, commanded, woken, &e.ran, &done);
         self.time_done(timer, &e.ran, &done);
         self.post_others(posts, cpu, commanded, &done);
-        let e = Entry { done, ..e };
-        let entry = self.pick(entries, dues, posts, standing, ready, cpu, e);
+        let mut entry = Entry { done, ..e };
+        self.pick(entries, dues, posts, standing, ready, cpu, &mut entry);
         Stepped {
             entry,
             reboot: None,
             is_changed,
         }
+    }
+
+    /// How many changes there are so far.
+    #[inline(always)]
+    fn change_count(&self) -> usize
+        ensures { result ≡ length self.now.changes }
+    {
+        self.changes.len()
     }
 
     /// The replies so far.

@@ -15,6 +15,7 @@ use aps_model::{Change, End, Entry, History, PartitionId, PartitionRow, Reply};
 
 /// The history has the entry of a step that left this machine, all that the machine has recorded, and the end of the
 /// run if that has come: by a reboot for the partition, at the horizon, or by the limit.
+#[inline(always)]
 pub fn record(history: &mut History, made: Stepped, machine: &Machine, ends: &Ends, limit: u32)
     requires room { length history.old.entries < history.old.room.entries }
     requires entry { IsEntry made.entry }
@@ -35,17 +36,27 @@ pub fn record(history: &mut History, made: Stepped, machine: &Machine, ends: &En
 
 /// The history has the replies, the changes, the rows and the shape of the machine. Where nothing of that changed, it had
 /// them.
+#[inline(always)]
 fn tell(history: &mut History, machine: &Machine, is_changed: bool)
     requires machine { CanRecord history.old machine.now }
     requires told { is_changed ≡ false → HasTold history.old machine.now }
     ensures { history.new ≡ with_told history.old machine.now }
 {
     if is_changed {
-        add_replies(history, machine.replies());
-        add_changes(history, machine.changes());
-        set_rows(history, machine.rows());
-        history.set_shape(*machine.shape());
+        tell_all(history, machine);
     }
+}
+
+/// The same, whatever changed. It stands apart, since few steps change anything of it.
+#[inline(never)]
+fn tell_all(history: &mut History, machine: &Machine)
+    requires { CanRecord history.old machine.now }
+    ensures { history.new ≡ with_told history.old machine.now }
+{
+    add_replies(history, machine.replies());
+    add_changes(history, machine.changes());
+    set_rows(history, machine.rows());
+    history.set_shape(*machine.shape());
 }
 
 /// The history has these replies, which are its own and more.

@@ -15,6 +15,7 @@ use aps_model::{Entry, Nanos, PartFacts, PartitionId, PartitionRow, Shape, has_a
 use aps_window::Window;
 
 /// The window goes on to this tick. The answer is whether it stood before it.
+#[inline(always)]
 pub fn go_on(window: &mut Window, tick: u64) -> bool
     requires forward { window.old.tick ≤ tick }
     requires few { tick ≤ 1000000 }

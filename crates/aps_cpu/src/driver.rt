@@ -23,12 +23,16 @@ pub enum Driven {
 /// After so many turns in a row that named a processor of another seat a driver gives up.
 const MOST_WAITED: u64 = 1_000_000;
 
-/// After so many turns in vain in a row a driver doesn't wait any more before its next one: those whose turn it is have no
-/// driver at hand.
-const SHORT_WAIT: u64 = 1_000;
+/// After so many turns in vain in a row a driver lets some time pass before its next ones: those whose turn it is have no
+/// driver at hand, perhaps because its thread is still being made.
+const FEW_WAITED: u64 = 64;
 
-/// From then on it yields after one turn of so many.
-const TURNS_A_YIELD: u64 = 256;
+/// After so many it takes its turns without a wait, and alone: others that have come so far wait until it has given up.
+const SHORT_WAIT: u64 = 320;
+
+/// From then on it yields after one turn of so many; no oftener, since where all of the machine's processors are busy each
+/// yield can take as long as a time slice.
+const TURNS_A_YIELD: u64 = 16_384;
 
 /// Takes turns of the seat, one processor after the other, and enters the gate before each, until the run has ended, or
 /// 1,000,000 turns in a row answered that a processor of another seat has the turn. What the seat has waited must be 0 at
@@ -65,8 +69,7 @@ pub fn drive<R: Wait, G: Gate>(rt: &R, dispatch: &Dispatch, seat: &mut CpuSeat, 
     unreachable!()
 }
 
-/// Waits for the seat's turn. Where drivers share the processors of the machine it yields for a while first. In a long row of turns in vain it yields now and then: where all of the machine's processors
-/// are busy each yield can take as long as a time slice.
+/// Waits for the seat's turn. Where drivers share the processors of the machine it yields for a while first.
 fn wait<R: Wait, G: Gate>(
     rt: &R,
     dispatch: &Dispatch,
@@ -75,12 +78,28 @@ fn wait<R: Wait, G: Gate>(
     patience: &mut Patience,
 ) {
     let waited = seat.waited();
-    if waited <= SHORT_WAIT {
-        if dispatch.is_crowded() && patience.yields_to_turn(dispatch, seat, gate) {
-            return;
-        }
+    if waited > SHORT_WAIT {
+        wait_in_vain(rt, dispatch, seat, gate, waited);
+    } else if waited > FEW_WAITED {
+        gate.pause();
+    } else if !(dispatch.is_crowded() && patience.yields_to_turn(dispatch, seat, gate)) {
         dispatch.await_turn(rt, seat);
-    } else if waited % TURNS_A_YIELD == 0 {
+    }
+}
+
+/// Waits in a long row of turns in vain, while another driver is in one too. Where that one could be held by the gate it
+/// doesn't.
+fn wait_in_vain<R: Wait, G: Gate>(
+    rt: &R,
+    dispatch: &Dispatch,
+    seat: &CpuSeat,
+    gate: &G,
+    waited: u64,
+) {
+    if gate.is_open() {
+        dispatch.await_vain(rt, seat);
+    }
+    if waited % TURNS_A_YIELD == 0 {
         thread::yield_now();
     }
 }

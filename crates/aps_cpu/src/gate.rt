@@ -1,7 +1,8 @@
 use aps_lock::CpuSeat;
 use aps_model::CpuId;
 use std::sync::Wait;
-use std::time::{Clock, Instant};
+use std::thread;
+use std::time::{Clock, Duration, Instant};
 
 /// What a driver calls before each of its turns. It has no access to the core, and no answer.
 pub trait Gate {
@@ -18,6 +19,12 @@ pub trait Gate {
     /// the machine see how long a yield takes, and without one they don't yield before they sleep.
     fn now(&self) -> Option<Instant> {
         None
+    }
+
+    /// Lets a millisecond pass, if the gate has a clock, and else another thread run. A driver calls it where those whose
+    /// turn it is have no driver at hand. This is advice.
+    fn pause(&self) {
+        thread::yield_now();
     }
 }
 
@@ -58,5 +65,9 @@ impl<C: Clock> Gate for ClockGate<'_, C> {
             Ok(now) => Some(now),
             Err(_) => None,
         }
+    }
+
+    fn pause(&self) {
+        thread::sleep(self.clock, Duration::from_millis(1));
     }
 }

@@ -1,6 +1,6 @@
 //! Sets of levels, which are numbers below 256, in four words.
-ghost use Rattle.std.specs.Prelude.{◌≡◌, ℕ, ◌<◌, ◌||◌, ◌&&◌, not, nat_eq, IfSome, IfNone, false};
-ghost use Rattle.aps_levels.specs.Bits.{IsLeast};
+ghost use Rattle.std.specs.Prelude.{◌≡◌, ℕ, ◌+◌, ◌*◌, ◌<◌, ◌||◌, ◌&&◌, not, nat_eq, IfSome, IfNone, false};
+ghost use Rattle.aps_levels.specs.Bits.{IsLeast, has};
 ghost use Rattle.aps_levels.specs.Levels.{has_level};
 
 use crate::bits::Bits64;
@@ -50,6 +50,23 @@ impl Levels {
         }
     }
 
+    /// The levels from 64 times this number on, each less that.
+    #[inline(always)]
+    pub fn quarter(self, q: usize) -> Bits64
+        requires { q < 4 }
+        ensures { (k : ℕ) → k < 64 → has result k ≡ has_level self (64 * q + k) }
+    {
+        if q == 0 {
+            self.first
+        } else if q == 1 {
+            self.second
+        } else if q == 2 {
+            self.third
+        } else {
+            self.fourth
+        }
+    }
+
     /// The set with this level.
     #[inline(always)]
     pub fn with(self, level: usize) -> Levels
@@ -57,15 +74,7 @@ impl Levels {
         ensures { (k : ℕ) → has_level result k ≡ (nat_eq k level || has_level self k) }
     {
         let mut set = self;
-        if level < 64 {
-            set.first = set.first.with(level);
-        } else if level < 128 {
-            set.second = set.second.with(level - 64);
-        } else if level < 192 {
-            set.third = set.third.with(level - 128);
-        } else {
-            set.fourth = set.fourth.with(level - 192);
-        }
+        set.insert(level);
         set
     }
 
@@ -76,16 +85,42 @@ impl Levels {
         ensures { (k : ℕ) → has_level result k ≡ (not (nat_eq k level) && has_level self k) }
     {
         let mut set = self;
-        if level < 64 {
-            set.first = set.first.without(level);
-        } else if level < 128 {
-            set.second = set.second.without(level - 64);
-        } else if level < 192 {
-            set.third = set.third.without(level - 128);
-        } else {
-            set.fourth = set.fourth.without(level - 192);
-        }
+        set.remove(level);
         set
+    }
+
+    /// The level comes in, if it isn't in. One word alone is written.
+    #[inline(always)]
+    pub fn insert(&mut self, level: usize)
+        requires { level < 256 }
+        ensures { (k : ℕ) → has_level self.new k ≡ (nat_eq k level || has_level self.old k) }
+    {
+        if level < 64 {
+            self.first = self.first.with(level);
+        } else if level < 128 {
+            self.second = self.second.with(level - 64);
+        } else if level < 192 {
+            self.third = self.third.with(level - 128);
+        } else {
+            self.fourth = self.fourth.with(level - 192);
+        }
+    }
+
+    /// The level goes, if it is in. One word alone is written.
+    #[inline(always)]
+    pub fn remove(&mut self, level: usize)
+        requires { level < 256 }
+        ensures { (k : ℕ) → has_level self.new k ≡ (not (nat_eq k level) && has_level self.old k) }
+    {
+        if level < 64 {
+            self.first = self.first.without(level);
+        } else if level < 128 {
+            self.second = self.second.without(level - 64);
+        } else if level < 192 {
+            self.third = self.third.without(level - 128);
+        } else {
+            self.fourth = self.fourth.without(level - 192);
+        }
     }
 
     /// The least level of the set; none exactly where the set is empty.

@@ -128,6 +128,15 @@ impl Dispatch {
         }
     }
 
+    /// Waits while another driver takes a long row of turns in vain, unless a processor of the seat may have the turn. So
+    /// drivers that can only give up do so one after the other, and none waits at the lock for another that wants for a
+    /// processor of the machine. A seat of several processors doesn't wait. This is advice: it takes no turn.
+    pub fn await_vain<R: Wait>(&self, rt: &R, seat: &CpuSeat) {
+        if seat.first == seat.last {
+            self.hint.await_vain(rt, seat.first);
+        }
+    }
+
     /// Tells the other drivers whether a driver of this seat waits for its turns and takes them, or does something else
     /// meanwhile. While it does, others don't sleep where the seat may have the turn. This is advice too.
     pub fn set_at_hand(&self, seat: &CpuSeat, is_at_hand: bool) {

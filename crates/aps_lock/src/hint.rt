@@ -40,6 +40,8 @@ struct Board {
     next_pause: AtomicU64,
     /// How many drivers are to be awake at most: one for each processor of the machine.
     cores: AtomicU64,
+    /// Whose driver takes a long row of turns in vain: one more than the number of its processor, or 0 where none does.
+    in_vain: AtomicU64,
     /// How many processors are simulated.
     cpus: u64,
 }
@@ -50,6 +52,11 @@ struct Door {
     /// Whether a driver of the processor waits here, or takes a turn.
     is_at_hand: AtomicBool,
     bell: EventCount,
+}
+
+/// How the board names this processor as the one whose driver takes turns in vain.
+fn in_vain_of(cpu: CpuId) -> u64 {
+    cpu.index() as u64 + 1
 }
 
 impl Door {
@@ -83,6 +90,7 @@ impl Hint {
             pause: AtomicU64::new(0),
             next_pause: AtomicU64::new(SHORT_PAUSE),
             cores: AtomicU64::new(USUAL_CORES),
+            in_vain: AtomicU64::new(0),
             cpus: last_cpu(core).index() as u64 + 1,
         });
         Ok(Hint { board, doors })
@@ -122,9 +130,12 @@ impl Hint {
     /// Tells these turns, and wakes the drivers that come soon. Where one that has the turn isn't at hand it wakes all, so
     /// that they find by turns of their own whether the run goes on. The core is home again by then: where a later turn
     /// was told sooner, what is told now is of processors that have taken theirs, and one of them mends it by a turn in vain.
+    /// Where it was told already, who told it wakes them.
     pub(crate) fn tell(&self, turns: Turns) {
-        self.board.turns.store(turns.bits(), SeqCst);
-        self.wake(turns);
+        let bits = turns.bits();
+        if self.board.turns.swap(bits, SeqCst) != bits {
+            self.wake(turns);
+        }
     }
 
     /// Who steps next and who soon, as was told last.
@@ -183,11 +194,52 @@ impl Hint {
         }
     }
 
-    /// The driver of these processors is gone. Where they may have the turn it wakes the others, who would wait in vain.
+    /// The driver of these processors is gone. Where they may have the turn, or it was the one that took turns in vain, it
+    /// wakes the others, who would wait for it.
     pub(crate) fn leave(&self, cpus: CpuSet) {
         self.set_at_hand(cpus, false);
-        if self.turns().next.meets(cpus) {
+        if self.gives_way(cpus) || self.turns().next.meets(cpus) {
             self.wake_all();
+        }
+    }
+
+    /// Another driver may take turns in vain, if that of one of these processors did. The answer says whether it did.
+    fn gives_way(&self, cpus: CpuSet) -> bool {
+        for c in 0..MOST_CPUS {
+            if cpus.has(CpuId::at(c)) && self.is_in_vain(CpuId::at(c)) {
+                self.board.in_vain.store(0, SeqCst);
+                return true;
+            }
+        }
+        false
+    }
+
+    /// Whether it is the driver of this processor that takes turns in vain.
+    fn is_in_vain(&self, cpu: CpuId) -> bool {
+        self.board.in_vain.load(SeqCst) == in_vain_of(cpu)
+    }
+
+    /// Whether the driver of this processor is the one that takes turns in vain, now that it asks for that.
+    fn goes_in_vain(&self, cpu: CpuId) -> bool {
+        let mine = in_vain_of(cpu);
+        match self.board.in_vain.compare_exchange(0, mine, SeqCst, SeqCst) {
+            Ok(_) => true,
+            Err(other) => other == mine,
+        }
+    }
+
+    /// Sleeps while the driver of another processor takes turns in vain, unless the processor may have the turn: of drivers
+    /// that can only give up one goes at a time, since all of them would wait for one another at the lock.
+    pub(crate) fn await_vain<R: Wait>(&self, rt: &R, cpu: CpuId) {
+        let Some(door) = self.doors.get(cpu.index()) else {
+            return;
+        };
+        for _ in rt.forever() {
+            let key = door.bell.prepare_wait();
+            if self.turns().next.has(cpu) || self.goes_in_vain(cpu) {
+                return;
+            }
+            key.wait(rt);
         }
     }
 

@@ -1,4 +1,4 @@
-use Rattle.std.proofs.Common.{◌≡◌, ◌≢◌, ◌⊎◌, inl, inr, ℕ, ◌+◌, ◌<◌, ◌≤◌, Bool, true, false, not, ◌&&◌, ◌||◌, nat_eq, List, length, get_or, set, replicate, refl, sym, ◌∙◌, ap, arith, get_or-set_same, get_or-set_other}
+use Rattle.std.proofs.Common.{◌≡◌, ◌≢◌, ◌⊎◌, inl, inr, ℕ, ◌+◌, ◌-◌, ◌<◌, ◌≤◌, Bool, true, false, not, ◌&&◌, ◌||◌, nat_eq, List, length, get_or, set, replicate, refl, sym, ◌∙◌, ap, subst, arith, get_or-set_same, get_or-set_other}
 use Rattle.std.proofs.lemmas.Bool.{cases_eq}
 use Rattle.std.proofs.lemmas.Bool.Decides.{nat_tests}
 use Rattle.std.proofs.lemmas.List.{get_or_read, get_or_past, get_or-replicate, length-replicate}
@@ -6,7 +6,7 @@ use Rattle.aps_levels.specs.declared.bits.Bits64.{Bits64}
 use Rattle.aps_levels.specs.declared.levels.Levels.{Levels}
 use Rattle.aps_levels.specs.Bits.{has}
 use Rattle.aps_levels.specs.Levels.{has_level}
-use Rattle.aps_ready.specs.Table.{bits_at, levels_at, no_bits, no_levels, AreAtLeast, IsFree, IsTable}
+use Rattle.aps_ready.specs.Table.{bits_at, levels_at, no_bits, no_levels, AreAtLeast, IsFirst, IsFree, IsTable}
 
 equal_self : (g : ℕ) → nat_eq g g ≡ true
 equal_self g = grind (arith, nat_tests)
@@ -217,84 +217,74 @@ unused at_level levels of_group some l g index l_below g_below none = by_test (h
         clash u p q = cc
     by_test false h = h
 
--- what is known when all levels below `from` are done
-pub record IsDone (at_level : List Bits64) (levels left : Levels) (set : Bits64) (from : ℕ) : Type 0 where
-  pub inside : from ≤ 256
-  pub later : (k : ℕ) → k < from → has_level left k ≡ false
-  pub kept : (k : ℕ) → from ≤ k → has_level left k ≡ has_level levels k
-  pub none : (k g : ℕ) → k < from → g < 64 → (has (bits_at at_level k) g && has set g) ≡ false
-
 and_false : (a b : Bool) → a ≡ false → (a && b) ≡ false
 and_false a b h = rw h refl
 
--- no level from `from` up to `next` is left
-skipped : (at_level : List Bits64) (levels left : Levels) (of_group : List Levels) (some set : Bits64) (from k g : ℕ) → IsTable at_level levels of_group some → IsDone at_level levels left set from
-    → k < 256 → g < 64 → has_level left k ≡ false → (has (bits_at at_level k) g && has set g) ≡ false
-skipped at_level levels left of_group some set from k g index done k_below g_below none = elim (below_or_not k from) [
-  | inl early ↦ done.none k g early g_below
-  | inr late ↦ and_false (has (bits_at at_level k) g) (has set g) (unused at_level levels of_group some k g index k_below g_below (sym (done.kept k late) ∙ none))
-]
+clash : (t : Bool) → t ≡ true → t ≡ false → ⊥
+clash t p q = cc
 
-pub all_done : (at_level : List Bits64) (levels left : Levels) (of_group : List Levels) (some set : Bits64) (from : ℕ) → IsTable at_level levels of_group some → IsDone at_level levels left set from
-    → ((k : ℕ) → has_level left k ≡ false) → IsDone at_level levels left set 256
-all_done at_level levels left of_group some set from index done none = record {
-  inside = omega arith;
-  later = λ k _. none k;
-  kept = λ k past. done.kept k (omega (arith, past, done.inside));
-  none = λ k g below g_below. skipped at_level levels left of_group some set from k g index done below g_below (none k);
-}
+-- at the levels of a word that are no longer left no group of the set is
+pub record IsSearched (at_level : List Bits64) (word left set : Bits64) (from : ℕ) : Type 0 where
+  pub done : (k : ℕ) → k < 64 → has word k ≡ true → has left k ≡ false → IsFree at_level (has set) (from + k)
 
-pub more_done : (at_level : List Bits64) (levels left rest : Levels) (of_group : List Levels) (some set : Bits64) (from level : ℕ) → IsTable at_level levels of_group some → IsDone at_level levels left set from
-    → level < 256 → has_level left level ≡ true → ((k : ℕ) → k < level → has_level left k ≡ false)
-    → ((g : ℕ) → (has (bits_at at_level level) g && has set g) ≡ false)
-    → ((k : ℕ) → has_level rest k ≡ (not (nat_eq k level) && has_level left k))
-    → IsDone at_level levels rest set (level + 1)
-more_done at_level levels left rest of_group some set from level index done below here earlier empty without = record {
-  inside = omega (arith, below);
-  later = λ k more. without k ∙ (elim (cases_eq k level) [
-    | inl same ↦ rw (ap (λ (j : ℕ). nat_eq j level) same ∙ equal_self level) refl
-    | inr ne ↦ rw (earlier k (omega (arith, more, ne))) (and_no (not (nat_eq k level)))
-  ]);
-  kept = λ k past. without k ∙ rw (not_equal k level (λ e. omega (arith, e, past))) (done.kept k (from_before k past));
-  none = λ k g more g_below. elim (cases_eq k level) [
-    | inl same ↦ ap (λ (j : ℕ). has (bits_at at_level j) g && has set g) same ∙ empty g
-    | inr ne ↦ skipped at_level levels left of_group some set from k g index done (omega (arith, more, below)) g_below (earlier k (omega (arith, more, ne)))
+pub none_searched : (at_level : List Bits64) (word set : Bits64) (from : ℕ) → IsSearched at_level word word set from
+none_searched at_level word set from = record { done = λ k below h none. absurd (clash (has word k) h none) }
+
+pub one_searched : (at_level : List Bits64) (word left after set : Bits64) (from p : ℕ) → IsSearched at_level word left set from
+    → ((k : ℕ) → has after k ≡ (not (nat_eq k p) && has left k)) → IsFree at_level (has set) (from + p) → IsSearched at_level word after set from
+one_searched at_level word left after set from p searched without free = record {
+  done = λ k below h none. elim (cases_eq k p) [
+    | inl same ↦ subst (λ j. IsFree at_level (has set) (from + j)) (sym same) free
+    | inr ne ↦ searched.done k below h (sym (without k ∙ ap (λ (t : Bool). not t && has left k) (not_equal k p ne)) ∙ none)
   ];
 }
-  where
-    and_no : (a : Bool) → (a && false) ≡ false
-    and_no true = refl
-    and_no false = refl
 
-    -- the level itself was left, so it isn't below `from`
-    from_level : from ≤ level
-    from_level = elim (below_or_not level from) [
-      | inl low ↦ absurd (clash (has_level left level) here (done.later level low))
-      | inr high ↦ high
-    ]
-      where
-        clash : (u : Bool) → u ≡ true → u ≡ false → ⊥
-        clash u p q = cc
-
-    from_before : (k : ℕ) → level + 1 ≤ k → from ≤ k
-    from_before k past = omega (arith, past, from_level)
-
-pub are_at_least : (at_level : List Bits64) (levels left : Levels) (of_group : List Levels) (some set found : Bits64) (from level group : ℕ)
-    → IsTable at_level levels of_group some → IsDone at_level levels left set from → level < 256
-    → ((k : ℕ) → k < level → has_level left k ≡ false) → ((g : ℕ) → has found g ≡ (has (bits_at at_level level) g && has set g))
-    → group < 64 → has found group ≡ true → AreAtLeast at_level (has set) level (has found)
-are_at_least at_level levels left of_group some set found from level group table done below earlier these g_small among = record {
+pub first_found : (at_level : List Bits64) (word left set found : Bits64) (from p group : ℕ) → IsSearched at_level word left set from
+    → p < 64 → ((k : ℕ) → k < p → has left k ≡ false)
+    → ((g : ℕ) → has found g ≡ (has (bits_at at_level (from + p)) g && has set g)) → group < 64 → has found group ≡ true
+    → IsFirst at_level word (has set) from (from + p) (has found)
+first_found at_level word left set found from p group searched below earlier these inside some = record {
+  place = p;
   below = below;
+  at = refl;
   group = group;
-  inside = g_small;
-  some = among;
+  inside = inside;
+  some = some;
   these = λ g _. these g;
-  free = λ l low g g_below. skipped at_level levels left of_group some set from l g table done (omega (arith, low, below)) g_below (earlier l low);
+  earlier = λ k low h. searched.done k (omega (arith, low, below)) h (earlier k low);
 }
 
-pub none_at : (at_level : List Bits64) (levels left : Levels) (set : Bits64) (from : ℕ) → IsDone at_level levels left set from → 256 ≤ from
-    → (l : ℕ) → l < 256 → IsFree at_level (has set) l
-none_at at_level levels left set from done past l below g g_below = done.none l g (omega (arith, below, past)) g_below
+-- no group of the set is at any of the first levels of a quarter where none is at those in use, nor at any before
+pub quarter_free : (at_level : List Bits64) (levels : Levels) (of_group : List Levels) (some word : Bits64) (set : ℕ → Bool) (from most : ℕ) → IsTable at_level levels of_group some
+    → from + most ≤ 256 → most ≤ 64 → ((k : ℕ) → k < 64 → has word k ≡ has_level levels (from + k)) → ((l : ℕ) → l < from → IsFree at_level set l)
+    → ((k : ℕ) → k < most → has word k ≡ true → IsFree at_level set (from + k)) → (l : ℕ) → l < from + most → IsFree at_level set l
+quarter_free at_level levels of_group some word set from most table inside few same before free l low = elim (below_or_not l from) [
+  | inl early ↦ before l early
+  | inr late ↦ subst (IsFree at_level set) (omega (arith, late)) (by_word (l - from) (omega (arith, low, late)) (has word (l - from)) refl)
+]
+  where
+    by_word : (k : ℕ) → k < most → (t : Bool) → has word k ≡ t → IsFree at_level set (from + k)
+    by_word k below true h = free k below h
+    by_word k below false h = λ g g_below.
+        and_false (has (bits_at at_level (from + k)) g) (set g)
+        (unused at_level levels of_group some (from + k) g table (omega (arith, below, inside)) g_below (sym (same k (omega (arith, below, few))) ∙ h))
+
+pub first_is_least : (at_level : List Bits64) (levels : Levels) (of_group : List Levels) (some word : Bits64) (set : ℕ → Bool) (from level : ℕ) (found : ℕ → Bool)
+    → IsTable at_level levels of_group some → from + 64 ≤ 256 → ((k : ℕ) → k < 64 → has word k ≡ has_level levels (from + k)) → ((l : ℕ) → l < from → IsFree at_level set l)
+    → IsFirst at_level word set from level found → AreAtLeast at_level set level found
+first_is_least at_level levels of_group some word set from level found table inside same before first =
+    let at = first.at in
+    let below = first.below in
+    record {
+      below = omega (arith, at, below, inside);
+      group = first.group;
+      inside = first.inside;
+      some = first.some;
+      these = first.these;
+      free = λ l low.
+          quarter_free at_level levels of_group some word set from first.place table (omega (arith, below, inside)) (omega (arith, below)) same before
+          first.earlier l (omega (arith, low, at));
+    }
 
 -- ---- nobody is anywhere
 

@@ -1,4 +1,4 @@
-use Rattle.std.specs.Prelude.{◌≡◌, ℕ, ◌<◌, Bool, ◌&&◌, true, false, List, length, slice_index_or}
+use Rattle.std.specs.Prelude.{◌≡◌, ℕ, ◌+◌, ◌<◌, Bool, ◌&&◌, true, false, List, length, slice_index_or}
 use Rattle.aps_levels.specs.declared.bits.Bits64.{Bits64}
 use Rattle.aps_levels.specs.declared.levels.Levels.{Levels}
 use Rattle.aps_levels.specs.Bits.{has}
@@ -50,3 +50,14 @@ pub record AreAtLeast (at_level : List Bits64) (set : ℕ → Bool) (level : ℕ
   pub some : found group ≡ true
   pub these : (g : ℕ) → g < 64 → found g ≡ (has (bits_at at_level level) g && set g)
   pub free : (l : ℕ) → l < level → IsFree at_level set l
+
+-- of the levels from `from` on that the word has, each less `from`, the least at which a group of the set is, and those groups
+pub record IsFirst (at_level : List Bits64) (word : Bits64) (set : ℕ → Bool) (from level : ℕ) (found : ℕ → Bool) : Type 0 where
+  pub place : ℕ
+  pub below : place < 64
+  pub at : level ≡ from + place
+  pub group : ℕ
+  pub inside : group < 64
+  pub some : found group ≡ true
+  pub these : (g : ℕ) → g < 64 → found g ≡ (has (bits_at at_level level) g && set g)
+  pub earlier : (k : ℕ) → k < place → has word k ≡ true → IsFree at_level set (from + k)

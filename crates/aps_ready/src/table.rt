@@ -1,13 +1,16 @@
 //! Which groups have somebody at which level.
-ghost use Rattle.std.specs.Prelude.{◌≡◌, ℕ, ◌<◌, ◌&&◌, ◌||◌, not, length, nat_eq, IfOk, IfSome, IfNone, true, false};
+ghost use Rattle.std.specs.Prelude.{◌≡◌, ℕ, ◌+◌, ◌<◌, ◌≤◌, ◌&&◌, ◌||◌, not, length, nat_eq, IfOk, IfSome, IfNone, true, false};
 ghost use Rattle.aps_levels.specs.Bits.{has};
 ghost use Rattle.aps_levels.specs.Levels.{has_level};
-ghost use Rattle.aps_ready.specs.Table.{bits_at, levels_at, AreAtLeast, HasLevel, IsFree};
+ghost use Rattle.aps_ready.specs.Table.{bits_at, levels_at, AreAtLeast, HasLevel, IsFirst, IsFree};
 
 use aps_levels::{Bits64, Levels};
 use aps_model::NoMemory;
 use std::alloc::Global;
 use std::marker::Model;
+
+/// How many words of 64 levels there are.
+const QUARTERS: usize = 4;
 
 /// Groups that are at one level.
 #[derive(Clone, Copy)]
@@ -64,7 +67,7 @@ impl Table {
     {
         add_group(&mut self.at_level, level, group);
         add_level(&mut self.of_group, level, group);
-        self.levels = self.levels.with(level);
+        self.levels.insert(level);
         self.occupied = self.occupied.with(group);
     }
 
@@ -75,7 +78,7 @@ impl Table {
         requires group { group < 64 }
         ensures { (l g : ℕ) → l < 256 → has (bits_at self.new l) g ≡ (not (nat_eq l level && nat_eq g group) && has (bits_at self.old l) g) }
     {
-        self.levels = remove_group(&mut self.at_level, self.levels, level, group);
+        remove_group(&mut self.at_level, &mut self.levels, level, group);
         self.occupied = remove_level(&mut self.of_group, self.occupied, level, group);
     }
 
@@ -94,23 +97,33 @@ impl Table {
         ensures some { IfSome result (λ found. AreAtLeast self.now (has set) found.level (has found.groups)) }
         ensures none { IfNone result ((l : ℕ) → l < 256 → IsFree self.now (has set) l) }
     {
-        let mut left = self.levels;
-        let mut from = 0;
-        while from < 256 {
-            match left.least() {
-                None => from = 256,
-                Some(level) => {
-                    let groups = self.at_level[level].meet(set);
-                    if !groups.is_empty() {
-                        return Some(Found { level, groups });
-                    }
-                    left = left.without(level);
-                    from = level + 1;
-                }
+        'quarters: for q in 0..QUARTERS {
+            let word = self.levels.quarter(q);
+            if let Some(found) = least_among(&self.at_level, word, 64 * q, set) {
+                return Some(found);
             }
         }
         None
     }
+}
+
+/// Of the levels from `from` on that a word has, each less `from`, the least at which any group of a set is.
+#[inline(always)]
+fn least_among(at_level: &[Bits64], word: Bits64, from: usize, set: Bits64) -> Option<Found>
+    requires { from + 64 ≤ length at_level.now }
+    ensures some { IfSome result (λ found. IsFirst at_level.now word (has set) from found.level (has found.groups)) }
+    ensures none { IfNone result ((k : ℕ) → k < 64 → has word k ≡ true → IsFree at_level.now (has set) (from + k)) }
+{
+    let mut left = word;
+    'levels: while let Some(place) = left.least() {
+        let level = from + place;
+        let groups = at_level[level].meet(set);
+        if !groups.is_empty() {
+            return Some(Found { level, groups });
+        }
+        left = left.without_least();
+    }
+    None
 }
 
 /// A group is at a level from now on.
@@ -134,29 +147,27 @@ fn add_level(of_group: &mut Vec<Levels>, level: usize, group: usize)
     ensures at { (l g : ℕ) → has_level (levels_at of_group.new.items g) l
         ≡ ((nat_eq l level && nat_eq g group) || has_level (levels_at of_group.old.items g) l) }
 {
-    of_group[group] = of_group[group].with(level);
+    of_group[group].insert(level);
 }
 
-/// A group is no longer at a level. The answer are the levels at which groups are afterwards.
+/// A group is no longer at a level. The levels are those at which groups are, before and afterwards.
 #[inline(always)]
-fn remove_group(at_level: &mut Vec<Bits64>, levels: Levels, level: usize, group: usize) -> Levels
+fn remove_group(at_level: &mut Vec<Bits64>, levels: &mut Levels, level: usize, group: usize)
     requires level { level < 256 }
     requires group { group < 64 }
     requires count { length at_level.old.items ≡ 256 }
     ensures count { length at_level.new.items ≡ 256 }
     ensures at { (l g : ℕ) → has (bits_at at_level.new.items l) g
         ≡ (not (nat_eq l level && nat_eq g group) && has (bits_at at_level.old.items l) g) }
-    ensures in_use { (l g : ℕ) → l < 256 → g < 64 → has (bits_at at_level.new.items l) g ≡ true → has_level levels l ≡ true
-        → has_level result l ≡ true }
-    ensures before { (l : ℕ) → has_level result l ≡ true → has_level levels l ≡ true }
-    ensures own { has_level result level ≡ true → (g : ℕ) × (g < 64) × (has (bits_at at_level.new.items level) g ≡ true) }
+    ensures in_use { (l g : ℕ) → l < 256 → g < 64 → has (bits_at at_level.new.items l) g ≡ true → has_level levels.old l ≡ true
+        → has_level levels.new l ≡ true }
+    ensures before { (l : ℕ) → has_level levels.new l ≡ true → has_level levels.old l ≡ true }
+    ensures own { has_level levels.new level ≡ true → (g : ℕ) × (g < 64) × (has (bits_at at_level.new.items level) g ≡ true) }
 {
     let rest = at_level[level].without(group);
     at_level[level] = rest;
     if rest.is_empty() {
-        levels.without(level)
-    } else {
-        levels
+        levels.remove(level);
     }
 }
 
@@ -174,8 +185,8 @@ fn remove_level(of_group: &mut Vec<Levels>, occupied: Bits64, level: usize, grou
     ensures before { (g : ℕ) → has result g ≡ true → has occupied g ≡ true }
     ensures own { has result group ≡ true → (l : ℕ) × (l < 256) × (has_level (levels_at of_group.new.items group) l ≡ true) }
 {
-    let rest = of_group[group].without(level);
-    of_group[group] = rest;
+    let rest = &mut of_group[group];
+    rest.remove(level);
     match rest.least() {
         None => occupied.without(group),
         Some(_) => occupied,

@@ -79,8 +79,5 @@ pub fn is_slice_over(shape: &Shape, policy: Policy, since: Nanos) -> bool
     requires { shape.now.tick ≤ 10000000 }
     ensures { result ≡ is_slice_over shape.now policy since }
 {
-    match policy {
-        Policy::Fifo => false,
-        Policy::Rr => SLICE_TICKS * shape.tick <= since,
-    }
+    (policy == Policy::Rr) & (SLICE_TICKS * shape.tick <= since)
 }

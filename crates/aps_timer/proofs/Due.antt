@@ -14,7 +14,7 @@ Row = List (Option ℕ)
 abbrev due_in : Row → ℕ → ℕ → Option (ℕ × ℕ)
 due_in row now x = due_by now x (get_or row x None)
 
-due_now : (now x until : ℕ) → until ≤ now → due_by now x (Some until) ≡ Some (until, x)
+pub due_now : (now x until : ℕ) → until ≤ now → due_by now x (Some until) ≡ Some (until, x)
 due_now now x until due = grind (arith, nat_tests)
 
 pub due_later : (now x until : ℕ) → now < until → due_by now x (Some until) ≡ None

@@ -4,4 +4,7 @@ pub mod Places
 pub mod Firsts
 pub mod Kept
 pub mod Due
+pub mod Gathered
+pub mod OfWord
+pub mod TakenOut
 pub mod Wakes

@@ -11,7 +11,7 @@ abbrev Sleepers : Type 0
 Sleepers = List (ℕ × ℕ)
 
 -- this one more, if there is one
-abbrev with_sleeper : Sleepers → Option (ℕ × ℕ) → Sleepers
+abbrev pub with_sleeper : Sleepers → Option (ℕ × ℕ) → Sleepers
 with_sleeper sleepers None = sleepers
 with_sleeper sleepers (Some sleeper) = insert_sleeper sleeper sleepers
 
@@ -20,7 +20,7 @@ abbrev pub gathered : (ℕ → Option (ℕ × ℕ)) → ℕ → List (ℕ × ℕ
 gathered f n = fold (λ sleepers sleeper. insert_sleeper sleeper sleepers) [] (filter_map f (range_with_len 0 n))
 
 -- one number more
-gathered_more : (f : ℕ → Option (ℕ × ℕ)) (n : ℕ) → gathered f (n + 1) ≡ with_sleeper (gathered f n) (f n)
+pub gathered_more : (f : ℕ → Option (ℕ × ℕ)) (n : ℕ) → gathered f (n + 1) ≡ with_sleeper (gathered f n) (f n)
 gathered_more f n =
     let add : Sleepers → ℕ × ℕ → Sleepers = λ sleepers sleeper. insert_sleeper sleeper sleepers in
     ap (λ xs. fold add [] (filter_map f xs)) (range_more 0 n n (omega arith))

@@ -1,5 +1,5 @@
 -- The sleepers: a row with a place for each thread, which has the moment until which it sleeps.
-use Rattle.std.specs.Prelude.{◌≡◌, ◌≢◌, ℕ, ◌≤◌, nat_le, true, if◌then◌else◌, List, [], ◌∷◌, length, slice_index_or, slice_set, Option, Some, None}
+use Rattle.std.specs.Prelude.{◌≡◌, ◌≢◌, ℕ, ◌≤◌, nat_le, true, if◌then◌else◌, List, [], ◌∷◌, length, slice_index_or, slice_set, map, Option, Some, None}
 use Rattle.std.specs.List.{fold, filter_map, range_with_len}
 use Rattle.aps_model.specs.TickWork.{insert_sleeper, is_earlier}
 
@@ -39,3 +39,17 @@ later_due (sleeper ∷ sleepers) = sleepers
 abbrev pub without : List (Option ℕ) → Option ℕ → List (Option ℕ)
 without row None = row
 without row (Some x) = slice_set row x None
+
+-- the sleepers among the threads below n whose moment has come, in that order
+abbrev pub due_below : List (Option ℕ) → ℕ → ℕ → List (ℕ × ℕ)
+due_below row now n =
+    fold (λ sleepers sleeper. insert_sleeper sleeper sleepers) []
+    (filter_map (λ x. due_by now x (slice_index_or row x None)) (range_with_len 0 n))
+
+-- the numbers of sleepers
+abbrev pub numbers_of : List (ℕ × ℕ) → List ℕ
+numbers_of sleepers = map (λ (sleeper : ℕ × ℕ). sleeper.1) sleepers
+
+-- the row without these sleepers
+abbrev pub without_all : List (Option ℕ) → List (ℕ × ℕ) → List (Option ℕ)
+without_all row sleepers = fold (λ row (sleeper : ℕ × ℕ). slice_set row sleeper.1 None) row sleepers

@@ -1,6 +1,7 @@
 //! Sleepers in buckets by their moment, and one further list of all others.
-ghost use Rattle.std.specs.Prelude.{◌≡◌, ◌≢◌, ℕ, List, Option, ◌%◌, ◌≤◌, length, replicate, IfOk, IfSome, Some, None, false};
-ghost use Rattle.aps_timer.specs.Buckets.{AreKept, AreNear, IsFurther, IsNear, IsPlaced};
+ghost use Rattle.std.specs.Prelude.{◌≡◌, ◌≢◌, ℕ, List, Option, ◌%◌, ◌≤◌, ◌/◌, ◌<◌, length, replicate, IfOk, IfSome, Some, None, true, false};
+ghost use Rattle.aps_levels.specs.Bits.{has};
+ghost use Rattle.aps_timer.specs.Buckets.{AreKept, AreNear, IsFurther, IsNear, IsPlaced, bucket_of};
 ghost use Rattle.aps_timer.specs.Order.{goes_before};
 ghost use Rattle.aps_timer.specs.Sleepers.{SleepsUntil};
 
@@ -54,8 +55,8 @@ impl Buckets {
             → IsPlaced self.old.lines.items self.old.begin self.old.further y other
             → IsPlaced self.new.lines.items self.new.begin self.new.further y other }
     {
-        if self.begin <= until && until / SPAN - self.begin / SPAN < BUCKETS {
-            place(&mut self.lines, line_of(until / SPAN), x, true);
+        if self.begin <= until && bucket_of(until) - bucket_of(self.begin) < BUCKETS {
+            place(&mut self.lines, line_until(until), x, true);
         } else {
             place(&mut self.lines, FURTHER, x, true);
             self.further = self.further.min(until);
@@ -72,7 +73,7 @@ impl Buckets {
             → IsPlaced self.old.lines.items self.old.begin self.old.further y other
             → IsPlaced self.new.lines.items self.new.begin self.new.further y other }
     {
-        place(&mut self.lines, line_of(until / SPAN), x, false);
+        place(&mut self.lines, line_until(until), x, false);
         place(&mut self.lines, FURTHER, x, false);
     }
 
@@ -89,6 +90,63 @@ impl Buckets {
         self.further = further;
         first_of(near, late)
     }
+
+    /// Those of a word who can be due at `now`: they stand in one of the buckets up to that of `now`, or in the further list,
+    /// where it is time to look for anybody there.
+    pub fn may_be_due(&self, word: usize, now: Nanos) -> Bits64
+        requires { word < 16 }
+        ensures { (x until : ℕ) → x / 64 ≡ word → IsPlaced self.now.lines.items self.now.begin self.now.further x (Some until)
+            → until ≤ now → has result (x % 64) ≡ true }
+    {
+        let mut bits = self.late(word, now);
+        let (first, last) = (bucket_of(self.begin), bucket_of(now));
+        let mut bucket = first;
+        while bucket <= last && bucket - first < BUCKETS {
+            bits = bits.join(self.lines[WORDS * line_of(bucket) + word]);
+            bucket += 1;
+        }
+        bits
+    }
+
+    /// Those of a word who stand in the further list, where anybody in it can be due at `now`.
+    fn late(&self, word: usize, now: Nanos) -> Bits64
+        requires { word < 16 }
+        ensures { (x until : ℕ) → x / 64 ≡ word → IsFurther self.now.lines.items self.now.further x until → until ≤ now
+            → has result (x % 64) ≡ true }
+    {
+        if now < self.further {
+            Bits64::none()
+        } else {
+            self.lines[WORDS * FURTHER + word]
+        }
+    }
+
+    /// Nobody of the row sleeps until `now` or an earlier moment: the buckets begin after it.
+    pub fn pass(&mut self, row: &[Option<Nanos>], now: Nanos)
+        requires kept { AreKept row.now self.old.lines.items self.old.begin self.old.further }
+        requires later { (x until : ℕ) → SleepsUntil row.now x until → now < until }
+        ensures { AreKept row.now self.new.lines.items self.new.begin self.new.further }
+    {
+        let (further, _) = first_further(row, &self.lines, self.further, now);
+        self.begin = self.begin.max(now.saturating_add(1));
+        self.further = further;
+    }
+}
+
+/// The bucket of a moment: each ends with a moment of whole ms, so that at such a moment a whole bucket is due.
+#[inline(always)]
+fn bucket_of(until: Nanos) -> u64
+    ensures { result ≡ bucket_of until }
+{
+    until.saturating_sub(1) / SPAN
+}
+
+/// The line of the bucket of a moment.
+#[inline(always)]
+fn line_until(until: Nanos) -> usize
+    ensures { result ≡ bucket_of until % 1024 }
+{
+    line_of(bucket_of(until))
 }
 
 /// The line of a bucket.
@@ -117,8 +175,9 @@ fn first_near(
     ensures others { (x until : ℕ) → x ≤ 1023 → SleepsUntil row.now x until → IsNear lines.now begin x until → until ≤ now
         → goes_before (Some (until, x)) result.1 ≡ false }
 {
-    let mut bucket = begin / SPAN;
-    while bucket <= now / SPAN && bucket - begin / SPAN < BUCKETS {
+    let (low, high) = (bucket_of(begin), bucket_of(now));
+    let mut bucket = low;
+    while bucket <= high && bucket - low < BUCKETS {
         match first_in(row, lines, line_of(bucket), begin) {
             Some(first) => return (begin.max(first.until.min(now)), Some(first)),
             None => bucket += 1,

@@ -3,8 +3,9 @@ ghost use Rattle.std.specs.Prelude.{◌≡◌, ℕ, ◌+◌, ◌*◌, ◌/◌, �
 ghost use Rattle.aps_levels.specs.Bits.{has};
 ghost use Rattle.aps_timer.specs.Lines.{IsOfLine, IsOfWord, sleeper_of, stands_in};
 ghost use Rattle.aps_timer.specs.Order.{goes_before};
-ghost use Rattle.aps_timer.specs.Sleepers.{SleepsUntil};
+ghost use Rattle.aps_timer.specs.Sleepers.{SleepsUntil, due_below};
 
+use crate::list::Due;
 use crate::sleeper::{Sleeper, first_of, wakes_by};
 use aps_levels::Bits64;
 use aps_model::{Nanos, ThreadId};
@@ -50,7 +51,7 @@ pub fn first_in(
 }
 
 /// How many words of a line have bits of so many threads.
-fn words_of(threads: usize) -> usize
+pub fn words_of(threads: usize) -> usize
     ensures few { result ≤ 16 }
     ensures enough { (x : ℕ) → x < threads → x ≤ 1023 → x / 64 < result }
 {
@@ -106,5 +107,40 @@ fn sleeper_of(x: ThreadId, until: Option<Nanos>) -> Option<Sleeper>
     match until {
         Some(until) => Some(Sleeper { until, thread: x }),
         None => None,
+    }
+}
+
+/// To those who are due of the threads before this word come those of the word whose moment is at or before `now`. They are
+/// among those who have these bits.
+pub fn add_of_word(row: &[Option<Nanos>], bits: Bits64, word: usize, now: Nanos, due: &mut Due)
+    requires few { word < 16 }
+    requires before { due.old ≡ due_below row.now now (64 * word) }
+    requires bits { (k until : ℕ) → k < 64 → SleepsUntil row.now (64 * word + k) until → until ≤ now → has bits k ≡ true }
+    ensures { due.new ≡ due_below row.now now (64 * word + 64) }
+{
+    let mut left = bits;
+    let mut from = 0;
+    while from < 64 {
+        match left.least() {
+            None => from = 64,
+            Some(bit) => {
+                add_due(row, ThreadId::at(64 * word + bit), now, due);
+                left = left.without_least();
+                from = bit + 1;
+            }
+        }
+    }
+}
+
+/// To those who are due of the threads before this one comes the thread, if its moment is at or before `now`.
+#[inline(always)]
+fn add_due(row: &[Option<Nanos>], x: ThreadId, now: Nanos, due: &mut Due)
+    requires { due.old ≡ due_below row.now now x }
+    ensures { due.new ≡ due_below row.now now (x + 1) }
+{
+    if let Some(until) = moment_of(row, x) {
+        if until <= now {
+            due.insert(Sleeper { until, thread: x });
+        }
     }
 }

@@ -24,7 +24,7 @@ impl Model for Sleeper {
 }
 
 /// Whether `a` wakes before `b`: earlier, or at the same moment with the lower number.
-fn is_earlier(a: &Sleeper, b: &Sleeper) -> bool
+pub fn is_earlier(a: &Sleeper, b: &Sleeper) -> bool
     ensures { result ≡ is_earlier a.now b.now }
 {
     a.until < b.until || (a.until == b.until && a.thread.index() < b.thread.index())

@@ -1,10 +1,9 @@
 //! The timer of a run.
-ghost use Rattle.std.specs.Prelude.{◌≡◌, ℕ, ◌<◌, [], length, replicate, slice_index_or, slice_set, IfOk, IfSome, None};
-ghost use Rattle.aps_timer.specs.Sleepers.{IsFirstDue, SleepsUntil, all_due, later_due, next_due, without};
+ghost use Rattle.std.specs.Prelude.{◌≡◌, ℕ, ◌+◌, ◌<◌, ◌≤◌, ◌++◌, length, replicate, slice_index_or, slice_set, vec_capacity, IfOk, IfSome, Some, None};
+ghost use Rattle.aps_timer.specs.Sleepers.{IsFirstDue, all_due, later_due, next_due, numbers_of, without, without_all};
 
-use crate::buckets::Buckets;
-use crate::lines::moment_of;
-use crate::sleeper::Sleeper;
+use crate::asleep::Asleep;
+use crate::list::Due;
 use aps_model::{Nanos, NoMemory, ThreadId};
 use std::alloc::Global;
 use std::marker::Model;
@@ -12,26 +11,24 @@ use std::marker::Model;
 /// The sleeping threads. Contracts see a row with a place for each thread by its number: the moment, in ns, until which
 /// it sleeps, or nothing where it doesn't sleep. All room is taken when a timer is made.
 pub struct Timer {
-    row: Vec<Option<Nanos>>,
-    buckets: Buckets,
+    asleep: Asleep,
+    /// those whom `take_due` took out last
+    due: Due,
 }
 
 // Written out, so that it is proved here alone: a derived drop is proved again in each crate that lets a value go.
 impl Drop for Timer {
     fn drop(self) {
-        let Self { row: _, buckets: _ } = self;
+        let Self { asleep: _, due: _ } = self;
     }
 }
 
 impl Model for Timer {
     ghost use Rattle.std.specs.Prelude.{ℕ, List, Option};
-    ghost use Rattle.aps_timer.specs.Buckets.{AreKept};
 
     ghost Value = { List (Option ℕ) };
 
-    ghost view = { λ t. t.row.items };
-
-    ghost invariant = { λ t. AreKept t.row.items t.buckets.lines.items t.buckets.begin t.buckets.further };
+    ghost view = { λ t. t.asleep };
 }
 
 impl Timer {
@@ -39,46 +36,38 @@ impl Timer {
     pub fn new(alloc: Global, threads: u16) -> Result<Timer, NoMemory>
         ensures { IfOk result (λ t. t ≡ replicate threads None) }
     {
-        let awake: Option<Nanos> = None;
-        let row = vec![in alloc; awake; usize::from(threads)]?;
-        let buckets = Buckets::new(alloc)?;
-        Ok(Timer { row, buckets })
+        let asleep = Asleep::new(alloc, threads)?;
+        let due = Due::new(alloc)?;
+        Ok(Timer { asleep, due })
     }
 
     /// The thread, which is one of the row and doesn't sleep, sleeps until a moment in ns, which may be an earlier one
     /// than any other.
+    #[inline(always)]
     pub fn sleep(&mut self, x: ThreadId, until: Nanos)
         requires within { x < length self.old }
         requires awake { slice_index_or self.old x None ≡ None }
         ensures row { self.new ≡ slice_set self.old x (Some until) }
         ensures due { (now : ℕ) → now < until → all_due self.new now ≡ all_due self.old now }
     {
-        self.row[x.index()] = Some(until);
-        self.buckets.put(x, until);
+        self.asleep.sleep(x, until);
     }
 
     /// The moment until which the thread sleeps, in ns; nothing where it doesn't sleep, or isn't one of the row.
+    #[inline(always)]
     pub fn until(&self, x: ThreadId) -> Option<Nanos>
         ensures { result ≡ slice_index_or self.now x None }
     {
-        moment_of(&self.row, x)
+        self.asleep.until(x)
     }
 
     /// From now on the thread, if it is one of the row, sleeps until this moment, in ns, or doesn't sleep, whatever it did
     /// before.
+    #[inline(always)]
     pub fn set(&mut self, x: ThreadId, until: Option<Nanos>)
         ensures { self.new ≡ slice_set self.old x until }
     {
-        let before = self.until(x);
-        if before == until || x.index() >= self.row.len() {
-            return;
-        }
-        if let Some(moment) = before {
-            self.wake(x, moment);
-        }
-        if let Some(moment) = until {
-            self.sleep(x, moment);
-        }
+        self.asleep.set(x, until);
     }
 
     /// Takes out, and answers, the sleeper with the least moment, then the least number, if that moment is at or
@@ -90,32 +79,34 @@ impl Timer {
         ensures others { all_due self.new now ≡ later_due (all_due self.old now) }
         ensures left { self.new ≡ without self.old result }
     {
-        let sleeper = self.first_due(now)?;
-        self.wake(sleeper.thread, sleeper.until);
-        Some(sleeper.thread)
+        self.asleep.due_at(now)
     }
 
-    /// The sleeper that `due_at` takes out.
-    fn first_due(&mut self, now: Nanos) -> Option<Sleeper>
-        ensures row { self.new ≡ self.old }
-        ensures asleep { IfSome result (λ s. SleepsUntil self.old s.1 s.0) }
-        ensures first { IfSome result (λ s. IsFirstDue self.old now s.1) }
-        ensures none { result ≡ None → all_due self.old now ≡ [] }
+    /// Takes out all sleepers whose moments are at or before `now`, in ns, and adds their numbers to the list, in order of
+    /// moment, then of number, as `due_at` would answer them one after another. The list has room for them. Nothing need
+    /// rise from call to call.
+    pub fn take_due(&mut self, now: Nanos, woken: &mut Vec<ThreadId>)
+        requires room { length woken.old.items + length (all_due self.old now) ≤ vec_capacity woken.old }
+        ensures woken { woken.new.items ≡ woken.old.items ++ numbers_of (all_due self.old now) }
+        ensures room { vec_capacity woken.new ≡ vec_capacity woken.old }
+        ensures left { self.new ≡ without_all self.old (all_due self.old now) }
     {
-        let sleeper = self.buckets.first(&self.row, now)?;
-        if sleeper.until <= now {
-            Some(sleeper)
-        } else {
-            None
-        }
+        self.asleep.gather(now, &mut self.due);
+        take_out(&mut self.asleep, &self.due, woken);
+        self.asleep.pass(now);
     }
+}
 
-    /// The thread, which sleeps until this moment, doesn't sleep any longer.
-    fn wake(&mut self, x: ThreadId, until: Nanos)
-        requires { slice_index_or self.old x None ≡ Some until }
-        ensures { self.new ≡ slice_set self.old x None }
-    {
-        self.row[x.index()] = None;
-        self.buckets.take(x, until);
+/// Takes these sleepers out, and adds their numbers to the list, which has room for them.
+fn take_out(asleep: &mut Asleep, due: &Due, woken: &mut Vec<ThreadId>)
+    requires room { length woken.old.items + length due.now ≤ vec_capacity woken.old }
+    ensures row { asleep.new ≡ without_all asleep.old due.now }
+    ensures woken { woken.new.items ≡ woken.old.items ++ numbers_of due.now }
+    ensures room { vec_capacity woken.new ≡ vec_capacity woken.old }
+{
+    for i in 0..due.len() {
+        let x = due.at(i).thread;
+        asleep.set(x, None);
+        woken.push_reserved(x);
     }
 }

@@ -116,6 +116,7 @@ impl Window {
 
     /// Goes on by so many ticks, as that many times `rotate`. Condition: the tick that is then current is at most
     /// 100,000,000.
+    #[inline(never)]
     pub fn advance(&mut self, ticks: u32)
         requires { self.old.tick + ticks ≤ 100000000 }
         ensures same { self.new ≡ advanced ticks self.old }

@@ -1,13 +1,16 @@
 //! The program: it reads a scenario from standard input, runs it, and writes what came of it to standard output.
 #![tactic(auto)]
 
-use aps_cpu::ClockGate;
-use aps_io::{StdSink, StdSource, words_of};
+use aps_cpu::{ClockGate, Gate};
+use aps_io::{Sink, Source, StdSink, StdSource, words_of};
 use aps_top::hint::{Given, tell_person};
 use aps_top::kept::KeptSource;
 use aps_top::status::Status;
 use aps_top::top::top;
+use std::alloc::Global;
 use std::process::ExitCode;
+use std::sync::Wait;
+use std::thread::Threads;
 
 fn main(rt: HostRuntime) -> ExitCode {
     let alloc = rt.alloc();
@@ -18,19 +21,25 @@ fn main(rt: HostRuntime) -> ExitCode {
     let mut source = KeptSource::new(alloc, StdSource::new(rt.stdin()));
     // standard output takes each piece at once, so that no fault comes after the last answer
     let mut sink = StdSink::new(rt.stdout());
-    let ended = top(
-        &rt,
-        alloc,
-        &words,
-        &mut source,
-        &mut sink,
-        &ClockGate::new(&rt),
-    );
+    let gate = ClockGate::new(&rt);
+    let status = status_of(&rt, alloc, &words, &mut source, &mut sink, &gate);
     let given = Given {
         bytes: source.kept(),
         is_whole: !source.is_full(),
     };
     // a hint for a person; nothing depends on it
-    let _ = tell_person(&rt, alloc, &words, ended.status, given);
-    ExitCode::from(ended.status)
+    let _ = tell_person(&rt, alloc, &words, status, given);
+    ExitCode::from(status)
+}
+
+/// Makes the call, and answers its status. The history isn't wanted here.
+fn status_of<R: Threads + Wait + Sync, S: Source, K: Sink, G: Gate + Sync>(
+    rt: &R,
+    alloc: Global,
+    words: &[String],
+    source: &mut S,
+    sink: &mut K,
+    gate: &G,
+) -> u8 {
+    top(rt, alloc, words, source, sink, gate).status
 }

@@ -12,7 +12,34 @@ use aps_ready::Ready;
 impl Machine {
     /// The queues have the ready threads after sleepers woke and this thread, if it is one, did its operation, where
     /// they had all whose seat that doesn't touch, and not this thread; or where anything can have changed.
+    #[inline(always)]
     pub fn sync(
+        &self,
+        ready: &mut Ready,
+        is_any: bool,
+        woken: &Woken,
+        own: &Option<ThreadId>,
+        done: &Done,
+    )
+        requires count { length ready.old ≡ length self.now.threads }
+        requires stamped { IsStamped self.now.threads self.now.stamps }
+        requires tied { is_any ≡ false → is_exit done.now ≡ false → (y : ℕ)
+            → (IsTouched woken.now own.now (peer_of done.now) (is_at_channel done.now) self.now.triples y → ⊥)
+            → IsRight self.now ready.old y }
+        requires out { (y : ℕ) → own.now ≡ Some y → who_at ready.old y ≡ None }
+        ensures { ready.new ≡ seats_of self.now }
+    {
+        if !is_any && is_alone(done) && woken.is_empty() {
+            self.sync_own(ready, own);
+        } else {
+            self.sync_touched(ready, is_any, woken, own, done);
+        }
+    }
+
+    /// The same, whatever was touched. It stands apart, so that a thread that did nothing with any other has no part in what
+    /// this needs.
+    #[inline(never)]
+    fn sync_touched(
         &self,
         ready: &mut Ready,
         is_any: bool,
@@ -30,8 +57,6 @@ impl Machine {
     {
         if is_any || is_exit(done) {
             self.sync_all(ready);
-        } else if is_alone(done) && woken.is_empty() {
-            self.sync_own(ready, own);
         } else {
             let peer = peer_of(done);
             self.sync_some(ready, woken, own, &peer, is_at_channel(done));
@@ -191,6 +216,7 @@ pub fn is_alone(done: &Done) -> bool
     ensures same { result ≡ is_alone done.now }
     ensures peer { result ≡ true → peer_of done.now ≡ None }
     ensures channel { result ≡ true → is_at_channel done.now ≡ false }
+    ensures exit { result ≡ true → is_exit done.now ≡ false }
 {
     match done {
         Done::SendBlocked => false,

@@ -76,8 +76,8 @@ impl Machine {
         ensures count { length timer.new ≡ length timer.old }
     {
         if let Some(x) = own {
-            if let Some(_) = self.until_at(*x) {
-                self.time(timer, *x);
+            if let Some(until) = self.until_at(*x) {
+                timer.sleep(*x, until);
             }
         }
     }

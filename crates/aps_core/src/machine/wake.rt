@@ -60,12 +60,16 @@ impl Woken {
         self.list.clear();
     }
 
-    /// One thread more. There is room for it.
-    fn push(&mut self, x: ThreadId)
-        requires { length self.old < 1024 }
-        ensures { self.new ≡ self.old ++ x ∷ [] }
+    /// The sleepers whose moment has come, in order of moment, then of number: they are taken out of the timer.
+    fn take_due(&mut self, timer: &mut Timer, now: Nanos)
+        requires few { length timer.old ≤ 1024 }
+        ensures same { self.new ≡ numbers_of (all_due timer.old now) }
+        ensures few { length self.new ≤ 1024 }
+        ensures count { length timer.new ≡ length timer.old }
+        ensures others { (y : ℕ) → woke self.new y ≡ false → slice_index_or timer.new y None ≡ slice_index_or timer.old y None }
     {
-        self.list.push_reserved(x);
+        self.list.clear();
+        timer.take_due(now, &mut self.list);
     }
 
     /// The threads, in that order.
@@ -99,20 +103,6 @@ impl Woken {
     }
 }
 
-/// Takes the sleepers out whose moment has come, in order of moment, then of number.
-fn take_due(timer: &mut Timer, now: Nanos, woken: &mut Woken)
-    requires few { length timer.old ≤ 1024 }
-    ensures same { woken.new ≡ numbers_of (all_due timer.old now) }
-    ensures few { length woken.new ≤ 1024 }
-    ensures count { length timer.new ≡ length timer.old }
-    ensures others { (y : ℕ) → woke woken.new y ≡ false → slice_index_or timer.new y None ≡ slice_index_or timer.old y None }
-{
-    woken.clear();
-    while let Some(x) = timer.due_at(now) {
-        woken.push(x);
-    }
-}
-
 impl Machine {
     /// The sleepers whose moment has come go on. One whose next operation is a sleep is in the timer again.
     #[inline(never)]
@@ -126,7 +116,7 @@ impl Machine {
     {
         // the check wants to see that there are 1,024 threads at most
         let _count = self.tasks.len();
-        take_due(timer, now, woken);
+        woken.take_due(timer, now);
         for i in 0..woken.len() {
             let x = woken.at(i);
             self.go_on(scenario, x, now);

@@ -3,7 +3,7 @@ use Rattle.aps_bound.proofs.Growth.{windows_done, windows_more}
 use Rattle.aps_bound.proofs.recount.by_recount.Goals as goal
 
 pub loop-a-preserved : goal.loop-a-preserved
-loop-a-preserved c = record { same = search (rules, windows_more); reached = omega arith }
+loop-a-preserved c = record { same = search (rules, windows_more); limits = search rules; reached = omega arith }
 
 pub returns : goal.returns
 returns c = search (rules, windows_done)

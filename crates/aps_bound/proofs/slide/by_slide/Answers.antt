@@ -5,6 +5,7 @@ use Rattle.aps_bound.proofs.slide.by_slide.Goals as goal
 pub loop-a-preserved : goal.loop-a-preserved
 loop-a-preserved c = record {
   same = search (rules, windows_more);
+  limits = search rules;
   reached = omega arith;
   window = search rules;
   first = search rules;

@@ -12,15 +12,15 @@ clash t p q = cc
 
 pub returns-then-is_empty-clause-in_use : goal.returns-then-is_empty-clause-in_use
 returns-then-is_empty-clause-in_use c l g l_below g_below still kept =
-    left_in_use c.args.at_level.now.items c.args.levels c.without.result c.without-rest.result c.args.level l g c.requires.count
-    c.requires.level (c.if-is_empty.ensures.empty (search rules)) c.without.ensures still kept
+    left_in_use c.args.at_level.now.items c.args.levels.now c.remove.new.self c.without-rest.result c.args.level l g c.requires.count
+    c.requires.level (c.if-is_empty.ensures.empty (search rules)) c.remove.ensures still kept
 
 pub returns-then-is_empty-clause-before : goal.returns-then-is_empty-clause-before
-returns-then-is_empty-clause-before c l h = was_in (has_level c.args.levels) (has_level c.without.result) c.args.level l c.without.ensures h
+returns-then-is_empty-clause-before c l h = was_in (has_level c.args.levels.now) (has_level c.remove.new.self) c.args.level l c.remove.ensures h
 
 pub returns-then-is_empty-clause-own : goal.returns-then-is_empty-clause-own
 returns-then-is_empty-clause-own c h =
-    absurd (clash (has_level c.without.result c.args.level) h (is_out (has_level c.args.levels) (has_level c.without.result) c.args.level c.without.ensures))
+    absurd (clash (has_level c.remove.new.self c.args.level) h (is_out (has_level c.args.levels.now) (has_level c.remove.new.self) c.args.level c.remove.ensures))
 
 pub returns-else-is_empty-clause-own : goal.returns-else-is_empty-clause-own
 returns-else-is_empty-clause-own c _ =

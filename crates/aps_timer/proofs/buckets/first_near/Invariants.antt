@@ -1,4 +1,5 @@
-use Rattle.std.proofs.Common.{◌+◌, ◌-◌, ◌/◌}
+use Rattle.std.proofs.Common.{◌+◌, ◌-◌}
+use Rattle.aps_timer.specs.Buckets.{bucket_of}
 use Rattle.aps_timer.proofs.Kept.{IsPassed}
 use Rattle.aps_timer.proofs.buckets.first_near.Given as goal
 
@@ -7,4 +8,4 @@ abbrev pub invariant-loop-bucket : goal.invariant-loop-bucket
 invariant-loop-bucket l = IsPassed l.fn.row l.fn.lines l.fn.begin l.bucket
 
 abbrev pub decreases-loop-bucket : goal.decreases-loop-bucket
-decreases-loop-bucket l = l.fn.now / 1000000 + 1 - l.bucket
+decreases-loop-bucket l = bucket_of l.fn.now + 1 - l.bucket

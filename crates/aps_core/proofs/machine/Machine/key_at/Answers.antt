@@ -1,5 +1,5 @@
-use Rattle.std.proofs.Common.{◌+◌, ◌*◌, ◌-◌, ◌∙◌, ap, arith, cond, nat_le, ◌||◌, length, slice_index}
-use Rattle.aps_model.specs.SchedulerState.{SchedulerState, cpu_at}
+use Rattle.std.proofs.Common.{◌+◌, ◌*◌, ◌-◌, ◌∙◌, ap, arith, cond, slice_index}
+use Rattle.aps_model.specs.SchedulerState.{cpu_at}
 use Rattle.aps_core.specs.declared.posts.Post.{Post}
 use Rattle.aps_core.specs.Posts.{post_at}
 use Rattle.aps_core.proofs.FlagAfter.{key_of, le_false, le_true, rank_of_look}

@@ -19,7 +19,7 @@ use Rattle.aps_core.proofs.machine.Machine.pick.Goals as goal
 pub returns-clause-same : goal.returns-clause-same
 returns-clause-same c =
     let s = c.args.self.now in
-    let parts : c.parts-parts.result.now ≡ all_parts s.shape s.rows (c.args.entries.now ++ c.args.e ∷ []) (c.args.e.to / s.shape.tick) =
+    let parts : c.parts-parts.result.now ≡ all_parts s.shape s.rows (c.args.entries.now ++ c.args.e.now ∷ []) (c.args.e.now.to / s.shape.tick) =
     c.parts-parts.ensures.same ∙ c.requires.stands in
     let starved : c.missing_by-starved.result ≡ missing c.parts-parts.result.now (contenders s) =
     c.missing_by-starved.ensures c.parts-parts.result.now (subst (λ l. AreGates l c.gates-gates.result) (sym c.parts-parts.ensures.same) c.gates-gates.ensures)
@@ -32,7 +32,7 @@ returns-clause-same c =
     let same_free =
     ap (λ (t : SchedulerState). t.shape.free) c.choose.ensures
     ∙ ap (λ (shape : Shape). shape.free) (chosen_shape s c.parts-parts.result.now c.args.cpu c.take_greatest-best.result) in
-    pick_by_parts s c.args.entries.now c.args.cpu c.args.e.to c.args.e
+    pick_by_parts s c.args.entries.now c.args.cpu c.args.e.now.to c.args.e.now
     c.parts-parts.result.now c.missing_by-starved.result c.take_greatest-best.result c.thread_of-picked.result c.choose.new.self
     (greatest c.choose.new.self.shape.free c.parts-parts.result.now (contenders c.choose.new.self)) c.flag_after-flagged.result c.flag.new.self
     parts starved best c.thread_of-picked.ensures c.choose.ensures
@@ -41,7 +41,7 @@ returns-clause-same c =
 pub returns-clause-seats : goal.returns-clause-seats
 returns-clause-seats c =
     taken_seats c.args.self.now c.choose.new.self c.parts-parts.result.now c.args.cpu c.take_greatest-best.result c.args.ready.now c.take_greatest-best.new.self c.requires.seats c.take_greatest-best.ensures.out c.choose.ensures
-    ∙ sym (ap seats_of c.flag.ensures ∙ flagged_seats c.choose.new.self c.args.e.to c.flag_after-flagged.result)
+    ∙ sym (ap seats_of c.flag.ensures ∙ flagged_seats c.choose.new.self c.args.e.now.to c.flag_after-flagged.result)
 
 pub flag_after-flagged-requires-clause-dues : goal.flag_after-flagged-requires-clause-dues
 flag_after-flagged-requires-clause-dues c =
@@ -55,7 +55,7 @@ flag_after-flagged-requires-clause-spare c d past =
 pub returns-clause-flagged : goal.returns-clause-flagged
 returns-clause-flagged c =
     let count : length c.choose.new.self.cpus ≡ length c.flag.new.self.cpus =
-    sym (ap (λ (s : SchedulerState). length s.cpus) c.flag.ensures ∙ (flagged_kept c.choose.new.self c.args.e.to c.flag_after-flagged.result).cpus) in
+    sym (ap (λ (s : SchedulerState). length s.cpus) c.flag.ensures ∙ (flagged_kept c.choose.new.self c.args.e.now.to c.flag_after-flagged.result).cpus) in
     subst (λ n. IfSome c.flag_after-flagged.result (λ d. d < n)) count c.flag_after-flagged.ensures.within
 
 pub flag_after-flagged-requires-clause-seats : goal.flag_after-flagged-requires-clause-seats
@@ -77,7 +77,7 @@ flag_after-flagged-requires-clause-posts c =
 
 pub returns-clause-posts : goal.returns-clause-posts
 returns-clause-posts c =
-    posts_flagged c.choose.new.self c.flag.new.self c.args.e.to c.flag_after-flagged.result c.go_by.new.self c.flag.ensures
+    posts_flagged c.choose.new.self c.flag.new.self c.args.e.now.to c.flag_after-flagged.result c.go_by.new.self c.flag.ensures
     (posts_raised c.choose.new.self c.set.new.self c.go_by.new.self c.go_by.ensures.same
     (posts_picked c.args.self.now c.choose.new.self c.self.inside.shape.free c.parts-parts.result.now c.args.cpu c.take_greatest-best.result c.facts_of.result c.args.ready.now c.args.posts.now c.set.new.self
     (ap (λ (t : SchedulerState). t.shape.free) c.self.view_is) c.take_greatest-best.ensures.picked c.requires.seats c.choose.ensures c.requires.cpu c.facts_of.ensures c.requires.posts c.set.ensures.here c.set.ensures.others))
@@ -87,4 +87,4 @@ returns-clause-kept c =
     subst (IsKept c.args.self.now) (sym c.flag.ensures)
     (kept_then
     (subst (IsKept c.args.self.now) (sym c.choose.ensures) (chosen_kept c.args.self.now c.parts-parts.result.now c.args.cpu c.take_greatest-best.result))
-    (flagged_kept c.choose.new.self c.args.e.to c.flag_after-flagged.result))
+    (flagged_kept c.choose.new.self c.args.e.now.to c.flag_after-flagged.result))

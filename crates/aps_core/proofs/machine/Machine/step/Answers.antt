@@ -1,4 +1,5 @@
-use Rattle.std.proofs.Common.{◌≡◌, ◌≢◌, ℕ, false, ◌<◌, IfSome, ◌/◌, ◌||◌, List, Option, Some, None, ◌≤◌, [], ◌∷◌, ◌++◌, sym, ◌∙◌, refl, subst, length, ap, arith, inl, inr}
+use Rattle.std.proofs.Common.{◌≡◌, ◌≢◌, ℕ, false, ◌<◌, IfSome, ◌/◌, ◌||◌, nat_lt, List, Option, Some, None, ◌≤◌, [], ◌∷◌, ◌++◌, sym, ◌∙◌, refl, subst, length, ap, arith, inl, inr}
+use Rattle.std.proofs.lemmas.Bool.Decides.{nat_tests}
 use Rattle.std.specs.Option.{option_map}
 use Rattle.aps_model.specs.declared.entry.Entry.{Entry}
 use Rattle.aps_model.specs.declared.merit.Contender.{Contender}
@@ -94,7 +95,7 @@ returns-clause-same c =
     (c.of-now.ensures ∙ c.requires.dues c.args.cpu c.requires.ready.exists) c.last_end-from.ensures.same c.begin-running.ensures.running c.begin-running.ensures.same c.begin_tick-commanded.ensures.same c.bill_of-e.ensures.same c.bill.ensures c.test-reboot.ensures in
     step_below c.args.scenario.now c.args.self.now c.args.entries.now c.args.cpu _ _ _ _ _ _ _ b
     (c.is_over.ensures.on c.if-is_over.false).0
-    (c.is_over.ensures.on c.if-is_over.false).1 c.settle-done.ensures c.bill_of-e.ensures.to c.pick-entry.ensures.same
+    (c.is_over.ensures.on c.if-is_over.false).1 c.settle-done.ensures c.bill_of-e.ensures.to c.pick.ensures.same
 
 -- ---- the window
 
@@ -200,8 +201,8 @@ settle-done-requires-clause-room c =
     (c.of-now.ensures ∙ c.requires.dues c.args.cpu c.requires.ready.exists) c.last_end-from.ensures.same c.begin-running.ensures.running c.begin-running.ensures.same c.begin_tick-commanded.ensures.same c.bill_of-e.ensures.same c.bill.ensures c.test-reboot.ensures)
     c.requires.ready.room
 
-pub pick-entry-requires-clause-stands : goal.pick-entry-requires-clause-stands
-pick-entry-requires-clause-stands c =
+pub pick-requires-clause-stands : goal.pick-requires-clause-stands
+pick-requires-clause-stands c =
     let s2 = state_of c.self.inside in
     let e = c.bill_of-e.result in
     let b : IsBilling c.args.scenario.now c.args.self.now c.args.entries.now c.args.cpu c.of-now.result c.last_end-from.result c.tick_of-tick.result c.begin-running.result c.begin-running.new.self s2 e =
@@ -235,8 +236,8 @@ pick-entry-requires-clause-stands c =
 
 pub returns-clause-pending : goal.returns-clause-pending
 returns-clause-pending c =
-    subst (λ n. IsPending c.args.scenario.now n (c.args.entries.now ++ c.pick-entry.result ∷ []) c.begin_tick-commanded.new.ctl) (ap (λ (u : SchedulerState). u.shape.tick) c.begin-running.ensures.same)
-    (c.begin_tick-commanded.ensures.pending c.pick-entry.result ((picked_bill c.settle-done.new.self c.args.entries.now c.args.cpu c.bill_of-e.result.to c.bill_of-e.result c.settle-done.result _ c.pick-entry.ensures.same).to ∙ c.bill_of-e.ensures.to))
+    subst (λ n. IsPending c.args.scenario.now n (c.args.entries.now ++ c.pick.new.e ∷ []) c.begin_tick-commanded.new.ctl) (ap (λ (u : SchedulerState). u.shape.tick) c.begin-running.ensures.same)
+    (c.begin_tick-commanded.ensures.pending c.pick.new.e ((picked_bill c.settle-done.new.self c.args.entries.now c.args.cpu c.bill_of-e.result.to c.bill_of-e.result c.settle-done.result _ c.pick.ensures.same).to ∙ c.bill_of-e.ensures.to))
 
 pub returns-clause-counts : goal.returns-clause-counts
 returns-clause-counts c =
@@ -260,10 +261,10 @@ returns-clause-counts c =
     let tested = tested_shape c.bill.new.self c.args.entries.now e c.test-reboot.new.self c.test-reboot.result c.test-reboot.ensures in
     let settled = settled_shape c.args.scenario.now c.test-reboot.new.self c.of-now.result c.begin-running.result _ c.settle-done.ensures in
     counts_left c.args.scenario.now c.args.self.now c.args.entries.now c.args.cpu c.of-now.result c.last_end-from.result c.tick_of-tick.result c.begin-running.result c.begin-running.new.self s2 e c.add_time.new.window
-    c.requires.ready b with_bill c.pick-entry.new.self c.pick-entry.result (c.pick-entry.ensures.kept.shape ∙ settled ∙ tested ∙ spent) (picked_bill c.settle-done.new.self c.args.entries.now c.args.cpu c.bill_of-e.result.to c.bill_of-e.result c.settle-done.result _ c.pick-entry.ensures.same)
+    c.requires.ready b with_bill c.pick.new.self c.pick.new.e (c.pick.ensures.kept.shape ∙ settled ∙ tested ∙ spent) (picked_bill c.settle-done.new.self c.args.entries.now c.args.cpu c.bill_of-e.result.to c.bill_of-e.result c.settle-done.result _ c.pick.ensures.same)
 
-pub pick-entry-requires-clause-dues : goal.pick-entry-requires-clause-dues
-pick-entry-requires-clause-dues c =
+pub pick-requires-clause-dues : goal.pick-requires-clause-dues
+pick-requires-clause-dues c =
     let s = c.args.self.now in
     let h = c.args.entries.now in
     let before =
@@ -275,8 +276,8 @@ pick-entry-requires-clause-dues c =
     let there = ap (λ (u : SchedulerState). length u.cpus) before in
     c.requires.dues d (omega (arith, inside, there, c.requires.ready.counted)) ∙ sym (c.requires.ready.others d ne) ∙ ap (λ (u : SchedulerState). due u h d) (sym before)
 
-pub pick-entry-requires-clause-spare : goal.pick-entry-requires-clause-spare
-pick-entry-requires-clause-spare c d past =
+pub pick-requires-clause-spare : goal.pick-requires-clause-spare
+pick-requires-clause-spare c d past =
     let s = c.args.self.now in
     let h = c.args.entries.now in
     let before =
@@ -343,37 +344,43 @@ sync-requires-clause-out c y own =
 
 -- ---- how the partitions stand, and what a calm step leaves
 
+none_recorded : (before after : ℕ) (s t : SchedulerState) → before ≡ length s.changes → after ≡ length t.changes → nat_lt before after ≡ false → length t.changes ≤ length s.changes
+none_recorded before after s t was is calm = grind (arith, nat_tests, was, is, calm)
+
 pub stand_by-requires : goal.stand_by-requires
 stand_by-requires c still =
-    let calm = neither c.go_on-is_later.result (c.begin_tick-commanded.result || c.bill_of-e.result.critical) still in
-    let both = neither c.begin_tick-commanded.result c.bill_of-e.result.critical calm.1 in
+    let calm = neither c.go_on-is_later.result (c.begin_tick-commanded.result || nat_lt c.change_count-changes.result c.change_count.result) still in
+    let both = neither c.begin_tick-commanded.result (nat_lt c.change_count-changes.result c.change_count.result) calm.1 in
     let kept = calm_kept c.args.self.now c.args.entries.now c.args.cpu c.begin-running.result c.begin-running.new.self c.begin_tick-commanded.new.self c.bill.new.self c.test-reboot.new.self c.bill_of-e.result c.test-reboot.result
-    c.begin-running.ensures.same (c.begin_tick-commanded.ensures.kept both.0) c.bill.ensures c.test-reboot.ensures both.1 in
+    c.begin-running.ensures.same (c.begin_tick-commanded.ensures.kept both.0) c.bill.ensures c.test-reboot.ensures
+    (none_recorded c.change_count-changes.result c.change_count.result c.bill.new.self c.test-reboot.new.self c.change_count-changes.ensures c.change_count.ensures both.1) in
     others_stand c.bill_of-e.result.billed c.args.self.now.shape c.test-reboot.new.self.shape c.args.self.now.rows c.test-reboot.new.self.rows c.args.window.now c.add_time.new.window c.args.standing.now
     c.requires.stands kept.shape kept.rows
     (λ p apart. c.add_time.ensures.others p apart ∙ ap (λ (w : Window). total_of w p) (c.begin_tick-commanded.ensures.window both.0 ∙ c.go_on-is_later.ensures.stays calm.0))
 
 pub returns-then-is_over-clause-kept : goal.returns-then-is_over-clause-kept
 returns-then-is_over-clause-kept c calm =
-    let both = neither c.begin_tick-commanded.result c.bill_of-e.result.critical calm in
+    let both = neither c.begin_tick-commanded.result (nat_lt c.change_count-changes.result c.change_count.result) calm in
     calm_kept c.args.self.now c.args.entries.now c.args.cpu c.begin-running.result c.begin-running.new.self c.begin_tick-commanded.new.self c.bill.new.self c.test-reboot.new.self c.bill_of-e.result c.test-reboot.result
-    c.begin-running.ensures.same (c.begin_tick-commanded.ensures.kept both.0) c.bill.ensures c.test-reboot.ensures both.1
+    c.begin-running.ensures.same (c.begin_tick-commanded.ensures.kept both.0) c.bill.ensures c.test-reboot.ensures
+    (none_recorded c.change_count-changes.result c.change_count.result c.bill.new.self c.test-reboot.new.self c.change_count-changes.ensures c.change_count.ensures both.1)
 
 pub returns-clause-kept : goal.returns-clause-kept
 returns-clause-kept c calm =
-    let both = neither c.begin_tick-commanded.result c.bill_of-e.result.critical calm in
+    let both = neither c.begin_tick-commanded.result (nat_lt c.change_count-changes.result c.change_count.result) calm in
     let settled : IsKept c.test-reboot.new.self c.settle-done.new.self =
     subst (λ (x : Effect). IsKept c.test-reboot.new.self x.state) c.settle-done.ensures (settled_kept c.args.scenario.now c.test-reboot.new.self c.of-now.result c.begin-running.result) in
     kept_then
     (calm_kept c.args.self.now c.args.entries.now c.args.cpu c.begin-running.result c.begin-running.new.self c.begin_tick-commanded.new.self c.bill.new.self c.test-reboot.new.self c.bill_of-e.result c.test-reboot.result
-    c.begin-running.ensures.same (c.begin_tick-commanded.ensures.kept both.0) c.bill.ensures c.test-reboot.ensures both.1)
-    (kept_then settled c.pick-entry.ensures.kept)
+    c.begin-running.ensures.same (c.begin_tick-commanded.ensures.kept both.0) c.bill.ensures c.test-reboot.ensures
+    (none_recorded c.change_count-changes.result c.change_count.result c.bill.new.self c.test-reboot.new.self c.change_count-changes.ensures c.change_count.ensures both.1))
+    (kept_then settled c.pick.ensures.kept)
 
 pub returns-clause-stands : goal.returns-clause-stands
 returns-clause-stands c =
     let settled : IsKept c.test-reboot.new.self c.settle-done.new.self =
     subst (λ (x : Effect). IsKept c.test-reboot.new.self x.state) c.settle-done.ensures (settled_kept c.args.scenario.now c.test-reboot.new.self c.of-now.result c.begin-running.result) in
-    let after = kept_then settled c.pick-entry.ensures.kept in
+    let after = kept_then settled c.pick.ensures.kept in
     c.stand_by.ensures.same ∙ (λ i. parts_in (sym after.shape i) (sym after.rows i) c.add_time.new.window)
 
 pub returns-then-is_over-clause-same : goal.returns-then-is_over-clause-same
@@ -391,8 +398,8 @@ returns-then-is_over-clause-same c =
 pub settle-done-requires-clause-now : goal.settle-done-requires-clause-now
 settle-done-requires-clause-now c = rw (c.of-now.ensures ∙ c.requires.dues c.args.cpu c.requires.ready.exists) c.requires.ready.early
 
-pub pick-entry-requires-clause-cpu : goal.pick-entry-requires-clause-cpu
-pick-entry-requires-clause-cpu c =
+pub pick-requires-clause-cpu : goal.pick-requires-clause-cpu
+pick-requires-clause-cpu c =
     let b =
     tested_by c.args.scenario.now c.args.self.now c.args.entries.now c.args.cpu _ _ _ _ _ _ _ _ _
     (c.of-now.ensures ∙ c.requires.dues c.args.cpu c.requires.ready.exists) c.last_end-from.ensures.same c.begin-running.ensures.running c.begin-running.ensures.same c.begin_tick-commanded.ensures.same c.bill_of-e.ensures.same c.bill.ensures c.test-reboot.ensures in
@@ -462,7 +469,7 @@ time_done-requires-clause-tied c calm y own peer =
 
 pub returns-clause-timed : goal.returns-clause-timed
 returns-clause-timed c =
-    c.time_done.ensures ∙ sym (picked_sleepers c.settle-done.new.self c.args.entries.now c.args.cpu _ _) ∙ ap (λ (out : Step). sleepers_of out.state) c.pick-entry.ensures.same
+    c.time_done.ensures ∙ sym (picked_sleepers c.settle-done.new.self c.args.entries.now c.args.cpu _ _) ∙ ap (λ (out : Step). sleepers_of out.state) c.pick.ensures.same
 
 -- ---- what each processor runs
 

@@ -16,7 +16,7 @@ use Rattle.aps_core.proofs.machine.Machine.wake_all.Goals as goal
 
 pub loop-i-preserved : goal.loop-i-preserved
 loop-i-preserved c = record {
-  same = grind (arith, common_steps, woken_more c.args.scenario.now c.args.now c.args.self.now c.take_due.new.woken c.loop-i.i);
+  same = grind (arith, common_steps, woken_more c.args.scenario.now c.args.now c.args.self.now c.take_due.new.self c.loop-i.i);
   room =
       let place : 256 + c.loop-i.i + 1 ≡ 256 + (c.loop-i.i + 1) = omega arith in
       let stamp : 6000000000 + c.loop-i.i + 1 ≡ 6000000000 + (c.loop-i.i + 1) = omega arith in
@@ -33,7 +33,7 @@ loop-i-preserved c = record {
         let apart = subst (λ z. y ≢ z) c.at-x.ensures other in
         c.time.ensures.others y (subst (λ (s : SchedulerState). IsTimed s c.loop-i.timer y) (sym c.go_on.ensures)
         (others_sleep c.args.scenario.now c.loop-i.self c.loop-i.timer c.at-x.result c.args.now y other
-        (c.loop-i.invariant.timed y (woke_after c.take_due.new.woken c.loop-i.i y (omega (arith, c.loop-i-test.true, c.len-i-end.ensures)) apart absent))))
+        (c.loop-i.invariant.timed y (woke_after c.take_due.new.self c.loop-i.i y (omega (arith, c.loop-i-test.true, c.len-i-end.ensures)) apart absent))))
   ];
 }
 
@@ -50,7 +50,7 @@ loop-i-init c = record {
   timed = λ y absent. c.take_due.ensures.others y absent ∙ timed_each c.args.self.now c.args.timer.now c.requires.timed y;
 }
 
-waked : (c : goal.After-loop-i) → c.take_due.new.woken ≡ numbers_of (waking c.args.self.now c.args.now)
+waked : (c : goal.After-loop-i) → c.take_due.new.self ≡ numbers_of (waking c.args.self.now c.args.now)
 waked c = c.take_due.ensures.same ∙ ap numbers_of (those_due c.args.self.now c.args.timer.now c.args.now c.requires.timed)
 
 pub returns-clause-woken : goal.returns-clause-woken
@@ -59,13 +59,13 @@ returns-clause-woken c = waked c
 pub returns-clause-same : goal.returns-clause-same
 returns-clause-same c =
     c.loop-i.invariant.same
-    ∙ ap (all_woken c.args.scenario.now c.args.now c.args.self.now) (take_all _ c.take_due.new.woken (omega (arith, c.loop-i-test.false, c.len-i-end.ensures)))
-    ∙ all_wakes c.args.scenario.now c.args.now c.args.self.now c.take_due.new.woken (waked c)
+    ∙ ap (all_woken c.args.scenario.now c.args.now c.args.self.now) (take_all _ c.take_due.new.self (omega (arith, c.loop-i-test.false, c.len-i-end.ensures)))
+    ∙ all_wakes c.args.scenario.now c.args.now c.args.self.now c.take_due.new.self (waked c)
 
 pub returns-clause-timed : goal.returns-clause-timed
 returns-clause-timed c =
     sleepers_by c.loop-i.self c.loop-i.timer c.loop-i.invariant.count
-    (λ x below. c.loop-i.invariant.timed x (ap (λ (l : List ℕ). woke l x) (drop_of_length-le c.take_due.new.woken (omega (arith, c.loop-i-test.false, c.len-i-end.ensures)))))
+    (λ x below. c.loop-i.invariant.timed x (ap (λ (l : List ℕ). woke l x) (drop_of_length-le c.take_due.new.self (omega (arith, c.loop-i-test.false, c.len-i-end.ensures)))))
 
 pub take_due-requires : goal.take_due-requires
 take_due-requires c = record {

@@ -1,4 +1,4 @@
-use Rattle.std.proofs.Common.{◌≡◌, ◌<◌, ◌≤◌, ◌/◌, ◌∙◌, length, arith, refl, [], ◌∷◌, ◌++◌, ap, IfSome, None, subst, sym}
+use Rattle.std.proofs.Common.{◌≡◌, ◌/◌, ◌∙◌, length, arith, refl, [], ◌∷◌, ◌++◌, ap, IfSome, None, subst, sym}
 use Rattle.aps_model.specs.Due.{due, last_to}
 use Rattle.aps_model.specs.History.{History}
 use Rattle.aps_model.specs.Scenario.{Scenario}

@@ -1,10 +1,8 @@
-use Rattle.std.proofs.Common.{◌≡◌, ◌<◌, ◌≤◌, Bool, ℕ, List, length, length-set, slice_set, All, ap, sym, subst, ◌∙◌, arith}
+use Rattle.std.proofs.Common.{◌≡◌, ◌<◌, List, length, length-set, slice_set, ap, sym, subst, ◌∙◌, arith}
 use Rattle.std.proofs.lemmas.Grind.{common_steps}
 use Rattle.std.proofs.lemmas.List.Elements.{All-set}
 use Rattle.aps_model.specs.declared.merit.PartFacts.{PartFacts}
 use Rattle.aps_model.specs.Budget.{part_at}
-use Rattle.aps_ready.specs.Gates.{AreGates}
-use Rattle.aps_core.specs.Classes.{AreClasses}
 use Rattle.aps_core.specs.Small.{IsSmall}
 use Rattle.aps_core.specs.Standing.{IsStanding, OpensAlike}
 use Rattle.aps_core.proofs.ClassesStay.{classes_stay}
