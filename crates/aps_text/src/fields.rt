@@ -11,6 +11,7 @@ pub const LAST_THREAD: u64 = 1023;
 pub type Reading<'a, T> = Result<(T, &'a [u8]), &'a [u8]>;
 
 /// The bytes behind this word.
+#[inline(always)]
 pub fn word<'a>(bytes: &'a [u8], word: &[u8]) -> Result<&'a [u8], &'a [u8]>
     ensures { Gives (λ rest. rest.now) result (word_at word.now bytes.now) }
 {
@@ -28,6 +29,7 @@ pub fn word<'a>(bytes: &'a [u8], word: &[u8]) -> Result<&'a [u8], &'a [u8]>
 }
 
 /// A number of at most `most`, without a leading zero, and the byte behind it.
+#[inline(always)]
 pub fn number(bytes: &[u8], most: u64, stop: u8) -> Reading<u64>
     requires { most ≤ last_moment }
     ensures read { Gives (λ x. (x.0, x.1.now)) result (number_at most stop bytes.now) }
@@ -43,6 +45,7 @@ pub fn number(bytes: &[u8], most: u64, stop: u8) -> Reading<u64>
 }
 
 // The digits that follow those of `first`, and the byte behind them.
+#[inline(always)]
 fn digits(bytes: &[u8], most: u64, stop: u8, first: u64) -> Reading<u64>
     requires within { first ≤ most }
     requires most { most ≤ last_moment }
@@ -69,6 +72,7 @@ fn digits(bytes: &[u8], most: u64, stop: u8, first: u64) -> Reading<u64>
 }
 
 /// A number of at most `most`, or `-`, and the byte behind it.
+#[inline(always)]
 pub fn number_or_none(bytes: &[u8], most: u64, stop: u8) -> Reading<Option<u64>>
     requires { most ≤ last_moment }
     ensures read { Gives (λ x. (x.0, x.1.now)) result (option_at most stop bytes.now) }
@@ -82,6 +86,7 @@ pub fn number_or_none(bytes: &[u8], most: u64, stop: u8) -> Reading<Option<u64>>
 }
 
 /// The number of a thread, and a space.
+#[inline(always)]
 pub fn thread(bytes: &[u8]) -> Reading<u64>
     ensures read { Gives (λ x. (x.0, x.1.now)) result (number_at 1023 32 bytes.now) }
     ensures within { IfOk result (λ x. x.0 ≤ 1023) }
@@ -90,6 +95,7 @@ pub fn thread(bytes: &[u8]) -> Reading<u64>
 }
 
 /// The mark of critical time, and a space.
+#[inline(always)]
 pub fn mark(bytes: &[u8]) -> Reading<bool>
     ensures { Gives (λ x. (x.0, x.1.now)) result (mark_at bytes.now) }
 {

@@ -36,6 +36,7 @@ fn later(bytes: &[u8]) -> Reading<Done>
 }
 
 // This, where the bytes go on with the rest of its word.
+#[inline(always)]
 fn constant<'a>(bytes: &'a [u8], rest_of_word: &[u8], done: Done) -> Reading<'a, Done>
     ensures { Gives (λ x. (x.0, x.1.now)) result (whole_word rest_of_word.now done bytes.now) }
 {
