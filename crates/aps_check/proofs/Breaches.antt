@@ -1,13 +1,13 @@
 -- What the answers of a core say of a journal.
-use Rattle.std.proofs.Common.{◌≡◌, ℕ, ◌+◌, ◌<◌, ◌≤◌, List, [], ◌∷◌, ◌++◌, length, take, drop, get_or, drop-cons, add-one, refl, sym, ap, subst, ◌∙◌, arith, Option, None}
-use Rattle.std.proofs.lemmas.List.{take-append-drop, take_all, take_more}
+use Rattle.std.proofs.Common.{◌≡◌, ℕ, ◌+◌, ◌<◌, ◌≤◌, List, [], ◌∷◌, ◌++◌, length, take, drop, get_or, drop-cons, add-one, refl, sym, ap, subst, ◌∙◌, append_assoc, arith, Option, None}
+use Rattle.std.proofs.lemmas.List.{append-nil, take-append-drop, take_all, take_more}
 use Rattle.aps_model.specs.declared.entry.End.{End}
 use Rattle.aps_model.specs.declared.entry.Entry.{Entry}
 use Rattle.aps_model.specs.Legal.{IsLegal}
 use Rattle.aps_model.specs.Valid.{IsScenario}
 use Rattle.aps_laws.specs.Runs.{EndsNoSooner}
 use Rattle.aps_laws.proofs.Counts.{counts_law}
-use Rattle.aps_core.specs.Run.{Run, Setup, end_of_run}
+use Rattle.aps_core.specs.Run.{Run, end_of_run}
 use Rattle.aps_core.specs.Turn.{with_entry}
 use Rattle.aps_check.specs.declared.judging.Breach.{Breach}
 use Rattle.aps_check.specs.declared.verdict.Rule.TheVariants.{Turn}
@@ -21,47 +21,55 @@ missing_waits : (run : Run) (c : ℕ) → IsScenario run.setup.scenario → IsLe
 missing_waits run c valid legal high = λ turn.
     omega (arith, turn.exists, high, (counts_law run.setup.scenario run.setup.order run.entries valid legal).sizes.cpus)
 
--- the run of the first entries of a journal
-abbrev pub front : Setup → List Entry → ℕ → Run
-front setup journal i = record { setup = setup; entries = take i journal }
+-- the run's setup with these entries
+abbrev with_entries : Run → List Entry → Run
+with_entries run h = record { setup = run.setup; entries = h }
+
+-- the run with the first of these entries behind its own
+abbrev pub behind : Run → List Entry → ℕ → Run
+behind run entries i = record { setup = run.setup; entries = run.entries ++ take i entries }
+
+pub nothing_behind : (run : Run) (entries : List Entry) → run ≡ behind run entries 0
+nothing_behind run entries =
+    ap (λ h. with_entries run h) (sym (append-nil run.entries))
 
 -- what the next entry breaks is the journal's first breach
-pub first_breach : (setup : Setup) (journal : List Entry) (i : ℕ) (e : Entry) (breach : Breach) → i < length journal
-    → get_or journal i e ≡ e → IsBreach (front setup journal i) e breach
-    → IsFirstBreach setup journal breach.place breach.rule breach.expected
-first_breach setup journal i e breach less is b = record {
-  before = take i journal;
+pub first_breach : (run : Run) (entries : List Entry) (i : ℕ) (e : Entry) (breach : Breach) → i < length entries
+    → get_or entries i e ≡ e → IsBreach (behind run entries i) e breach
+    → IsFirstBreach run.setup (run.entries ++ entries) breach.place breach.rule breach.expected
+first_breach run entries i e breach less is b = record {
+  before = run.entries ++ take i entries;
   entry = e;
-  later = drop (i + 1) journal;
-  parts = sym (take-append-drop i journal) ∙ ap (λ l. take i journal ++ l) (cut ∙ ap (λ x. x ∷ drop (i + 1) journal) is);
+  later = drop (i + 1) entries;
+  parts = ap (λ l. run.entries ++ l) (sym (take-append-drop i entries) ∙ ap (λ l. take i entries ++ l) (cut ∙ ap (λ x. x ∷ drop (i + 1) entries) is))
+      ∙ sym (append_assoc run.entries (take i entries) (e ∷ drop (i + 1) entries));
   at_place = sym b.place;
   sound = b.sound;
   breaks = b.breaks;
 }
   where
-    cut : drop i journal ≡ get_or journal i e ∷ drop (i + 1) journal
-    cut = rw (add-one, drop-cons journal i e) refl
+    cut : drop i entries ≡ get_or entries i e ∷ drop (i + 1) entries
+    cut = rw (add-one, drop-cons entries i e) refl
 
 -- where the entry breaks nothing, the run has it too
-pub front_more : (setup : Setup) (journal : List Entry) (i : ℕ) (e : Entry) (run later : Run) → i < length journal
-    → get_or journal i e ≡ e → run ≡ front setup journal i → later ≡ with_entry run e
-    → later ≡ front setup journal (i + 1)
-front_more setup journal i e run later less is same goes_on =
-    let whole : Setup → List Entry → Run = λ s h. record { setup = s; entries = h } in
+pub one_behind : (run : Run) (entries : List Entry) (i : ℕ) (e : Entry) (now later : Run) → i < length entries
+    → get_or entries i e ≡ e → now ≡ behind run entries i → later ≡ with_entry now e
+    → later ≡ behind run entries (i + 1)
+one_behind run entries i e now later less is same goes_on =
     goes_on ∙ ap (λ (r : Run). with_entry r e) same
-    ∙ ap (whole setup) (sym (take_more journal i e less ∙ ap (λ x. take i journal ++ x ∷ []) is))
+    ∙ ap (λ h. with_entries run h) (append_assoc run.entries (take i entries) (e ∷ [])
+        ∙ ap (λ l. run.entries ++ l) (sym (take_more entries i e less ∙ ap (λ x. take i entries ++ x ∷ []) is)))
 
 -- where no entry is left, the journal is the run's
-pub legal_journal : (setup : Setup) (journal : List Entry) (i : ℕ) (run : Run) (end : Option End) → length journal ≤ i
-    → run ≡ front setup journal i
-    → IsLegal run.setup.scenario run.setup.order run.entries → EndsNoSooner run.setup.scenario run.setup.limit run.entries
-    → end ≡ end_of_run run
-    → IsLegalJournal setup journal end
-legal_journal setup journal i run end past same legal no_sooner ended =
+pub legal_journal : (run : Run) (entries : List Entry) (i : ℕ) (now : Run) (end : Option End) → length entries ≤ i
+    → now ≡ behind run entries i
+    → IsLegal now.setup.scenario now.setup.order now.entries → EndsNoSooner now.setup.scenario now.setup.limit now.entries
+    → end ≡ end_of_run now
+    → IsLegalJournal run.setup (run.entries ++ entries) end
+legal_journal run entries i now end past same legal no_sooner ended =
     let P : Run → Type 0 = λ r. IsLegalJournal r.setup r.entries end in
-    let whole : Setup → List Entry → Run = λ s h. record { setup = s; entries = h } in
-    let own : P run = record { sound = record { legal = legal; no_sooner = no_sooner }; ended = sym ended } in
-    subst P (same ∙ ap (whole setup) (take_all i journal past)) own
+    let own : P now = record { sound = record { legal = legal; no_sooner = no_sooner }; ended = sym ended } in
+    subst P (same ∙ ap (λ l. with_entries run (run.entries ++ l)) (take_all i entries past)) own
 
 -- an entry of a processor that doesn't exist is out of turn
 pub missing_breach : (run : Run) (e : Entry) (place : ℕ) → IsScenario run.setup.scenario

@@ -1,3 +1,4 @@
 mod Differences
 pub mod Verdicts
 mod Breaches
+pub mod FollowedLines

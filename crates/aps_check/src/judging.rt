@@ -1,7 +1,8 @@
 //! A journal judged entry by entry, beside a core that makes the steps.
-ghost use Rattle.std.specs.Prelude.{◌≡◌, ◌≤◌, IfOk, MatchOption};
+ghost use Rattle.std.specs.Prelude.{◌≡◌, ◌≤◌, ◌++◌, IfOk, MatchOption};
 ghost use Rattle.aps_core.specs.Turn.{IsTaken, with_entry};
 ghost use Rattle.aps_check.specs.Breach.{IsBreach};
+ghost use Rattle.aps_check.specs.Following.{begun};
 ghost use Rattle.aps_check.specs.Verdict.{IsVerdict};
 ghost use Rattle.aps_model.specs.Limits.{most_entries};
 
@@ -29,19 +30,35 @@ pub fn check(
     requires few { limit ≤ most_entries }
     ensures { IfOk result (IsVerdict (record { scenario = scenario.now; order = order; limit = limit }) journal.now) }
 {
-    let mut core = Core::boot(alloc, scenario.copy(alloc)?, order, limit)?;
-    for entry in journal {
-        if let Some(breach) = breach_of(&mut core, entry) {
-            return Ok(Verdict::Breaks {
+    let mut core = boot(alloc, scenario, order, limit)?;
+    Ok(judge(&mut core, journal))
+}
+
+/// A run of the scenario that has no entries yet.
+pub fn boot(alloc: Global, scenario: &Scenario, order: Order, limit: u32) -> Result<Core, NoMemory>
+    requires some { 1 ≤ limit }
+    requires few { limit ≤ most_entries }
+    ensures { IfOk result (λ core. core ≡ begun (record { scenario = scenario.now; order = order; limit = limit })) }
+{
+    Core::boot(alloc, scenario.copy(alloc)?, order, limit)
+}
+
+/// The verdict on the journal of the core's entries and these behind them.
+pub fn judge(core: &mut Core, entries: &[Entry]) -> Verdict
+    ensures { IsVerdict core.old.setup (core.old.entries ++ entries.now) result }
+{
+    for entry in entries {
+        if let Some(breach) = breach_of(core, entry) {
+            return Verdict::Breaks {
                 entry: breach.place,
                 rule: breach.rule,
                 expected: breach.expected,
-            });
+            };
         }
     }
-    Ok(Verdict::Legal {
+    Verdict::Legal {
         end: core.history().end(),
-    })
+    }
 }
 
 /// What the entry behind the first `place` entries breaks, and the entry of the step that its processor makes there.

@@ -3,10 +3,12 @@
 #![tactic(auto)]
 
 mod difference;
+mod following;
 mod judging;
 pub mod laws;
 pub mod text;
 mod verdict;
 
+pub use following::check_text;
 pub use judging::check;
 pub use verdict::{Rule, Verdict};

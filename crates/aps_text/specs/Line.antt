@@ -1,5 +1,5 @@
 -- A line.
-use Rattle.std.specs.Prelude.{ℕ, List, Ok}
+use Rattle.std.specs.Prelude.{ℕ, List, Option, Some, None, Ok, Err}
 use Rattle.aps_model.specs.declared.entry.Entry.{Entry}
 use Rattle.aps_text.specs.Reader.{◌>>=◌, Reading, number_at}
 use Rattle.aps_text.specs.Fields.{option_at, mark_at}
@@ -34,3 +34,11 @@ line_at bytes = do
     },
     flagged.1,
   )
+
+abbrev pub read_value : Reading ℕ → Option ℕ
+read_value (Ok x) = Some x.0
+read_value (Err rest) = None
+
+-- the processor that the bytes name, as a line does first
+abbrev pub cpu_of_line : List ℕ → Option ℕ
+cpu_of_line bytes = read_value (number_at 15 32 bytes)

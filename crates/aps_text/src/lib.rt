@@ -12,6 +12,6 @@ mod separator;
 
 pub use line::{LineBuffer, MAX_LINE};
 pub use printing::print_journal;
-pub use reading::read_journal;
+pub use reading::{cpu_of_line, read_journal};
 pub use refusal::JournalRefusal;
 pub use separator::{JournalAt, journal_at};

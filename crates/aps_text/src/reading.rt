@@ -3,7 +3,7 @@ ghost use Rattle.std.specs.Prelude.{◌≡◌, ◌≤◌, IfOk, IfErr, IfSome, M
 ghost use Rattle.aps_model.specs.declared.entry.Entry.{Entry as PlainEntry};
 ghost use Rattle.aps_model.specs.Journal.{IsJournal};
 ghost use Rattle.aps_text.specs.Reader.{Gives};
-ghost use Rattle.aps_text.specs.Line.{line_at};
+ghost use Rattle.aps_text.specs.Line.{cpu_of_line, line_at};
 ghost use Rattle.aps_text.specs.Refusal.{Refuses};
 ghost use Rattle.aps_text.specs.declared.refusal.JournalRefusal.TheVariants.{NoMemory};
 
@@ -48,6 +48,17 @@ pub fn read_journal(alloc: Global, bytes: &[u8]) -> Result<Vec<Entry>, JournalRe
         }
     }
     Ok(entries)
+}
+
+/// The processor that the bytes name, as each line does first: its number and a space. `None` comes where they begin
+/// otherwise. It takes no memory.
+pub fn cpu_of_line(bytes: &[u8]) -> Option<CpuId>
+    ensures { result ≡ cpu_of_line bytes.now }
+{
+    match number(bytes, LAST_CPU, b' ') {
+        Ok((cpu, _)) => Some(CpuId::at(cpu as usize)),
+        Err(_) => None,
+    }
 }
 
 // An entry by its line.

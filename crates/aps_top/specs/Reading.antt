@@ -1,8 +1,11 @@
 -- What came of reading the source.
 use Rattle.std.specs.Prelude.{◌≡◌, ℕ, ◌+◌, ◌≤◌, List, [], length, Option, Some, None, Result, Ok, Err, ⊤}
 use Rattle.std.specs.Io.KnownBytes.{Consumes, IsAtEnd}
+use Rattle.aps_check.specs.declared.verdict.Verdict.{Verdict}
+use Rattle.aps_check.specs.Verdict.{IsVerdict}
 use Rattle.aps_core.specs.Run.{Run}
 use Rattle.aps_io.specs.Causes.{Rose}
+use Rattle.aps_model.specs.declared.entry.Entry.{Entry}
 use Rattle.aps_model.specs.declared.entry.Order.{Order}
 use Rattle.aps_model.specs.Scenario.{Scenario}
 use Rattle.aps_scenario.specs.Demands.{Demands, reads_demands}
@@ -11,7 +14,6 @@ use Rattle.aps_words.specs.declared.command.Command.{Command}
 use Rattle.aps_words.specs.declared.command.Command.TheVariants as command
 use Rattle.aps_top.specs.declared.outcome.Outcome.{Outcome}
 use Rattle.aps_top.specs.declared.outcome.Outcome.TheVariants.{ReadFault, TooLong, InputRefused, NoMemory}
-use Rattle.aps_top.specs.declared.reading.Recorded.{Recorded}
 use Rattle.aps_top.specs.declared.refusal.InputRefusal.{InputRefusal}
 use Rattle.aps_top.specs.CheckInput.{IsCheck, check_refusal}
 use Rattle.aps_top.specs.Refusal.{scenario_refusal, demands_refusal}
@@ -79,8 +81,10 @@ IsScenarioText bytes scenario = reads bytes ≡ Ok scenario
 abbrev pub IsDemandsText : List ℕ → Demands → Type 0
 IsDemandsText bytes demands = reads_demands bytes ≡ Ok demands
 
-abbrev pub IsRecordedText : List ℕ → Recorded → Type 0
-IsRecordedText bytes recorded = IsCheck bytes recorded.scenario recorded.entries.items
+-- the verdict on the journal that the text has behind its scenario, in this order and with this limit
+abbrev pub IsJudgedText : Order → ℕ → List ℕ → Verdict → Type 0
+IsJudgedText order limit bytes verdict = (scenario : Scenario) × (entries : List Entry) × IsCheck bytes scenario entries
+    × IsVerdict (record { scenario = scenario; order = order; limit = limit }) entries verdict
 
 -- what the bytes that were read of a source give
 abbrev pub GivesIn : {A : Type 0} → (List ℕ → Option InputRefusal) → (List ℕ → A → Type 0) → ℕ → Intake → Result A Outcome → Type 0
@@ -93,8 +97,8 @@ GivesScenario intake result = GivesIn scenario_refusal IsScenarioText most_scena
 abbrev pub GivesDemands : Intake → Result Demands Outcome → Type 0
 GivesDemands intake result = GivesIn demands_refusal IsDemandsText most_scenario_bytes intake result
 
-abbrev pub GivesRecorded : Intake → Result Recorded Outcome → Type 0
-GivesRecorded intake result = GivesIn check_refusal IsRecordedText most_journal_bytes intake result
+abbrev pub GivesVerdict : Order → ℕ → Intake → Result Verdict Outcome → Type 0
+GivesVerdict order limit intake result = GivesIn check_refusal (IsJudgedText order limit) most_journal_bytes intake result
 
 -- ---- the beginning of a run
 

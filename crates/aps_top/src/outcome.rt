@@ -14,14 +14,14 @@ ghost use Rattle.aps_model.specs.Limits.{most_entries};
 
 use crate::answer::{print_admission, print_verdict};
 use crate::printing::print;
-use crate::reading::{read_demands, read_recorded, read_scenario};
+use crate::reading::{read_demands, read_scenario, read_verdict};
 use crate::refusal::{InputRefusal, print_refusal};
 use crate::report::print_report;
 use crate::run::{begin, run_to_end};
 use crate::status::Status;
 use crate::threads::run_on_threads;
 use aps_admit::{Admission, admit};
-use aps_check::{Verdict, check};
+use aps_check::Verdict;
 use aps_cpu::Gate;
 use aps_gen::generate;
 use aps_io::{Sink, Source};
@@ -234,13 +234,9 @@ impl Outcome {
         ensures { IsOutcome (Some (asked.Check order limit))
             (intake_of (S.left source.old) (S.left source.new) (S.faults source.old) (S.faults source.new)) result }
     {
-        let recorded = match read_recorded(alloc, source) {
-            Ok(recorded) => recorded,
-            Err(outcome) => return outcome,
-        };
-        match check(alloc, &recorded.scenario, order, limit, &recorded.entries) {
+        match read_verdict(alloc, order, limit, source) {
             Ok(verdict) => Outcome::Checked { verdict },
-            Err(_) => Outcome::NoMemory,
+            Err(outcome) => outcome,
         }
     }
 

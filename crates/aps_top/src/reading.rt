@@ -1,26 +1,21 @@
-//! What a source gives: a scenario, demands, or a scenario with a journal; or the outcome of the call where it gives none.
+//! What a source gives: a scenario, demands, or the verdict on a journal; or the outcome of the call where it gives none.
 ghost use Rattle.std.specs.Prelude.{◌≡◌, ◌≤◌, length, IfSome};
+ghost use Rattle.aps_model.specs.Limits.{most_entries};
 ghost use Rattle.aps_text.specs.Separator.{journal_place};
 ghost use Rattle.aps_top.specs.CheckInput.{check_refusal};
 ghost use Rattle.aps_top.specs.Outcome.{not_read, of_refusal, of_journal_refusal};
-ghost use Rattle.aps_top.specs.Reading.{GivesScenario, GivesDemands, GivesRecorded, GivesText, IsScenarioText, IsDemandsText, IsRecordedText, intake_of};
+ghost use Rattle.aps_top.specs.Reading.{GivesScenario, GivesDemands, GivesText, GivesVerdict, IsScenarioText, IsDemandsText, IsJudgedText, intake_of};
 ghost use Rattle.aps_top.specs.Refusal.{scenario_refusal, demands_refusal};
 
 use crate::outcome::Outcome;
 use crate::refusal::InputRefusal;
+use aps_check::{Verdict, check_text};
 use aps_io::{ReadRefusal, Source, read_all};
 use aps_model::limits::{MOST_JOURNAL_BYTES, MOST_SCENARIO_BYTES};
-use aps_model::{Entry, Scenario};
+use aps_model::{Order, Scenario};
 use aps_scenario::{Demands, ScenarioRefusal, demands_of, scenario_of};
-use aps_text::{JournalAt, JournalRefusal, journal_at, read_journal};
+use aps_text::{JournalAt, JournalRefusal, journal_at};
 use std::alloc::Global;
-
-/// A scenario, and the entries of a journal of it.
-#[derive(Drop)]
-pub struct Recorded {
-    pub scenario: Scenario,
-    pub entries: Vec<Entry>,
-}
 
 /// Reads the source, and gives the scenario that its bytes are.
 pub fn read_scenario<S: Source>(alloc: Global, source: &mut S) -> Result<Scenario, Outcome>
@@ -42,12 +37,15 @@ pub fn read_demands<S: Source>(alloc: Global, source: &mut S) -> Result<Demands,
     }
 }
 
-/// Reads the source, and gives the scenario and the journal that its bytes are.
-pub fn read_recorded<S: Source>(alloc: Global, source: &mut S) -> Result<Recorded, Outcome>
-    ensures { GivesRecorded (intake_of (S.left source.old) (S.left source.new) (S.faults source.old) (S.faults source.new)) result }
+/// Reads the source, and judges the journal that its bytes have behind their scenario.
+pub fn read_verdict<S: Source>(alloc: Global, order: Order, limit: u32, source: &mut S) -> Result<Verdict, Outcome>
+    requires some { 1 ≤ limit }
+    requires few { limit ≤ most_entries }
+    ensures { GivesVerdict order limit
+        (intake_of (S.left source.old) (S.left source.new) (S.faults source.old) (S.faults source.new)) result }
 {
     match read_all(alloc, source, MOST_JOURNAL_BYTES) {
-        Ok(bytes) => recorded_in(alloc, &bytes),
+        Ok(bytes) => verdict_in(alloc, order, limit, &bytes),
         Err(refusal) => Err(not_read(refusal)),
     }
 }
@@ -83,10 +81,12 @@ fn demands_in(alloc: Global, bytes: &[u8]) -> Result<Demands, Outcome>
     }
 }
 
-/// The scenario and the entries that these bytes are: they are separated by the line `--- journal`.
-fn recorded_in(alloc: Global, bytes: &[u8]) -> Result<Recorded, Outcome>
-    requires { length bytes.now ≤ 310000000 }
-    ensures { GivesText (check_refusal bytes.now) (IsRecordedText bytes.now) result }
+/// The verdict on the journal that these bytes have behind a scenario: they are separated by the line `--- journal`.
+fn verdict_in(alloc: Global, order: Order, limit: u32, bytes: &[u8]) -> Result<Verdict, Outcome>
+    requires some { 1 ≤ limit }
+    requires few { limit ≤ most_entries }
+    requires short { length bytes.now ≤ 310000000 }
+    ensures { GivesText (check_refusal bytes.now) (IsJudgedText order limit bytes.now) result }
 {
     let Some(at) = parted(bytes) else {
         return Err(Outcome::InputRefused(InputRefusal::NoJournal));
@@ -95,8 +95,8 @@ fn recorded_in(alloc: Global, bytes: &[u8]) -> Result<Recorded, Outcome>
         Ok(scenario) => scenario,
         Err(refusal) => return Err(of_refusal(&refusal)),
     };
-    match read_journal(alloc, &bytes[at.journal_from..]) {
-        Ok(entries) => Ok(Recorded { scenario, entries }),
+    match check_text(alloc, &scenario, order, limit, &bytes[at.journal_from..]) {
+        Ok(verdict) => Ok(verdict),
         Err(refusal) => Err(of_journal_refusal(refusal)),
     }
 }
