@@ -1,5 +1,5 @@
-use aps_model::{Done, Entry, ThreadId};
-use aps_text::{JournalRefusal, journal_at, print_journal, read_journal};
+use aps_model::{CpuId, Done, Entry, ThreadId};
+use aps_text::{JournalRefusal, cpu_of_line, journal_at, print_journal, read_journal};
 use std::alloc::Global;
 use std::process::Abort;
 
@@ -145,4 +145,13 @@ fn the_journal_begins_behind_its_line(rt: HostRuntime) {
         None
     );
     assert_eq!(rt; parts_of(""), None);
+}
+
+#[test]
+fn a_line_names_its_processor_first(rt: HostRuntime) {
+    assert_eq!(rt; cpu_of_line(b"0 0 0 - - - - 1 - -\n"), Some(CpuId::at(0)));
+    assert_eq!(rt; cpu_of_line(b"15 "), Some(CpuId::at(15)));
+    for other in ["", "1", "16 ", "01 ", "- ", " 1 ", "1\n"] {
+        assert_eq!(rt; cpu_of_line(other.as_bytes()), None);
+    }
 }

@@ -4,10 +4,11 @@ ghost use Rattle.std.specs.Prelude.{◌≤◌};
 ghost use Rattle.aps_model.specs.Limits.{most_entries};
 
 use aps_check::text::print_verdict;
-use aps_check::{Rule, Verdict, check};
+use aps_check::{Rule, Verdict, check, check_text};
 use aps_core::Core;
 use aps_gen::generate;
 use aps_model::{CpuId, Done, End, Entry, Order, PartitionId, Scenario};
+use aps_text::{JournalRefusal, print_journal};
 use std::alloc::Global;
 use std::process::Abort;
 
@@ -25,11 +26,17 @@ fn journal(rt: &impl Abort, alloc: Global) -> Vec<Entry> {
     core.history().entries().to_vec(alloc).expect(rt, "memory")
 }
 
-/// What is said of a journal of the load, in this order and up to this limit.
+/// What is said of a journal of the load, in this order and up to this limit, and of its text.
 fn judge(rt: &impl Abort, alloc: Global, order: Order, limit: u32, journal: &[Entry]) -> Verdict
     requires { (1 ≤ limit) × (limit ≤ most_entries) }
 {
-    check(alloc, &load(rt, alloc), order, limit, journal).expect(rt, "memory")
+    let load = load(rt, alloc);
+    let verdict = check(alloc, &load, order, limit, journal).expect(rt, "memory");
+    let text = print_journal(alloc, journal).expect(rt, "memory");
+    assert!(rt; text.len() < 10_000);
+    let told = check_text(alloc, &load, order, limit, text.as_bytes()).expect(rt, "a journal");
+    assert_eq!(rt; told, verdict);
+    verdict
 }
 
 fn breaks(entry: u32, rule: Rule, expected: Option<Entry>) -> Verdict {
@@ -110,6 +117,16 @@ fn turns_are_taken_in_their_order(rt: HostRuntime) {
     assert_eq!(rt; fixed, out_of_turn);
     let free = judge(&rt, rt.alloc(), Order::Free, LIMIT, &other);
     assert_eq!(rt; free, out_of_turn);
+}
+
+#[test]
+fn a_bad_line_is_told_whatever_breaks_before_it(rt: HostRuntime) {
+    let text = "2 0 0 - - - - - - -\n0 0 0 - - - - - - x\n";
+    let load = load(&rt, rt.alloc());
+    match check_text(rt.alloc(), &load, Order::Fixed, LIMIT, text.as_bytes()) {
+        Err(JournalRefusal::BadLine { line, column }) => assert_eq!(rt; (line, column), (2, 19)),
+        _ => panic!(rt; "not refused"),
+    }
 }
 
 #[test]

@@ -2,7 +2,7 @@ use Rattle.std.proofs.Common.{◌≡◌, ◌-◌, List, drop, length, sym, ap, s
 use Rattle.aps_model.specs.declared.entry.Entry.{Entry}
 use Rattle.aps_model.specs.History.{History}
 use Rattle.aps_core.specs.Run.{Run, Setup, history_of}
-use Rattle.aps_check.specs.Following.{IsOtherAt, IsTextVerdict, IsUpTo, TellsDifference}
+use Rattle.aps_check.specs.Following.{IsOtherAt, IsUpTo, TellsDifference}
 use Rattle.aps_check.proofs.FollowedLines.{front_inside, rest_judged, found_differing, other_at, differing_judged}
 use Rattle.aps_check.proofs.following.check_text.Goals as goal
 
