@@ -58,7 +58,7 @@ pub one_behind : (run : Run) (entries : List Entry) (i : ℕ) (e : Entry) (now l
 one_behind run entries i e now later less is same goes_on =
     goes_on ∙ ap (λ (r : Run). with_entry r e) same
     ∙ ap (λ h. with_entries run h) (append_assoc run.entries (take i entries) (e ∷ [])
-        ∙ ap (λ l. run.entries ++ l) (sym (take_more entries i e less ∙ ap (λ x. take i entries ++ x ∷ []) is)))
+    ∙ ap (λ l. run.entries ++ l) (sym (take_more entries i e less ∙ ap (λ x. take i entries ++ x ∷ []) is)))
 
 -- where no entry is left, the journal is the run's
 pub legal_journal : (run : Run) (entries : List Entry) (i : ℕ) (now : Run) (end : Option End) → length entries ≤ i

@@ -84,7 +84,11 @@ fn follow(core: &mut Core, text: &[u8]) -> Followed
 }
 
 /// The bytes behind the line, where it is that of the step.
-fn follow_line<'a>(core: &mut Core, buffer: &mut LineBuffer, text: &'a [u8]) -> Result<&'a [u8], Followed>
+fn follow_line<'a>(
+    core: &mut Core,
+    buffer: &mut LineBuffer,
+    text: &'a [u8],
+) -> Result<&'a [u8], Followed>
     ensures { FollowsLine core.old core.new text.now result }
 {
     let Some(step) = step_named(core, text) else {

@@ -108,9 +108,11 @@ pub admitted : (input : Input) (answer : Admission) → AdmittedAsRead input ans
     → IsDueStatus input.asked input.reading.bytes None (status_of_admission answer)
 admitted input answer cause =
     due_as input.asked Admit input.reading.bytes None _ cause.asked
-    (inr (cause.whole.short,
-        value_due (λ d. status_of_admission (admission d.shape d.demands)) (reads_demands input.reading.bytes) cause.demands cause.read
-        ∙ ap (λ a. Some (status_of_admission a)) (sym cause.answered)))
+    (inr (
+      cause.whole.short,
+      value_due (λ d. status_of_admission (admission d.shape d.demands)) (reads_demands input.reading.bytes) cause.demands cause.read
+          ∙ ap (λ a. Some (status_of_admission a)) (sym cause.answered),
+    ))
 
 pub checked : (input : Input) (verdict : Verdict) → CheckedAsRead input verdict
     → IsDueStatus input.asked input.reading.bytes None (status_of_verdict verdict)

@@ -38,7 +38,12 @@ pub fn read_demands<S: Source>(alloc: Global, source: &mut S) -> Result<Demands,
 }
 
 /// Reads the source, and judges the journal that its bytes have behind their scenario.
-pub fn read_verdict<S: Source>(alloc: Global, order: Order, limit: u32, source: &mut S) -> Result<Verdict, Outcome>
+pub fn read_verdict<S: Source>(
+    alloc: Global,
+    order: Order,
+    limit: u32,
+    source: &mut S,
+) -> Result<Verdict, Outcome>
     requires some { 1 ≤ limit }
     requires few { limit ≤ most_entries }
     ensures { GivesVerdict order limit

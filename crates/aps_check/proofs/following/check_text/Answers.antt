@@ -19,8 +19,11 @@ behind-requires c =
     let n = entries_of c.history.result.now later c.entries-place.result.now c.history.ensures.same c.entries-place.ensures.same in
     let up = subst (λ (r : Run). IsUpTo r later c.args.text.now stop.0) c.in_ok-core.ensures stop.1 in
     let entries = c.in_ok-entries-in-Waits in
-    omega (arith, front_inside setup c.args.text.now entries.entries.items entries.ensures.journal later stop.0 place up n,
-        ap (λ (l : List Entry). length l) c.deref.ensures.value)
+    omega (
+      arith,
+      front_inside setup c.args.text.now entries.entries.items entries.ensures.journal later stop.0 place up n,
+      ap (λ (l : List Entry). length l) c.deref.ensures.value,
+    )
 
 pub returns-in-Waits-clause-verdict : goal.returns-in-Waits-clause-verdict
 returns-in-Waits-clause-verdict c =
