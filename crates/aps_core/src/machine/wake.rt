@@ -82,7 +82,8 @@ impl Woken {
     /// Whether there are none.
     #[inline(always)]
     pub fn is_empty(&self) -> bool
-        ensures { result ≡ true → self.now ≡ [] }
+        ensures none { result ≡ true → self.now ≡ [] }
+        ensures some { result ≡ false → 1 ≤ length self.now }
     {
         self.list.is_empty()
     }
