@@ -3,6 +3,7 @@ use Rattle.std.specs.Prelude.{◌≡◌, ◌≤◌, List, length}
 use Rattle.aps_model.specs.declared.entry.Entry.{Entry}
 use Rattle.aps_model.specs.declared.partition.PartitionRow.{PartitionRow}
 use Rattle.aps_model.specs.After.{state_after}
+use Rattle.aps_model.specs.Limits.{most_partitions}
 use Rattle.aps_model.specs.Scenario.{Scenario}
 use Rattle.aps_bars.specs.declared.alteration.Alteration.{Alteration}
 use Rattle.aps_bars.specs.declared.bar.Bar.{Bar}
@@ -19,4 +20,4 @@ pub record IsDrawn (scenario : Scenario) (h : List Entry) (drawn : Drawn) : Type
   pub lanes : AreLanes scenario h drawn.lanes
   pub alterations : drawn.alterations ≡ alterations_of scenario h
   pub rows : drawn.rows ≡ (state_after scenario h).rows
-  pub few_rows : length drawn.rows ≤ 32
+  pub few_rows : length drawn.rows ≤ most_partitions

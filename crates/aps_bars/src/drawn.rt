@@ -8,7 +8,7 @@ ghost use Rattle.aps_core.specs.Turn.{IsTaken, with_entry};
 ghost use Rattle.aps_bars.specs.Alteration.{altered_between};
 ghost use Rattle.aps_bars.specs.Bar.{AreLonger};
 ghost use Rattle.aps_bars.specs.Drawn.{IsDrawn};
-ghost use Rattle.aps_model.specs.Limits.{most_entries};
+ghost use Rattle.aps_model.specs.Limits.{most_entries, most_partitions};
 
 use crate::alteration::{Alteration, add_cancels, add_commands};
 use crate::bar::{Lane, bar_of};
@@ -179,7 +179,7 @@ fn retrace(core: &mut Core, e: &Entry)
 /// A copy of the rows that stand.
 fn rows_of(alloc: Global, core: &Core) -> Result<Vec<PartitionRow>, NoMemory>
     ensures same { IfOk result (λ rows. rows.items ≡ (state_of core.now).rows) }
-    ensures few { IfOk result (λ rows. length rows.items ≤ 32) }
+    ensures few { IfOk result (λ rows. length rows.items ≤ most_partitions) }
 {
     let mut rows = Vec::new(alloc);
     rows.extend_from_slice(core.history().rows())?;

@@ -1,18 +1,17 @@
 //! What each partition's budget allows in a window.
 ghost use Rattle.std.specs.Prelude.{◌≡◌, ◌*◌, ◌/◌, ◌<◌, ◌≤◌, length};
 ghost use Rattle.aps_model.specs.Audit.{allowance};
+ghost use Rattle.aps_model.specs.Limits.{most_partitions};
 ghost use Rattle.aps_model.specs.Partition.{row_or_none};
 ghost use Rattle.aps_model.specs.Shape.{IsShape};
 ghost use Rattle.aps_bound.specs.Allowed.{AreAllowed};
 
+use aps_model::limits::MOST_PARTITIONS;
 use aps_model::{History, Nanos, Shape};
-
-/// The most partitions.
-const PARTITIONS: usize = 32;
 
 /// What each partition's budget allows in a window, in ns, in the place of its number: they are found once, since each
 /// costs a division, and looked at in every window.
-pub type Allowed = [Nanos; PARTITIONS];
+pub type Allowed = [Nanos; MOST_PARTITIONS];
 
 /// What each partition's budget allows, by the rows and the shape that stand last.
 pub fn allowed_of(history: &History) -> Allowed
@@ -20,7 +19,7 @@ pub fn allowed_of(history: &History) -> Allowed
 {
     let shape = history.shape();
     let rows = history.rows();
-    let mut allowed = [0; PARTITIONS];
+    let mut allowed = [0; MOST_PARTITIONS];
     for p in 0..rows.len() {
         allowed[p] = allowance(shape, rows[p].budget);
     }
@@ -30,7 +29,7 @@ pub fn allowed_of(history: &History) -> Allowed
 /// What the budget of one partition allows.
 pub fn allowed_at(allowed: &Allowed, _history: &History, p: usize) -> Nanos
     requires p { p < length _history.now.rows }
-    requires few { length _history.now.rows ≤ 32 }
+    requires few { length _history.now.rows ≤ most_partitions }
     requires allowed { AreAllowed _history.now allowed.now }
     ensures { result ≡ allowance _history.now.shape (row_or_none _history.now.rows p).budget }
 {

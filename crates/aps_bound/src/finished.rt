@@ -2,6 +2,7 @@
 ghost use Rattle.std.specs.Prelude.{◌≡◌, ◌≤◌, All, min};
 ghost use Rattle.aps_model.specs.Due.{last_end};
 ghost use Rattle.aps_model.specs.History.{IsEntry};
+ghost use Rattle.aps_model.specs.Limits.{last_moment};
 ghost use Rattle.aps_model.specs.Loaded.{finished_ticks};
 ghost use Rattle.aps_model.specs.Shape.{IsShape};
 
@@ -32,7 +33,7 @@ fn earlier(a: Nanos, b: Nanos) -> Nanos
 fn last_end(entries: &[Entry], cpu: usize) -> Nanos
     requires { All IsEntry entries.now }
     ensures same { result ≡ last_end entries.now cpu }
-    ensures early { result ≤ 10000000000000 }
+    ensures early { result ≤ last_moment }
 {
     let mut left = entries.len();
     while left > 0 {

@@ -2,14 +2,13 @@
 ghost use Rattle.std.specs.Prelude.{◌≡◌, ◌<◌, ◌≤◌, length, true};
 ghost use Rattle.aps_model.specs.declared.audit.Audit.{Audit as AuditOf};
 ghost use Rattle.aps_model.specs.History.{History as HistoryOf};
+ghost use Rattle.aps_model.specs.Limits.{most_partitions};
 ghost use Rattle.aps_bound.specs.Allowed.{AreAllowed};
 ghost use Rattle.aps_bound.specs.Limits.{AreLimits, HasLimit, IsWithin};
 
 use crate::allowed::{Allowed, allowed_at};
+use aps_model::limits::MOST_PARTITIONS;
 use aps_model::{Audit, History, Nanos};
-
-/// The most partitions.
-const PARTITIONS: usize = 32;
 
 /// How much a partition may use in a window, and how much of that may be critical.
 #[derive(Clone, Copy)]
@@ -22,11 +21,11 @@ pub struct Limit {
 
 /// The limit of each partition, in the place of its number: they are found anew where an amount was greater, and looked at in
 /// every window.
-pub type Limits = [Limit; PARTITIONS];
+pub type Limits = [Limit; MOST_PARTITIONS];
 
 /// Limits that no partition keeps, whatever it used.
 pub fn no_limits() -> Limits
-    ensures count { length result ≡ 32 }
+    ensures count { length result ≡ most_partitions }
     ensures limits { (h : HistoryOf) (audit : AuditOf) → AreLimits h audit result }
 {
     let none = Limit {
@@ -34,12 +33,12 @@ pub fn no_limits() -> Limits
         end: 0,
         critical: 0,
     };
-    [none; PARTITIONS]
+    [none; MOST_PARTITIONS]
 }
 
 /// The limits by the worst amounts so far.
 pub fn limits_of(history: &History, allowed: &Allowed, audit: &Audit) -> Limits
-    requires few { length history.now.rows ≤ 32 }
+    requires few { length history.now.rows ≤ most_partitions }
     requires allowed { AreAllowed history.now allowed.now }
     ensures { AreLimits history.now audit.now result }
 {
@@ -70,7 +69,7 @@ fn limit_of(
     p: usize,
 ) -> Limit
     requires p { p < length history.now.rows }
-    requires few { length history.now.rows ≤ 32 }
+    requires few { length history.now.rows ≤ most_partitions }
     requires allowed { AreAllowed history.now allowed.now }
     ensures { HasLimit history.now over short critical p result }
 {

@@ -2,6 +2,7 @@
 ghost use Rattle.std.specs.Prelude.{◌≡◌, ℕ, ◌+◌, ◌*◌, ◌/◌, ◌<◌, ◌≤◌, ◌↔◌, All, IsTrue};
 ghost use Rattle.aps_model.specs.Due.{next_boundary};
 ghost use Rattle.aps_model.specs.History.{IsEntry};
+ghost use Rattle.aps_model.specs.Limits.{longest_tick};
 ghost use Rattle.aps_bound.specs.Order.{IsBoundary, IsInOrder};
 
 use aps_model::{Entry, Nanos};
@@ -10,7 +11,7 @@ use aps_model::{Entry, Nanos};
 pub fn is_in_order(entries: &[Entry], tick: u64) -> bool
     requires entries { All IsEntry entries.now }
     requires some { 0 < tick }
-    requires short { tick ≤ 10000000 }
+    requires short { tick ≤ longest_tick }
     ensures { IsTrue result ↔ IsInOrder tick entries.now }
 {
     let mut last = 0;
@@ -31,7 +32,7 @@ pub fn is_in_order(entries: &[Entry], tick: u64) -> bool
 fn boundary_for(e: &Entry, tick: u64, at_hand: Nanos) -> Nanos
     requires entry { IsEntry e.now }
     requires some { 0 < tick }
-    requires short { tick ≤ 10000000 }
+    requires short { tick ≤ longest_tick }
     requires at_hand { IsBoundary tick at_hand }
     ensures same { (e.now.to ≤ result) ↔ (e.now.to ≤ next_boundary tick e.now.from) }
     ensures boundary { IsBoundary tick result }

@@ -6,10 +6,8 @@ ghost use Rattle.aps_bound.specs.Window.{IsWindow};
 
 use crate::cursor::Cursor;
 use crate::usage::{add, take_away};
+use aps_model::limits::MOST_PARTITIONS;
 use aps_model::{Entry, Usage};
-
-/// The most partitions.
-const PARTITIONS: usize = 32;
 
 /// A window, from its first tick to the one before its end, and the usage in it.
 #[derive(Clone, Copy)]
@@ -52,8 +50,8 @@ impl Window {
             first,
             end: first,
             usage: Usage {
-                used: [0; PARTITIONS],
-                critical: [0; PARTITIONS],
+                used: [0; MOST_PARTITIONS],
+                critical: [0; MOST_PARTITIONS],
             },
         }
     }

@@ -2,6 +2,7 @@
 use Rattle.std.specs.Prelude.{◌≡◌, ◌⊎◌, ℕ, ◌≤◌, List, [], ◌∷◌, length, None}
 use Rattle.aps_laws.specs.Waits.{times}
 use Rattle.aps_model.specs.Inherit.{client_of}
+use Rattle.aps_model.specs.Limits.{most_threads}
 use Rattle.aps_model.specs.SchedulerState.{ChannelNow, Message}
 use Rattle.aps_channel.specs.Channels.{Channels, IsCalm}
 use Rattle.aps_channel.specs.Lines.{Lines, line_at}
@@ -22,5 +23,5 @@ pub record AreChannels (w : Waiting) (r : Lines) (s : Serving) : Type 0 where
   pub size : length w.messages ≡ length r.lines
   pub threads : r.numbers ≡ w.threads
   pub servers : s.threads ≡ w.threads
-  pub few : w.threads ≤ 1024
+  pub few : w.threads ≤ most_threads
   pub calm : IsCalm (channels_of w r s)

@@ -2,6 +2,7 @@
 use Rattle.std.specs.Prelude.{◌≡◌, ℕ, ◌+◌, ◌-◌, ◌*◌, ◌<◌, ◌≤◌, Bool, nat_eq, List, length, map, Option, Some, None, is_some, slice_index_or}
 use Rattle.std.specs.List.{filter}
 use Rattle.slab.specs.Slab.{Slab, get}
+use Rattle.aps_model.specs.Limits.{greatest_priority}
 use Rattle.aps_model.specs.SchedulerState.{Message}
 use Rattle.aps_levels.specs.declared.levels.Levels.{Levels}
 use Rattle.aps_levels.specs.Levels.{has_level}
@@ -47,7 +48,7 @@ pub record AreQueues (arrivals levels : Lines) (in_use : List Levels) (records :
   pub channels : length levels.lines ≡ 256 * length arrivals.lines
   pub keys : levels.numbers ≡ arrivals.numbers
   pub sets : length in_use ≡ length arrivals.lines
-  pub small : (k : ℕ) → priority_at records k ≤ 255
+  pub small : (k : ℕ) → priority_at records k ≤ greatest_priority
   pub queued : (c level : ℕ) → c < length arrivals.lines → level < 256
       → line_at levels.lines (place_of c level) ≡ filter (is_level records level) (line_at arrivals.lines c)
   pub used : (c level : ℕ) (d : Levels) → c < length arrivals.lines → level < 256

@@ -1,6 +1,7 @@
 //! Channels, and the calls of threads on them.
 ghost use Rattle.std.specs.Prelude.{◌≡◌, ◌<◌, [], length, min, replicate, IfOk, None};
 ghost use Rattle.aps_model.specs.Inherit.{client_of, top_of};
+ghost use Rattle.aps_model.specs.Limits.{most_threads};
 ghost use Rattle.aps_model.specs.SchedulerState.{no_channel};
 ghost use Rattle.aps_channel.specs.Channels.{IsCalm, IsIdle, channel_at, received, received_from, replied, sent};
 ghost use Rattle.aps_channel.specs.Waiting.{first_sender};
@@ -52,7 +53,7 @@ impl Channels {
     /// most 1,024. `NoMemory` comes where there is no such room, or where the slab of the messages' records takes more than
     /// 65,535 places.
     pub fn new(alloc: Global, channels: u16, threads: u16) -> Result<Channels, NoMemory>
-        ensures { IfOk result (λ s. s ≡ record { channels = replicate channels no_channel; triples = []; threads = min threads 1024 }) }
+        ensures { IfOk result (λ s. s ≡ record { channels = replicate channels no_channel; triples = []; threads = min threads most_threads }) }
     {
         let waiting = Waiting::new(alloc, channels, threads)?;
         let receivers = Lines::new(alloc, channels as usize, threads.min(MOST_THREADS))?;

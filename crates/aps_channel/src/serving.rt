@@ -1,6 +1,7 @@
 //! Who serves whom.
 ghost use Rattle.std.specs.Prelude.{◌≡◌, ◌<◌, [], ◌∷◌, min, replicate, IfOk, IsSome, None};
 ghost use Rattle.aps_model.specs.Inherit.{client_of, without_server};
+ghost use Rattle.aps_model.specs.Limits.{most_threads};
 
 use crate::lines::{Lines, MOST_THREADS};
 use aps_model::{ChannelId, NoMemory, ThreadId};
@@ -42,7 +43,7 @@ impl Serving {
     /// Nobody serves, with room for one triple of each thread, of which there are at most 1,024. `NoMemory` comes where
     /// there is no such room.
     pub fn new(alloc: Global, threads: u16) -> Result<Serving, NoMemory>
-        ensures { IfOk result (λ s. s ≡ record { triples = []; threads = min threads 1024 }) }
+        ensures { IfOk result (λ s. s ≡ record { triples = []; threads = min threads most_threads }) }
     {
         let threads = threads.min(MOST_THREADS);
         let servers = Lines::new(alloc, 1, threads)?;

@@ -3,6 +3,7 @@ ghost use Rattle.std.specs.Prelude.{◌≡◌, ◌≢◌, ℕ, ◌<◌, ◌++◌
 ghost use Rattle.aps_laws.specs.Waits.{times_sent};
 ghost use Rattle.aps_levels.specs.Levels.{has_level};
 ghost use Rattle.aps_model.specs.Inherit.{top_of};
+ghost use Rattle.aps_model.specs.Limits.{most_threads};
 ghost use Rattle.aps_channel.specs.Waiting.{first_sender, messages_at, with_messages, without_of};
 
 use crate::lines::{Lines, MOST_THREADS};
@@ -62,7 +63,7 @@ impl Model for Waiting {
 impl Waiting {
     /// No messages, with room for one of each thread, of which there are at most 1,024. `NoMemory` comes where there is no such room.
     pub fn new(alloc: Global, channels: u16, threads: u16) -> Result<Waiting, NoMemory>
-        ensures { IfOk result (λ w. w ≡ record { messages = replicate channels []; threads = min threads 1024 }) }
+        ensures { IfOk result (λ w. w ≡ record { messages = replicate channels []; threads = min threads most_threads }) }
     {
         let channels = channels as usize;
         let threads = threads.min(MOST_THREADS);

@@ -2,6 +2,7 @@ use Rattle.std.specs.Prelude.{◌≡◌, ◌≤◌, ◌++◌, List, length, All}
 use Rattle.aps_model.specs.declared.command.Change.{Change}
 use Rattle.aps_model.specs.declared.command.Reply.{Reply}
 use Rattle.aps_model.specs.History.{History}
+use Rattle.aps_model.specs.Limits.{most_partitions}
 use Rattle.aps_model.specs.Partition.{IsRow}
 use Rattle.aps_model.specs.SchedulerState.{SchedulerState}
 use Rattle.aps_model.specs.Shape.{IsShape}
@@ -13,7 +14,7 @@ pub record CanRecord (kept : History) (state : SchedulerState) : Type 0 where
   pub reply_room : length state.replies ≤ kept.room.replies
   pub change_room : length state.changes ≤ kept.room.changes
   pub no_fewer : length kept.rows ≤ length state.rows
-  pub few_rows : length state.rows ≤ 32
+  pub few_rows : length state.rows ≤ most_partitions
   pub rows : All IsRow state.rows
   pub shape : IsShape state.shape
 

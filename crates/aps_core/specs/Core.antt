@@ -4,6 +4,7 @@ use Rattle.aps_model.specs.declared.merit.Contender.{Contender}
 use Rattle.aps_model.specs.declared.merit.PartFacts.{PartFacts}
 use Rattle.aps_model.specs.History.{History}
 use Rattle.aps_model.specs.Legal.{IsLegal}
+use Rattle.aps_model.specs.Limits.{most_entries}
 use Rattle.aps_model.specs.SchedulerState.{SchedulerState}
 use Rattle.aps_model.specs.Valid.{IsScenario}
 use Rattle.aps_laws.specs.Moments.{moment}
@@ -23,7 +24,7 @@ use Rattle.aps_core.specs.Sleepers.{sleepers_of}
 pub record IsSetup (setup : Setup) : Type 0 where
   pub valid : IsScenario setup.scenario
   pub some : 1 ≤ setup.limit
-  pub few : setup.limit ≤ 4000000
+  pub few : setup.limit ≤ most_entries
 
 -- what each run under way keeps
 pub record IsUnderWay (run : Run) : Type 0 where

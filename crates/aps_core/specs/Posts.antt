@@ -3,6 +3,7 @@ use Rattle.std.specs.Prelude.{◌≡◌, ◌≢◌, ℕ, ◌+◌, ◌-◌, ◌*�
 use Rattle.aps_model.specs.declared.state.Facts.{Facts}
 use Rattle.aps_model.specs.declared.state.Pick.{Pick}
 use Rattle.aps_model.specs.Inherit.{facts_of}
+use Rattle.aps_model.specs.Limits.{greatest_priority, most_cpus}
 use Rattle.aps_model.specs.SchedulerState.{SchedulerState, cpu_at}
 use Rattle.aps_levels.specs.Bits.{has}
 use Rattle.aps_core.specs.declared.classes.Classes.{Classes}
@@ -20,7 +21,7 @@ pub record IsPostOf (facts : Facts) (post : Post) : Type 0 where
   pub critical : nat_lt 31 post.group ≡ facts.critical
   pub base : post.base ≡ 1 + facts.priority
   pub more : post.more ≡ 256
-  pub few : facts.priority ≤ 255
+  pub few : facts.priority ≤ greatest_priority
 
 -- and this where there is none
 pub record IsIdlePost (post : Post) : Type 0 where
@@ -54,7 +55,7 @@ pub record IsSmallPost (post : Post) : Type 0 where
 
 -- that of each processor has
 abbrev pub AreSmall : List Post → Type 0
-AreSmall posts = (d : ℕ) → d < 16 → IsSmallPost (post_at posts d)
+AreSmall posts = (d : ℕ) → d < most_cpus → IsSmallPost (post_at posts d)
 
 -- where the thread stands by these classes
 abbrev pub height_by : Classes → Post → ℕ
@@ -67,4 +68,4 @@ pub record IsHigh (classes : Classes) (d : ℕ) (post : Post) : Type 0 where
 
 -- that of each processor
 abbrev pub AreHigh : Classes → List Post → Type 0
-AreHigh classes posts = (d : ℕ) → d < 16 → IsHigh classes d (post_at posts d)
+AreHigh classes posts = (d : ℕ) → d < most_cpus → IsHigh classes d (post_at posts d)

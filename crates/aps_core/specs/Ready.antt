@@ -3,6 +3,7 @@ use Rattle.aps_model.specs.declared.entry.Entry.{Entry}
 use Rattle.aps_model.specs.declared.state.Pick.{Pick}
 use Rattle.aps_model.specs.declared.state.State.TheVariants.{Running}
 use Rattle.aps_model.specs.Due.{due, last_end, next_boundary}
+use Rattle.aps_model.specs.Limits.{last_moment, longest_tick, most_commands}
 use Rattle.aps_model.specs.Scenario.{Scenario}
 use Rattle.aps_model.specs.SchedulerState.{SchedulerState, cpu_at, thread_at}
 use Rattle.aps_model.specs.Shape.{horizon}
@@ -18,13 +19,13 @@ use Rattle.aps_core.specs.Room.{CanFinish, HasRoomToWake, changes_of_a_run, last
 pub record IsReady (scenario : Scenario) (s : SchedulerState) (h : List Entry) (c : ℕ) : Type 0 where
   pub exists : c < length s.cpus
   pub forward : last_end h c ≤ due s h c
-  pub short : due s h c - last_end h c ≤ 10000000
+  pub short : due s h c - last_end h c ≤ longest_tick
   pub within : due s h c ≤ horizon s.shape
-  pub early : due s h c ≤ 10000000000000
+  pub early : due s h c ≤ last_moment
   pub wakes : HasRoomToWake last_place stamps_before s
-  pub since : (x : ℕ) → (thread_at (after_tick scenario s h c) x).since ≤ 10000000000000
+  pub since : (x : ℕ) → (thread_at (after_tick scenario s h c) x).since ≤ last_moment
   pub room : (p : Pick) → (cpu_at s c).running ≡ Some p → CanFinish scenario (after_bill scenario s h c) p.thread
-  pub replies : length (after_tick scenario s h c).replies ≤ 1024
+  pub replies : length (after_tick scenario s h c).replies ≤ most_commands
   pub changes_ticked : length (after_tick scenario s h c).changes ≤ changes_of_a_run
   pub changes_billed : length (after_bill scenario s h c).changes ≤ changes_of_a_run
   pub within_ticked : due s h c ≤ horizon (after_tick scenario s h c).shape

@@ -4,6 +4,7 @@ use Rattle.aps_model.specs.declared.merit.PartFacts.{PartFacts}
 use Rattle.aps_model.specs.declared.partition.PartitionRow.{PartitionRow}
 use Rattle.aps_model.specs.declared.shape.Shape.{Shape}
 use Rattle.aps_model.specs.Budget.{part_at}
+use Rattle.aps_model.specs.Limits.{most_partitions}
 use Rattle.aps_ready.specs.declared.gates.Gates.{Gates}
 use Rattle.aps_ready.specs.Gates.{AreGates}
 use Rattle.aps_window.specs.Window.{Window}
@@ -17,8 +18,8 @@ pub record IsStanding (parts : List PartFacts) (gates : Gates) (classes : Classe
   pub opened : AreGates parts gates
   pub classed : AreClasses parts classes
   pub small : All IsSmall parts
-  pub few : length parts ≤ 32
-  pub room : 32 ≤ space
+  pub few : length parts ≤ most_partitions
+  pub room : most_partitions ≤ space
 
 -- each partition but this one, if there is one, stands by its row and its totals
 pub record DoOthersStand (billed : Option ℕ) (shape : Shape) (rows : List PartitionRow) (window : Window) (parts : List PartFacts) : Type 0 where

@@ -7,10 +7,8 @@ ghost use Rattle.aps_ready.specs.Gates.{is_first};
 ghost use Rattle.aps_core.specs.Classes.{AreClasses};
 
 use aps_levels::Bits64;
+use aps_model::limits::MOST_PARTITIONS;
 use aps_model::{PartFacts, PartitionId};
-
-/// The most partitions.
-const PARTITIONS: usize = 32;
 
 /// The groups of threads that are of class 1. A group is a partition's number, or 32 more for its critical threads.
 #[derive(Clone, Copy, Debug, PartialEq, Eq)]
@@ -42,7 +40,7 @@ impl Classes {
     {
         let place = p.index();
         let plain = self.first.put(place, is_first(part, false));
-        self.first = plain.put(place + PARTITIONS, is_first(part, true));
+        self.first = plain.put(place + MOST_PARTITIONS, is_first(part, true));
     }
 
     /// Whether the threads of this partition, critical or not, are of class 1.
@@ -62,7 +60,11 @@ pub fn group_of(p: PartitionId, critical: bool) -> usize
     ensures critical { nat_lt 31 result ≡ critical }
 {
     let place = p.index();
-    if critical { place + PARTITIONS } else { place }
+    if critical {
+        place + MOST_PARTITIONS
+    } else {
+        place
+    }
 }
 
 /// Whether the critical, or the other, threads of the partition are of class 1.

@@ -3,6 +3,7 @@ ghost use Rattle.std.specs.List.{list_any};
 ghost use Rattle.aps_model.specs.declared.entry.Entry.{Entry as EntryOf};
 ghost use Rattle.aps_model.specs.After.{stands_at};
 ghost use Rattle.aps_model.specs.Due.{next_boundary, due_at, or_end};
+ghost use Rattle.aps_model.specs.Limits.{last_moment, longest_tick};
 ghost use Rattle.aps_model.specs.Shape.{IsShape, horizon};
 ghost use Rattle.aps_core.specs.Rising.{IsRising};
 
@@ -22,9 +23,9 @@ pub fn stands_at(moment: Nanos, last: Option<Nanos>) -> bool
 #[inline(always)]
 pub fn tick_of(tick: u64, moment: Nanos, at_hand: u64) -> u64
     requires some { 0 < tick }
-    requires short { tick ≤ 10000000 }
+    requires short { tick ≤ longest_tick }
     requires at_hand { at_hand ≤ 100000000 }
-    requires moment { moment ≤ 10000000000000 }
+    requires moment { moment ≤ last_moment }
     ensures { result ≡ moment / tick }
 {
     let begun = at_hand * tick;
@@ -41,9 +42,9 @@ pub fn tick_of(tick: u64, moment: Nanos, at_hand: u64) -> u64
 #[inline(always)]
 fn next_boundary(tick: u64, moment: Nanos, at_hand: u64) -> Nanos
     requires some { 0 < tick }
-    requires short { tick ≤ 10000000 }
+    requires short { tick ≤ longest_tick }
     requires at_hand { at_hand ≡ moment / tick }
-    requires moment { moment ≤ 10000000000000 }
+    requires moment { moment ≤ last_moment }
     ensures same { result ≡ next_boundary tick moment }
     ensures soon { result ≤ moment + tick }
 {
@@ -61,7 +62,7 @@ pub fn due_at(
 ) -> Nanos
     requires shape { IsShape shape.now }
     requires at_hand { IfSome last (λ to. at_hand ≡ to / shape.now.tick) }
-    requires last { IfSome last (λ to. to ≤ 10000000000000) }
+    requires last { IfSome last (λ to. to ≤ last_moment) }
     ensures { result ≡ due_at shape.now.tick (horizon shape.now) flag last left }
 {
     let Some(last) = last else {

@@ -2,17 +2,16 @@
 //! flags.
 ghost use Rattle.std.specs.Prelude.{◌≡◌, ◌<◌, ℕ, length, slice_index};
 ghost use Rattle.aps_core.specs.NextDues.{dues_after};
+ghost use Rattle.aps_model.specs.Limits.{most_cpus};
 
+use aps_model::limits::MOST_CPUS;
 use aps_model::{CpuId, Entry, Nanos};
 use std::marker::Model;
-
-/// The most processors.
-const CPUS: usize = 16;
 
 /// The moments at which the processors step next. Contracts see the row of them.
 #[derive(Drop)]
 pub struct Dues {
-    row: [Nanos; CPUS],
+    row: [Nanos; MOST_CPUS],
 }
 
 impl Model for Dues {
@@ -23,8 +22,9 @@ impl Model for Dues {
     ghost view = { λ d. d.row };
 
     ghost use Rattle.std.specs.Prelude.{◌≡◌, length};
+    ghost use Rattle.aps_model.specs.Limits.{most_cpus};
 
-    ghost invariant = { λ d. length d.row ≡ 16 };
+    ghost invariant = { λ d. length d.row ≡ most_cpus };
 }
 
 impl Dues {
@@ -32,7 +32,9 @@ impl Dues {
     pub fn new() -> Self
         ensures { (d : ℕ) → slice_index result d ≡ 0 }
     {
-        Dues { row: [0; CPUS] }
+        Dues {
+            row: [0; MOST_CPUS],
+        }
     }
 
     /// When the processor steps next.
@@ -45,7 +47,7 @@ impl Dues {
     /// When the processor of this number steps next.
     #[inline(always)]
     pub fn at(&self, d: usize) -> Nanos
-        requires { d < 16 }
+        requires { d < most_cpus }
         ensures { result ≡ slice_index self.now d }
     {
         self.row[d]
@@ -54,7 +56,7 @@ impl Dues {
     /// After the entry: its processor is due then, and who is flagged is due now.
     pub fn go_on(&mut self, e: &Entry, own: Nanos)
         ensures same { self.new ≡ dues_after self.old e.now own }
-        ensures whole { length self.old ≡ 16 }
+        ensures whole { length self.old ≡ most_cpus }
     {
         if let Some(d) = e.flagged {
             self.row[d.index()] = e.to;

@@ -3,18 +3,17 @@ ghost use Rattle.std.specs.Prelude.{◌≡◌, ◌≤◌, List, [], ◌∷◌, �
 ghost use Rattle.aps_model.specs.declared.entry.Entry.{Entry as EntryOf};
 ghost use Rattle.aps_model.specs.Due.{last_end, last_to};
 ghost use Rattle.aps_model.specs.History.{IsEntry};
+ghost use Rattle.aps_model.specs.Limits.{last_moment};
 ghost use Rattle.aps_core.specs.LastEnds.{AreEnds};
 
+use aps_model::limits::MOST_CPUS;
 use aps_model::{CpuId, Entry, Nanos};
 use std::marker::Model;
-
-/// The most processors.
-const CPUS: usize = 16;
 
 /// The end of the last entry of each processor that has one. Contracts see the row of them.
 #[derive(Drop)]
 pub struct Ends {
-    row: [Option<Nanos>; CPUS],
+    row: [Option<Nanos>; MOST_CPUS],
 }
 
 impl Model for Ends {
@@ -25,8 +24,9 @@ impl Model for Ends {
     ghost view = { λ e. e.row };
 
     ghost use Rattle.std.specs.Prelude.{◌≡◌, length};
+    ghost use Rattle.aps_model.specs.Limits.{most_cpus};
 
-    ghost invariant = { λ e. length e.row ≡ 16 };
+    ghost invariant = { λ e. length e.row ≡ most_cpus };
 }
 
 impl Ends {
@@ -34,7 +34,9 @@ impl Ends {
     pub fn new() -> Self
         ensures { AreEnds [] result }
     {
-        Ends { row: [None; CPUS] }
+        Ends {
+            row: [None; MOST_CPUS],
+        }
     }
 
     /// The entry is now the last one of its processor.
@@ -49,7 +51,7 @@ impl Ends {
         requires entries { All IsEntry entries.now }
         requires ends { AreEnds entries.now self.now }
         ensures same { result ≡ last_to entries.now cpu }
-        ensures within { IfSome result (λ to. to ≤ 10000000000000) }
+        ensures within { IfSome result (λ to. to ≤ last_moment) }
     {
         self.row[cpu.index()]
     }
@@ -59,7 +61,7 @@ impl Ends {
         requires entries { All IsEntry entries.now }
         requires ends { AreEnds entries.now self.now }
         ensures same { result ≡ last_end entries.now cpu }
-        ensures within { result ≤ 10000000000000 }
+        ensures within { result ≤ last_moment }
     {
         self.last_to(entries, cpu).unwrap_or(0)
     }

@@ -4,6 +4,7 @@ ghost use Rattle.aps_model.specs.After.{is_at_horizon};
 ghost use Rattle.aps_model.specs.Budget.{all_parts};
 ghost use Rattle.aps_model.specs.Due.{due, first_due, last_to};
 ghost use Rattle.aps_model.specs.History.{IsEntry};
+ghost use Rattle.aps_model.specs.Limits.{last_moment, most_ticks};
 ghost use Rattle.aps_model.specs.Shape.{horizon};
 ghost use Rattle.aps_model.specs.Step.{pick, step};
 ghost use Rattle.aps_model.specs.Valid.{IsScenario};
@@ -219,7 +220,7 @@ impl Machine {
         requires moment { moment ≤ horizon self.now.shape }
         requires at_hand { at_hand ≤ 100000000 }
         ensures same { result ≡ moment / self.now.shape.tick }
-        ensures few { result ≤ 1000000 }
+        ensures few { result ≤ most_ticks }
     {
         due::tick_of(self.shape.tick, moment, u64::from(at_hand))
     }
@@ -227,7 +228,7 @@ impl Machine {
     /// The moment at which the run ends.
     pub fn horizon(&self) -> Nanos
         ensures same { result ≡ horizon self.now.shape }
-        ensures few { result ≤ 10000000000000 }
+        ensures few { result ≤ last_moment }
     {
         self.shape.horizon()
     }

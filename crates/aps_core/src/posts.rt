@@ -1,14 +1,13 @@
 //! What each processor runs, as far as its rank goes by it, and the key by which it is looked at, kept from step to step.
 ghost use Rattle.std.specs.Prelude.{◌≡◌, ◌≢◌, ℕ, ◌+◌, ◌<◌, ◌≤◌, length, Option};
+ghost use Rattle.aps_model.specs.Limits.{greatest_priority, most_cpus};
 ghost use Rattle.aps_model.specs.declared.state.Facts.{Facts as FactsOf};
 ghost use Rattle.aps_core.specs.Posts.{AreHigh, AreSmall, IsHigh, IsPost, IsPostOf, post_at};
 
 use crate::classes::{Classes, group_of};
+use aps_model::limits::MOST_CPUS;
 use aps_model::{CpuId, Facts};
 use std::marker::Model;
-
-/// The most processors.
-const CPUS: usize = 16;
 
 /// How much higher a thread of class 1 stands than one of class 0 with its priority.
 const CLASS: u16 = 256;
@@ -35,7 +34,7 @@ impl Post {
 
     /// That of the processor of this number, which runs a thread with these values.
     fn of(facts: &Facts, classes: Classes, d: usize) -> Post
-        requires { d < 16 }
+        requires { d < most_cpus }
         ensures is { IsPostOf facts.now result }
         ensures high { IsHigh classes d result }
     {
@@ -51,7 +50,7 @@ impl Post {
     /// The same, with its key by these classes, for the processor of this number.
     #[inline(always)]
     fn by(self, classes: Classes, d: usize) -> Post
-        requires d { d < 16 }
+        requires d { d < most_cpus }
         requires group { self.group < 64 }
         requires base { self.base ≤ 256 }
         requires more { self.more ≤ 256 }
@@ -71,7 +70,7 @@ impl Post {
 /// What each processor runs. Contracts see the row of that.
 #[derive(Drop)]
 pub struct Posts {
-    row: [Post; CPUS],
+    row: [Post; MOST_CPUS],
     /// those by which all stand
     classes: Classes,
 }
@@ -86,8 +85,9 @@ impl Model for Posts {
 
     ghost use Rattle.std.specs.Prelude.{◌≡◌, length};
     ghost use Rattle.aps_core.specs.Posts.{AreHigh};
+    ghost use Rattle.aps_model.specs.Limits.{most_cpus};
 
-    ghost invariant = { λ p. (length p.row ≡ 16) × AreHigh p.classes p.row };
+    ghost invariant = { λ p. (length p.row ≡ most_cpus) × AreHigh p.classes p.row };
 }
 
 impl Posts {
@@ -95,7 +95,7 @@ impl Posts {
     pub fn new() -> Self {
         let classes = Classes::none();
         Posts {
-            row: stand([Post::IDLE; CPUS], classes),
+            row: stand([Post::IDLE; MOST_CPUS], classes),
             classes,
         }
     }
@@ -103,7 +103,7 @@ impl Posts {
     /// What the processor of this number runs.
     #[inline(always)]
     pub fn at(&self, d: usize) -> Post
-        requires { d < 16 }
+        requires { d < most_cpus }
         ensures { result ≡ post_at self.now d }
     {
         self.row[d]
@@ -145,14 +145,14 @@ impl Posts {
 
 /// What each processor runs, with the keys by these classes.
 #[inline(always)]
-fn stand(posts: [Post; CPUS], classes: Classes) -> [Post; CPUS]
+fn stand(posts: [Post; MOST_CPUS], classes: Classes) -> [Post; MOST_CPUS]
     requires { AreSmall posts }
-    ensures count { length result ≡ 16 }
+    ensures count { length result ≡ most_cpus }
     ensures high { AreHigh classes result }
     ensures same { (d : ℕ) (o : Option FactsOf) → IsPost o (post_at posts d) → IsPost o (post_at result d) }
 {
     let mut row = posts;
-    for d in 0..CPUS {
+    for d in 0..MOST_CPUS {
         row[d] = row[d].by(classes, d);
     }
     row
@@ -162,7 +162,7 @@ fn stand(posts: [Post; CPUS], classes: Classes) -> [Post; CPUS]
 #[inline(always)]
 fn base_of(priority: u8) -> u16
     ensures same { result ≡ 1 + priority }
-    ensures few { priority ≤ 255 }
+    ensures few { priority ≤ greatest_priority }
 {
     1 + u16::from(priority)
 }

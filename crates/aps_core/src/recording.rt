@@ -4,6 +4,7 @@ ghost use Rattle.aps_model.specs.declared.command.Change.{Change as ChangeOf};
 ghost use Rattle.aps_model.specs.declared.command.Reply.{Reply as ReplyOf};
 ghost use Rattle.aps_model.specs.After.{is_at_horizon, or_limit, over_by};
 ghost use Rattle.aps_model.specs.History.{IsEntry};
+ghost use Rattle.aps_model.specs.Limits.{most_partitions};
 ghost use Rattle.aps_model.specs.Partition.{IsRow};
 ghost use Rattle.aps_core.specs.CanRecord.{CanRecord, HasTold, with_told};
 ghost use Rattle.aps_core.specs.LastEnds.{AreEnds, IsLast};
@@ -84,7 +85,7 @@ fn add_changes(history: &mut History, changes: &[Change])
 /// The history has these rows, of which there are no fewer than before.
 fn set_rows(history: &mut History, rows: &[PartitionRow])
     requires no_fewer { length history.old.rows ≤ length rows.now }
-    requires few { length rows.now ≤ 32 }
+    requires few { length rows.now ≤ most_partitions }
     requires rows { All IsRow rows.now }
     ensures { history.new ≡ record history.old { rows = rows.now } }
 {

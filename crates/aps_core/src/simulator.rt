@@ -8,6 +8,7 @@ ghost use Rattle.aps_model.specs.History.{IsEntry};
 ghost use Rattle.aps_model.specs.Tiled.{IsTiled, IsBilledAsInherited};
 ghost use Rattle.aps_model.specs.Valid.{IsScenario};
 ghost use Rattle.aps_model.specs.Bound.{KeepsWindowBound, KeepsCriticalBound};
+ghost use Rattle.aps_model.specs.Limits.{most_entries};
 ghost use Rattle.aps_laws.specs.Choices.{EachPickIsGreatest};
 ghost use Rattle.aps_laws.specs.Runs.{EndsNoSooner};
 ghost use Rattle.aps_core.specs.declared.turn.Turn.TheVariants.{Took};
@@ -98,7 +99,7 @@ impl Core {
         limit: u32,
     ) -> Result<Core, NoMemory>
         requires some { 1 ≤ limit }
-        requires few { limit ≤ 4000000 }
+        requires few { limit ≤ most_entries }
         ensures { IfOk result (λ core. core
             ≡ record { setup = record { scenario = scenario; order = order; limit = limit }; entries = [] }) }
     {

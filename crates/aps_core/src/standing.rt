@@ -1,5 +1,6 @@
 //! How the partitions stand in the window, and the gates of that, kept from step to step.
 ghost use Rattle.std.specs.Prelude.{◌≡◌, ◌<◌, ◌≤◌, ◌++◌, [], ◌∷◌, length, slice_set, All, IfOk, Some, true};
+ghost use Rattle.aps_model.specs.Limits.{most_partitions};
 ghost use Rattle.aps_model.specs.Partition.{IsRow};
 ghost use Rattle.aps_model.specs.Shape.{IsShape};
 ghost use Rattle.aps_ready.specs.Gates.{AreGates};
@@ -10,14 +11,12 @@ ghost use Rattle.aps_core.specs.Standing.{DoOthersStand, OpensAlike};
 
 use crate::classes::Classes;
 use crate::usage::part_by;
+use aps_model::limits::MOST_PARTITIONS;
 use aps_model::{NoMemory, PartFacts, PartitionId, PartitionRow, Shape};
 use aps_ready::Gates;
 use aps_window::Window;
 use std::alloc::Global;
 use std::marker::Model;
-
-/// The most partitions.
-const PARTITIONS: usize = 32;
 
 /// Each partition as it stands, in the place of its number, the gates by which the ready threads are looked at, and the classes
 /// of all threads.
@@ -47,7 +46,7 @@ impl Standing {
         ensures { IfOk result (λ s. s ≡ []) }
     {
         Ok(Standing {
-            parts: Vec::with_capacity(alloc, PARTITIONS)?,
+            parts: Vec::with_capacity(alloc, MOST_PARTITIONS)?,
             gates: Gates::none(),
             classes: Classes::none(),
         })
@@ -58,7 +57,7 @@ impl Standing {
     pub fn parts(&self) -> &[PartFacts]
         ensures same { result.now ≡ self.now }
         ensures small { All IsSmall self.now }
-        ensures few { length self.now ≤ 32 }
+        ensures few { length self.now ≤ most_partitions }
     {
         self.parts.as_slice()
     }
@@ -90,7 +89,7 @@ impl Standing {
 
     /// One partition more.
     fn push(&mut self, part: PartFacts)
-        requires room { length self.old < 32 }
+        requires room { length self.old < most_partitions }
         requires small { IsSmall part }
         ensures { self.new ≡ self.old ++ part ∷ [] }
     {
@@ -131,7 +130,7 @@ impl Standing {
     /// Each partition stands by its row and what the window has of it.
     pub fn fill(&mut self, shape: &Shape, rows: &[PartitionRow], window: &Window)
         requires shape { IsShape shape.now }
-        requires few_rows { length rows.now ≤ 32 }
+        requires few_rows { length rows.now ≤ most_partitions }
         requires rows { All IsRow rows.now }
         ensures { self.new ≡ parts_in shape.now rows.now window.now }
     {
@@ -147,7 +146,7 @@ impl Standing {
     /// The same, where there are as many partitions as before: most gates stay as they are.
     fn fill_again(&mut self, shape: &Shape, rows: &[PartitionRow], window: &Window)
         requires shape { IsShape shape.now }
-        requires few_rows { length rows.now ≤ 32 }
+        requires few_rows { length rows.now ≤ most_partitions }
         requires rows { All IsRow rows.now }
         requires count { length self.old ≡ length rows.now }
         ensures { self.new ≡ parts_in shape.now rows.now window.now }

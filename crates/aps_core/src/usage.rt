@@ -3,6 +3,7 @@ ghost use Rattle.std.specs.Prelude.{◌≡◌, ◌≢◌, ℕ, ◌+◌, ◌-◌,
 ghost use Rattle.aps_model.specs.declared.entry.Entry.{Entry as EntryOf};
 ghost use Rattle.aps_model.specs.Budget.{has_standing};
 ghost use Rattle.aps_model.specs.History.{IsEntry};
+ghost use Rattle.aps_model.specs.Limits.{longest_tick, most_critical, most_partitions, most_ticks};
 ghost use Rattle.aps_model.specs.Partition.{IsRow};
 ghost use Rattle.aps_model.specs.Shape.{IsShape};
 ghost use Rattle.aps_window.specs.Window.{advanced, resized, total_of};
@@ -18,7 +19,7 @@ use aps_window::Window;
 #[inline(always)]
 pub fn go_on(window: &mut Window, tick: u64) -> bool
     requires forward { window.old.tick ≤ tick }
-    requires few { tick ≤ 1000000 }
+    requires few { tick ≤ most_ticks }
     ensures same { window.new ≡ advanced (tick - window.old.tick) window.old }
     ensures stays { result ≡ false → window.new ≡ window.old }
     ensures at_hand { result ≡ false → tick ≡ window.old.tick }
@@ -45,7 +46,7 @@ pub fn resize(window: &mut Window, before: u16, shape: &Shape)
 #[inline(always)]
 fn recent_tick(tick: u64, moment: Nanos, at_hand: u32) -> u32
     requires some { 0 < tick }
-    requires short { tick ≤ 10000000 }
+    requires short { tick ≤ longest_tick }
     requires past { moment / tick ≤ at_hand }
     requires recent { at_hand ≤ moment / tick + 1 }
     ensures { result ≡ moment / tick }
@@ -77,7 +78,7 @@ pub fn add_time(window: &mut Window, shape: &Shape, e: &Entry)
 fn part_of(shape: &Shape, row: &PartitionRow, spent: Nanos, standing: bool) -> PartFacts
     requires shape { IsShape shape.now }
     requires row { IsRow row.now }
-    requires few { spent ≤ 64000000000 }
+    requires few { spent ≤ most_critical }
     ensures same { (critical : ℕ) → standing ≡ has_standing critical row.now.critical → result ≡ part_of shape.now row.now spent critical }
     ensures small { IsSmall result }
 {
@@ -108,7 +109,7 @@ pub fn part_by(shape: &Shape, row: &PartitionRow, window: &Window, p: PartitionI
 /// Each partition by its row and what the window has of it.
 pub fn fill_parts(shape: &Shape, rows: &[PartitionRow], window: &Window, parts: &mut [PartFacts])
     requires shape { IsShape shape.now }
-    requires few_rows { length rows.now ≤ 32 }
+    requires few_rows { length rows.now ≤ most_partitions }
     requires rows { All IsRow rows.now }
     requires one_each { length parts.old ≡ length rows.now }
     ensures same { parts.new ≡ parts_in shape.now rows.now window.now }

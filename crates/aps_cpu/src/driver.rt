@@ -1,4 +1,5 @@
-ghost use Rattle.std.specs.Prelude.{◌≡◌, ◌+◌, ◌<◌, ◌≤◌, if◌then◌else◌, nat_lt};
+ghost use Rattle.std.specs.Prelude.{◌≡◌, ◌+◌, ◌<◌, if◌then◌else◌, nat_lt};
+ghost use Rattle.aps_model.specs.Limits.{IsIn};
 ghost use Rattle.aps_lock.specs.Seats.{IsSeatOf};
 ghost use Rattle.aps_cpu.specs.Driven.{IsDriven, IsOnFrom};
 
@@ -116,9 +117,9 @@ fn enter<R: Wait, G: Gate>(rt: &R, dispatch: &Dispatch, seat: &CpuSeat, gate: &G
 
 /// The processor after this one, in the round from the first to the last.
 fn following(cpu: CpuId, first: CpuId, last: CpuId) -> CpuId
-    requires { (first ≤ cpu) × (cpu ≤ last) }
+    requires { IsIn first last cpu }
     ensures same { result ≡ (if nat_lt cpu last then cpu + 1 else first) }
-    ensures within { (first ≤ result) × (result ≤ last) }
+    ensures within { IsIn first last result }
 {
     if cpu < last {
         CpuId::at(cpu.index() + 1)

@@ -1,6 +1,7 @@
 //! Which threads and processors stand before a thread.
 ghost use Rattle.std.specs.Prelude.{◌≡◌, ◌<◌, ◌≤◌, length, IfOk};
 ghost use Rattle.aps_explain.specs.Because as spec;
+ghost use Rattle.aps_model.specs.Limits.{most_cpus, most_threads};
 
 use crate::deciding::{Test, ahead};
 use crate::scene::Scene;
@@ -50,7 +51,7 @@ impl Scene {
     /// How many processors there are.
     pub fn cpu_count(&self) -> usize
         ensures same { result ≡ self.now.scenario.shape.cpus }
-        ensures few { result ≤ 16 }
+        ensures few { result ≤ most_cpus }
     {
         usize::from(self.scenario().shape().cpus)
     }
@@ -58,7 +59,7 @@ impl Scene {
     /// How many threads there are.
     fn thread_count(&self) -> usize
         ensures same { result ≡ length self.now.scenario.threads }
-        ensures few { result ≤ 1024 }
+        ensures few { result ≤ most_threads }
     {
         self.scenario().threads().len()
     }

@@ -3,6 +3,7 @@ ghost use Rattle.std.specs.Prelude.{◌≡◌, ◌<◌, ◌≤◌, IfOk, IfSome,
 ghost use Rattle.aps_laws.specs.Ids.{NamesKnown};
 ghost use Rattle.aps_explain.specs.Because as spec;
 ghost use Rattle.aps_explain.specs.Past.{WakesAt};
+ghost use Rattle.aps_model.specs.Limits.{longest_tick};
 
 use crate::scene::Scene;
 use aps_model::{ChannelId, CpuId, Nanos, NoMemory, PartitionId, Pick, State, ThreadId};
@@ -118,7 +119,7 @@ fn running_by(c: CpuId, pick: &Option<Pick>) -> Because
 /// The first boundary at this moment or later.
 fn boundary_from(tick: u64, moment: Nanos) -> Nanos
     requires some { 0 < tick }
-    requires short { tick ≤ 10000000 }
+    requires short { tick ≤ longest_tick }
     requires early { moment ≤ 20000000000000 }
     ensures { result ≡ spec.boundary_from tick moment }
 {

@@ -18,7 +18,7 @@ ghost use Rattle.aps_core.specs.Small.{IsSmall};
 ghost use Rattle.aps_explain.specs.Past as spec;
 ghost use Rattle.aps_explain.specs.Parts.{part_by, part_by_row};
 ghost use Rattle.aps_explain.specs.Ties.{newest_server, ties_of};
-ghost use Rattle.aps_model.specs.Limits.{last_moment, most_entries};
+ghost use Rattle.aps_model.specs.Limits.{last_moment, most_entries, most_partitions};
 
 use crate::ties::Ties;
 use aps_core::Core;
@@ -260,7 +260,7 @@ fn parts_of(alloc: Global, core: &Core, usage: &Usage) -> Result<Vec<PartFacts>,
     ensures same { IfOk result (λ parts. parts.items
         ≡ map (part_by (state_of core.now).shape (state_of core.now).rows usage.now) (range_with_len 0 (length (state_of core.now).rows))) }
     ensures small { IfOk result (λ parts. All IsSmall parts.items) }
-    ensures few { length (state_of core.now).rows ≤ 32 }
+    ensures few { length (state_of core.now).rows ≤ most_partitions }
 {
     let history = core.history();
     let shape = history.shape();
@@ -276,7 +276,7 @@ fn parts_of(alloc: Global, core: &Core, usage: &Usage) -> Result<Vec<PartFacts>,
 fn part_by(shape: &Shape, row: &PartitionRow, usage: &Usage, p: usize) -> PartFacts
     requires shape { IsShape shape.now }
     requires row { IsRow row.now }
-    requires p { p < 32 }
+    requires p { p < most_partitions }
     requires small { IsAtMost 100000000000000 usage.now }
     ensures same { result ≡ part_by_row shape.now row.now usage.now p }
     ensures small { IsSmall result }

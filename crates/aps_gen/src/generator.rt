@@ -1,6 +1,7 @@
 //! A generated scenario as a whole.
 ghost use Rattle.std.specs.Prelude.{◌≡◌, ◌≤◌, IfOk};
 ghost use Rattle.aps_gen.specs.Generated.{generated};
+ghost use Rattle.aps_model.specs.Limits.{most_cpus, most_partitions, most_ticks};
 
 use crate::partitions::partition_rows;
 use crate::threads::thread_rows;
@@ -22,11 +23,11 @@ pub fn generate(
     ticks: u32,
 ) -> Result<Scenario, NoMemory>
     requires some_cpu { 1 ≤ cpus }
-    requires few_cpus { cpus ≤ 16 }
+    requires few_cpus { cpus ≤ most_cpus }
     requires some_partition { 1 ≤ partitions }
-    requires few_partitions { partitions ≤ 32 }
+    requires few_partitions { partitions ≤ most_partitions }
     requires some_tick { 1 ≤ ticks }
-    requires few_ticks { ticks ≤ 1000000 }
+    requires few_ticks { ticks ≤ most_ticks }
     ensures { IfOk result (λ scenario. scenario ≡ generated seed cpus partitions ticks) }
 {
     let shape = Shape {

@@ -1,6 +1,7 @@
 //! The partitions of a generated scenario.
 ghost use Rattle.std.specs.Prelude.{◌≡◌, ◌≤◌, IfOk};
 ghost use Rattle.aps_gen.specs.Generated as spec;
+ghost use Rattle.aps_model.specs.Limits.{most_partitions};
 
 use crate::names::partition_name;
 use aps_model::{Name, NoMemory, PartitionId, PartitionRow};
@@ -21,7 +22,7 @@ fn row(name: Name, budget: u16) -> PartitionRow
 /// The root, and equal shares for the others, of which the root has what is left.
 pub fn partition_rows(alloc: Global, count: u8) -> Result<Vec<PartitionRow>, NoMemory>
     requires some { 1 ≤ count }
-    requires few { count ≤ 32 }
+    requires few { count ≤ most_partitions }
     ensures { IfOk result (λ v. v.items ≡ spec.rows count) }
 {
     let Ok(system) = Name::new(b"System") else {

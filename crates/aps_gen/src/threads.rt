@@ -2,6 +2,7 @@
 ghost use Rattle.std.specs.Prelude.{◌≡◌, ◌<◌, ◌≤◌, ◌++◌, [], ◌∷◌, OnOk, IfOk};
 ghost use Rattle.aps_gen.specs.Draws.{next};
 ghost use Rattle.aps_gen.specs.Generated as spec;
+ghost use Rattle.aps_model.specs.Limits.{most_cpus, most_partitions};
 
 use crate::draws::Draws;
 use crate::names::{client_name, endless_name, worker_name};
@@ -101,7 +102,7 @@ fn add_endless(
     cpus: u8,
     i: u8,
 ) -> Result<(), NoMemory>
-    requires cpus { cpus ≤ 16 }
+    requires cpus { cpus ≤ most_cpus }
     requires partition { i ≤ 31 }
     ensures threads { OnOk result (threads.new.items ≡ threads.old.items ++ spec.endless_from i 0 cpus draws.old.state) }
     ensures drawn { OnOk result (draws.new.state ≡ spec.after_endless cpus draws.old.state) }
@@ -137,7 +138,7 @@ fn add_partition(
     cpus: u8,
     i: u8,
 ) -> Result<(), NoMemory>
-    requires cpus { cpus ≤ 16 }
+    requires cpus { cpus ≤ most_cpus }
     requires partition { i ≤ 31 }
     ensures threads { OnOk result (threads.new.items ≡ threads.old.items ++ spec.partition_threads cpus i draws.old.state) }
     ensures drawn { OnOk result (draws.new.state ≡ spec.after_partition cpus i draws.old.state) }
@@ -154,8 +155,8 @@ pub fn thread_rows(
     cpus: u8,
     partitions: u8,
 ) -> Result<Vec<ThreadRow>, NoMemory>
-    requires cpus { cpus ≤ 16 }
-    requires partitions { partitions ≤ 32 }
+    requires cpus { cpus ≤ most_cpus }
+    requires partitions { partitions ≤ most_partitions }
     ensures { IfOk result (λ v. v.items ≡ spec.server ∷ spec.threads_from cpus 0 partitions seed) }
 {
     let mut draws = Draws { state: seed };

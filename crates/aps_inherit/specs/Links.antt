@@ -3,6 +3,7 @@ use Rattle.std.specs.Prelude.{◌≡◌, ℕ, zero, suc, List, [], ◌∷◌, le
 use Rattle.std.specs.List.{count_by}
 use Rattle.aps_inherit.specs.declared.order.Link.{Link}
 use Rattle.aps_inherit.specs.Order.{AreApart, first_of}
+use Rattle.aps_model.specs.Limits.{most_threads}
 
 abbrev pub link_at : List (Option Link) → ℕ → Option Link
 link_at links x = slice_index_or links x None
@@ -33,7 +34,7 @@ pub record IsLinked (links : List (Option Link)) (first : Option ℕ) (xs : List
   pub places : (y : ℕ) → link_at links y ≡ link_in None xs y
   pub apart : AreApart xs
   pub count : length xs ≡ count_by is_some links
-  pub size : length links ≡ 1024
+  pub size : length links ≡ most_threads
 
 abbrev pub put_before : Option Link → Option ℕ → Option Link
 put_before None before = None

@@ -2,6 +2,7 @@
 use Rattle.std.specs.Prelude.{◌≡◌, ℕ, List, length, map, Option, None, unwrap_or, slice_index_or}
 use Rattle.aps_model.specs.SchedulerState.{Triple}
 use Rattle.aps_model.specs.Inherit.{triple_of}
+use Rattle.aps_model.specs.Limits.{most_threads}
 use Rattle.aps_inherit.specs.Serving.{AreChains, server_of, servers}
 
 -- what is read where a thread serves nobody
@@ -18,5 +19,5 @@ pub record IsTable (order : List ℕ) (by_server : List (Option Triple)) (by_cli
   pub rows : (x : ℕ) → slice_index_or by_server x None ≡ triple_of triples x
   pub above : (x : ℕ) → slice_index_or by_client x None ≡ server_of triples x
   pub chains : AreChains triples
-  pub rows_size : length by_server ≡ 1024
-  pub above_size : length by_client ≡ 1024
+  pub rows_size : length by_server ≡ most_threads
+  pub above_size : length by_client ≡ most_threads

@@ -1,6 +1,7 @@
 //! What inheritance goes by: each thread's own values, who serves whom, and what waits at each channel.
 ghost use Rattle.std.specs.Prelude.{◌≡◌, ◌≢◌, ◌≤◌, ◌∷◌, None, length, slice_set, IfOk};
 ghost use Rattle.aps_model.specs.Inherit.{IsFree, inheritance_of, top_at, triple_of, without_server};
+ghost use Rattle.aps_model.specs.Limits.{most_threads};
 ghost use Rattle.aps_model.specs.Opening.{opening};
 ghost use Rattle.aps_model.specs.SchedulerState.{no_facts};
 ghost use Rattle.aps_inherit.specs.Order.{after_in, first_of};
@@ -36,7 +37,7 @@ impl Content {
     /// The threads' own values, no triples, and nothing that waits.
     pub fn new(alloc: Global, scenario: &Scenario) -> Result<Content, NoMemory>
         ensures same { IfOk result (λ content. content ≡ inheritance_of (opening scenario.now)) }
-        ensures few { IfOk result (λ content. length content.own ≤ 1024) }
+        ensures few { IfOk result (λ content. length content.own ≤ most_threads) }
     {
         let own = own_values(alloc, scenario.threads())?;
         let triples = Triples::new(alloc)?;

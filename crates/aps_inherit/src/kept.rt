@@ -1,11 +1,12 @@
 //! The values kept beside each thread, and how they follow a change.
 ghost use Rattle.std.specs.Prelude.{◌≡◌, ◌<◌, ◌≤◌, ◌↔◌, ℕ, Bool, None, Some, length, slice_set, if◌then◌else◌, IsTrue, IfOk};
 ghost use Rattle.aps_model.specs.Inherit.{raised};
+ghost use Rattle.aps_model.specs.Limits.{most_threads};
 ghost use Rattle.aps_inherit.specs.Own.{own_of};
 ghost use Rattle.aps_inherit.specs.Values.{Mends, kept_at, nobody, of_channel, or_at, serves_by, values_by};
 
 use crate::content::Content;
-use crate::order::MOST_THREADS;
+use aps_model::limits::MOST_THREADS;
 use aps_model::{ChannelId, Facts, NoMemory, ThreadId};
 use std::alloc::Global;
 use std::marker::Model;
@@ -19,18 +20,19 @@ pub struct Kept {
 impl Model for Kept {
     ghost use Rattle.std.specs.Prelude.{◌≡◌, List, length};
     ghost use Rattle.aps_model.specs.declared.state.Facts.{Facts};
+    ghost use Rattle.aps_model.specs.Limits.{most_threads};
 
     ghost Value = { List Facts };
 
     ghost view = { λ k. k.values.items };
 
-    ghost invariant = { λ k. length k.values.items ≡ 1024 };
+    ghost invariant = { λ k. length k.values.items ≡ most_threads };
 }
 
 impl Kept {
     /// Each thread's own values.
     pub fn new(alloc: Global, content: &Content) -> Result<Kept, NoMemory>
-        requires { length content.now.own ≤ 1024 }
+        requires { length content.now.own ≤ most_threads }
         ensures { IfOk result (λ kept. (x : ℕ) → kept_at kept x ≡ own_of content.now x) }
     {
         let mut values = Vec::with_capacity(alloc, MOST_THREADS)?;

@@ -2,13 +2,12 @@
 ghost use Rattle.std.specs.Prelude.{◌≡◌, false, [], ◌∷◌, length, None, IfOk};
 ghost use Rattle.aps_inherit.specs.Order.{after_in, first_of, has, without};
 ghost use Rattle.aps_inherit.specs.Links.{link_in, next_first, with_after, with_before};
+ghost use Rattle.aps_model.specs.Limits.{most_threads};
 
+use aps_model::limits::MOST_THREADS;
 use aps_model::{NoMemory, ThreadId};
 use std::alloc::Global;
 use std::marker::Model;
-
-/// How many threads there are at most: each has a place of its own.
-pub const MOST_THREADS: usize = 1024;
 
 /// The neighbours of a thread that stands in the order: none before the first, none after the last.
 #[derive(Clone, Copy, Debug, PartialEq, Eq)]
@@ -112,7 +111,7 @@ fn next_first(first: Option<ThreadId>, link: &Link) -> Option<ThreadId>
 
 /// What stands before the thread, if there is such a thread.
 fn set_before(links: &mut Vec<Option<Link>>, x: Option<ThreadId>, before: Option<ThreadId>)
-    requires { length links.old.items ≡ 1024 }
+    requires { length links.old.items ≡ most_threads }
     ensures { links.new.items ≡ with_before links.old.items x before }
 {
     if let Some(x) = x {
@@ -124,7 +123,7 @@ fn set_before(links: &mut Vec<Option<Link>>, x: Option<ThreadId>, before: Option
 
 /// What stands after the thread, if there is such a thread.
 fn set_after(links: &mut Vec<Option<Link>>, x: Option<ThreadId>, after: Option<ThreadId>)
-    requires { length links.old.items ≡ 1024 }
+    requires { length links.old.items ≡ most_threads }
     ensures { links.new.items ≡ with_after links.old.items x after }
 {
     if let Some(x) = x {

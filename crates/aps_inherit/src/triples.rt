@@ -4,8 +4,9 @@ ghost use Rattle.aps_model.specs.Inherit.{IsFree, triple_of, without_server};
 ghost use Rattle.aps_inherit.specs.Order.{after_in, first_of};
 ghost use Rattle.aps_inherit.specs.Serving.{AreChains, server_of, servers};
 
-use crate::order::{MOST_THREADS, Order};
+use crate::order::Order;
 use crate::triple::Triple;
+use aps_model::limits::MOST_THREADS;
 use aps_model::{NoMemory, ThreadId};
 use std::alloc::Global;
 use std::marker::Model;

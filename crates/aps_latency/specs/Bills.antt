@@ -1,6 +1,7 @@
 -- What each thread ran on the bill of each partition.
 use Rattle.std.specs.Prelude.{◌≡◌, ℕ, ◌+◌, ◌<◌, ◌^◌, List, length, replicate, slice_index, slice_index_or, ◌&&◌, if◌then◌else◌}
 use Rattle.std.specs.List.{sum_by}
+use Rattle.aps_model.specs.Limits.{most_partitions, most_threads}
 use Rattle.aps_model.specs.declared.entry.Entry.{Entry}
 use Rattle.aps_model.specs.declared.usage.Usage.{Usage}
 use Rattle.aps_model.specs.Report.{length_of}
@@ -25,7 +26,7 @@ critical_time h x p = sum_by (critical_in x p) h
 -- ---- of all threads
 
 abbrev pub no_bills : Usage
-no_bills = record { used = replicate 32 0; critical = replicate 32 0 }
+no_bills = record { used = replicate most_partitions 0; critical = replicate most_partitions 0 }
 
 -- what thread x ran on the bill of partition p
 abbrev pub bill_at : List Usage → ℕ → ℕ → ℕ
@@ -37,18 +38,18 @@ critical_at bills x p = slice_index (slice_index_or bills x no_bills).critical p
 
 -- these are the bills of all threads, and have a place for each number
 pub record AreBills (h : List Entry) (bills : List Usage) : Type 0 where
-  pub count : length bills ≡ 1024
-  pub each : (x p : ℕ) → x < 1024 → p < 32 → bill_at bills x p ≡ billed_time h x p
-  pub critical : (x p : ℕ) → x < 1024 → p < 32 → critical_at bills x p ≡ critical_time h x p
+  pub count : length bills ≡ most_threads
+  pub each : (x p : ℕ) → x < most_threads → p < most_partitions → bill_at bills x p ≡ billed_time h x p
+  pub critical : (x p : ℕ) → x < most_threads → p < most_partitions → critical_at bills x p ≡ critical_time h x p
 
 -- the entry's time was added to its thread's bill
 pub record AreBilled (before : List Usage) (e : Entry) (after : List Usage) : Type 0 where
   pub count : length after ≡ length before
-  pub each : (x p : ℕ) → x < 1024 → p < 32 → bill_at after x p ≡ bill_at before x p + billed_in x p e
-  pub critical : (x p : ℕ) → x < 1024 → p < 32 → critical_at after x p ≡ critical_at before x p + critical_in x p e
-  pub small : (most x : ℕ) → x < 1024 → IsAtMost most (slice_index_or before x no_bills) → IsAtMost (most + length_of e) (slice_index_or after x no_bills)
+  pub each : (x p : ℕ) → x < most_threads → p < most_partitions → bill_at after x p ≡ bill_at before x p + billed_in x p e
+  pub critical : (x p : ℕ) → x < most_threads → p < most_partitions → critical_at after x p ≡ critical_at before x p + critical_in x p e
+  pub small : (most x : ℕ) → x < most_threads → IsAtMost most (slice_index_or before x no_bills) → IsAtMost (most + length_of e) (slice_index_or after x no_bills)
 
 -- the time of one entry more can be added to each
 pub record HaveRoom (bills : List Usage) : Type 0 where
-  pub count : length bills ≡ 1024
-  pub each : (x : ℕ) → x < 1024 → IsAtMost (2 ^ 63) (slice_index_or bills x no_bills)
+  pub count : length bills ≡ most_threads
+  pub each : (x : ℕ) → x < most_threads → IsAtMost (2 ^ 63) (slice_index_or bills x no_bills)

@@ -3,6 +3,7 @@ use lib.Chars.{codes}
 use Rattle.std.specs.Prelude.{◌≡◌, ℕ, ◌-◌, ◌<◌, ◌++◌, List, [], length, nat_eq, slice_index_or, if◌then◌else◌, Option, Some, None}
 use Rattle.std.specs.List.{flat_map, enumerate_from, range_with_len}
 use Rattle.std.specs.Fmt.{decimal}
+use Rattle.aps_model.specs.Limits.{most_partitions}
 use Rattle.aps_model.specs.declared.entry.Entry.{Entry}
 use Rattle.aps_model.specs.declared.scenario.ThreadRow.{ThreadRow}
 use Rattle.aps_model.specs.declared.usage.Usage.{Usage}
@@ -42,7 +43,7 @@ abbrev pub bill_line : ℕ → ℕ → List ℕ
 bill_line p ns = if nat_eq ns 0 then [] else codes "billed " ++ (decimal p ++ (codes " " ++ (decimal ns ++ codes "\n")))
 
 unfoldable pub bill_lines : (ℕ → ℕ) → List ℕ
-bill_lines billed = flat_map (λ p. bill_line p (billed p)) (range_with_len 0 32)
+bill_lines billed = flat_map (λ p. bill_line p (billed p)) (range_with_len 0 most_partitions)
 
 -- ---- waits and cycles
 

@@ -1,6 +1,7 @@
 //! What each thread ran on the bill of each partition.
 ghost use Rattle.std.specs.Prelude.{◌≡◌, ◌≤◌, ◌-◌, All, length, replicate, IfOk};
 ghost use Rattle.aps_model.specs.History.{IsEntry};
+ghost use Rattle.aps_model.specs.Limits.{most_threads};
 ghost use Rattle.aps_latency.specs.Bills as spec;
 
 use aps_model::limits::{MOST_PARTITIONS, MOST_THREADS};
@@ -23,7 +24,7 @@ pub fn bills(alloc: Global, entries: &[Entry]) -> Result<Vec<Usage>, NoMemory>
 
 /// Of each thread, that it ran on nobody's bill.
 fn nothing(alloc: Global) -> Result<Vec<Usage>, NoMemory>
-    ensures { IfOk result (λ bills. bills.items ≡ replicate 1024 spec.no_bills) }
+    ensures { IfOk result (λ bills. bills.items ≡ replicate most_threads spec.no_bills) }
 {
     let mut bills = Vec::with_capacity(alloc, MOST_THREADS)?;
     for _ in 0..MOST_THREADS {

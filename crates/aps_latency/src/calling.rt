@@ -1,6 +1,7 @@
 //! The calls of all threads of a history, one entry after the other.
 ghost use Rattle.std.specs.Prelude.{◌≡◌, ℕ, ◌<◌, ◌≤◌, length, replicate, IfOk, OnOk};
 ghost use Rattle.aps_model.specs.History.{IsEntry};
+ghost use Rattle.aps_model.specs.Limits.{most_threads};
 ghost use Rattle.aps_model.specs.SchedulerState.{SchedulerState};
 ghost use Rattle.aps_core.specs.Run.{state_of};
 ghost use Rattle.aps_latency.specs.Callers.{AreCallers};
@@ -34,7 +35,7 @@ pub fn add_news(
     core: &Core,
     e: &Entry,
 ) -> Result<(), NoMemory>
-    requires few { length calls.old.items ≤ 1024 }
+    requires few { length calls.old.items ≤ most_threads }
     requires one_each { length calls.old.items ≡ length core.now.setup.scenario.threads }
     requires callers { AreCallers core.now.setup.scenario callers.now }
     requires seen { length seen.old.items ≡ length callers.now }

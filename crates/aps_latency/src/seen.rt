@@ -2,6 +2,7 @@
 ghost use Rattle.std.specs.Prelude.{◌≡◌, ◌<◌, All, length, IfOk};
 ghost use Rattle.aps_core.specs.Run.{state_of};
 ghost use Rattle.aps_latency.specs.Seen as spec;
+ghost use Rattle.aps_model.specs.Limits.{most_threads};
 
 use aps_core::Core;
 use aps_model::{NoMemory, State, ThreadId};
@@ -39,7 +40,7 @@ fn seen_in(place: u16, state: &State) -> Seen
 
 /// What is seen of each of these threads. `NoMemory` comes where memory runs out.
 pub fn all_seen(alloc: Global, core: &Core, callers: &[usize]) -> Result<Vec<Seen>, NoMemory>
-    requires { All (λ x. x < 1024) callers.now }
+    requires { All (λ x. x < most_threads) callers.now }
     ensures { IfOk result (λ seen. spec.AreSeen (state_of core.now) callers.now seen.items) }
 {
     let mut seen = Vec::with_capacity(alloc, callers.len())?;

@@ -3,6 +3,7 @@ use lib.Chars.{codes}
 use Rattle.std.specs.Prelude.{◌≡◌, ℕ, ◌<◌, ◌≤◌, List, length, map}
 use Rattle.std.specs.List.{IsDistinct}
 use Rattle.std.specs.Str.{bytes_eq}
+use Rattle.aps_model.specs.Limits.{most_partitions}
 use Rattle.aps_model.specs.declared.partition.PartitionRow.{PartitionRow}
 use Rattle.aps_laws.specs.Sizes.{IsSameSizes}
 use Rattle.aps_model.specs.Partition.{AreRows, row_or_none}
@@ -13,7 +14,7 @@ use Rattle.aps_model.specs.Shape.{IsShape}
 -- 1 to 32 rows with distinct names below the row `System`
 pub record IsNamedTree (rows : List PartitionRow) : Type 0 where
   pub some : 1 ≤ length rows
-  pub few : length rows ≤ 32
+  pub few : length rows ≤ most_partitions
   pub root_name : (row_or_none rows 0).name ≡ codes "System"
   pub root_parent : (row_or_none rows 0).parent ≡ 0
   pub parents : (i : ℕ) → 0 < i → i < length rows → (row_or_none rows i).parent < i

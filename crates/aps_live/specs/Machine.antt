@@ -1,5 +1,6 @@
 -- What the threads as they stand have to do with the ready ones.
 use Rattle.std.specs.Prelude.{◌≡◌, ℕ, ◌+◌, ◌^◌, ◌<◌, ◌≤◌, ◌⊎◌, List, length, map, slice_index_or, if◌then◌else◌, Option, Some, None}
+use Rattle.aps_model.specs.Limits.{most_cpus, most_threads}
 use Rattle.aps_model.specs.declared.merit.Contender.{Contender}
 use Rattle.aps_model.specs.declared.state.Pick.{Pick}
 use Rattle.aps_live.specs.declared.thread.LiveThread.{LiveThread}
@@ -37,7 +38,7 @@ pub record AreNumbered (threads : List LiveThread) (stamps : ℕ) : Type 0 where
 -- what the threads and the processors as they stand have to do with the ready ones
 pub record IsMachine (s : LiveState) (seats : List (Option Contender)) : Type 0 where
   pub row : seats ≡ row_of s.threads
-  pub few : length s.threads ≤ 1024
-  pub few_cpus : length s.cpus ≤ 16
+  pub few : length s.threads ≤ most_threads
+  pub few_cpus : length s.cpus ≤ most_cpus
   pub numbered : AreNumbered s.threads s.stamps
   pub runs : (c : ℕ) (pick : Pick) → live_cpu_at s c ≡ Some pick → Runs s.threads c pick

@@ -10,6 +10,7 @@ use Rattle.aps_live.specs.declared.view.Ticket.{Ticket}
 use Rattle.aps_live.specs.declared.view.Ticket.TheVariants.{NoTicket, Waiting, Served}
 use Rattle.aps_live.specs.declared.view.View.{View}
 use Rattle.aps_live.specs.Seen.{cpus_of, IsSeenIn}
+use Rattle.aps_model.specs.Limits.{most_cpus}
 
 abbrev pub sum_of : (View → ℕ) → List View → ℕ
 sum_of f [] = 0
@@ -68,7 +69,7 @@ pub record KeepsRule (s : State (Option LiveRun) View) : Type 0 where
   pub fits : serving < 2 ^ 64
   pub counted : queued ≡ sum_of tickets s.views
   pub shared_out : sum_of room s.views ≡ cpus_of run
-  pub few : cpus_of run ≤ 16
+  pub few : cpus_of run ≤ most_cpus
   pub core : (get_elem? s.homes 0 ≡ some (some (Some run))) ⊎ ((v : View) × (get_elem? s.views (waiter 0) ≡ some v) × IsServed v.ticket)
   pub seats : (j : ℕ) (v : View) → get_elem? s.views j ≡ some v → IsKept run serving queued waiter owner j v
 

@@ -6,21 +6,22 @@ ghost use Rattle.aps_model.specs.Shape.{IsShape};
 ghost use Rattle.aps_ready.specs.Small.{IsSmall};
 ghost use Rattle.aps_live.specs.Part.{part_of};
 ghost use Rattle.aps_live.specs.Tied.{FitsTicks, IsTied};
-ghost use Rattle.aps_model.specs.Limits.{last_moment, most_critical};
+ghost use Rattle.aps_model.specs.Limits.{last_moment, longest_tick, longest_window, most_critical, most_partitions};
 
+use aps_model::limits::LONGEST_WINDOW;
 use aps_model::{
     Entry, Nanos, PartFacts, PartitionId, PartitionRow, Shape, has_allowance, overlap,
 };
 use aps_window::Window;
 
 /// How many ticks back a bill is kept.
-const KEPT: u64 = 400;
+const KEPT: u64 = LONGEST_WINDOW as u64;
 
 /// The first tick to which an interval is billed: that in which it begins, or the oldest that is kept.
 fn first_tick(from_tick: u64, now_tick: u64) -> u64
     requires { from_tick ≤ now_tick }
     ensures begun { from_tick ≤ result }
-    ensures kept { now_tick < result + 400 }
+    ensures kept { now_tick < result + longest_window }
     ensures inside { result ≤ now_tick }
     ensures least { (result ≡ from_tick) ⊎ (result + 399 ≡ now_tick) }
 {
@@ -33,7 +34,7 @@ pub fn bill_entry(window: &mut Window, _before: &[Entry], tick: u64, e: &Entry)
     requires tied { IsTied tick window.old _before.now }
     requires fits { FitsTicks tick (_before.now ++ e.now ∷ []) }
     requires some { 100000 ≤ tick }
-    requires short { tick ≤ 10000000 }
+    requires short { tick ≤ longest_tick }
     requires forward { e.now.from ≤ e.now.to }
     requires early { e.now.to ≤ last_moment }
     requires now { window.old.tick ≡ e.now.to / tick }
@@ -51,7 +52,7 @@ fn bill_ticks(window: &mut Window, _before: &[Entry], tick: u64, e: &Entry, p: P
     requires tied { IsTied tick window.old _before.now }
     requires fits { FitsTicks tick (_before.now ++ e.now ∷ []) }
     requires some { 100000 ≤ tick }
-    requires short { tick ≤ 10000000 }
+    requires short { tick ≤ longest_tick }
     requires forward { e.now.from ≤ e.now.to }
     requires early { e.now.to ≤ last_moment }
     requires now { window.old.tick ≡ e.now.to / tick }
@@ -97,7 +98,7 @@ pub fn fill_parts(
     parts: &mut [PartFacts],
 )
     requires shape { IsShape shape.now }
-    requires few_rows { length rows.now ≤ 32 }
+    requires few_rows { length rows.now ≤ most_partitions }
     requires rows { All IsRow rows.now }
     requires one_each { length parts.old ≡ length rows.now }
     requires tied { IsTied shape.now.tick window.now (_before.now ++ _e.now ∷ []) }

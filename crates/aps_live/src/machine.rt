@@ -6,7 +6,7 @@ ghost use Rattle.aps_live.specs.declared.event.LiveEvent.TheVariants.{Wake};
 ghost use Rattle.aps_live.specs.LiveState.{live_cpu_at, live_opening};
 ghost use Rattle.aps_live.specs.LiveStep.{doing_after, live_chosen, live_contenders, released, woken};
 ghost use Rattle.aps_live.specs.Machine.{IsReadyAmong};
-ghost use Rattle.aps_model.specs.Limits.{most_entries};
+ghost use Rattle.aps_model.specs.Limits.{most_entries, most_partitions};
 
 mod part;
 mod seat;
@@ -142,7 +142,7 @@ impl LiveMachine {
 
     /// The lowest partition with a budget that has no candidate.
     pub fn missing(&self, parts: &[PartFacts]) -> Option<PartitionId>
-        requires { length parts.now ≤ 32 }
+        requires { length parts.now ≤ most_partitions }
         ensures { result ≡ missing parts.now (live_contenders self.now) }
     {
         self.ready.missing(parts)

@@ -7,7 +7,7 @@ ghost use Rattle.aps_live.specs.declared.event.LiveEvent.TheVariants.{Wake};
 ghost use Rattle.aps_live.specs.LiveState.{live_cpu_at};
 ghost use Rattle.aps_live.specs.LiveStep.{live_pick, live_settled};
 ghost use Rattle.aps_live.specs.Tied.{FitsTicks, IsTied};
-ghost use Rattle.aps_model.specs.Limits.{last_moment, most_entries};
+ghost use Rattle.aps_model.specs.Limits.{last_moment, longest_tick, most_entries, most_partitions};
 
 use crate::bills::bill_entry;
 use crate::event::LiveEvent;
@@ -44,7 +44,7 @@ pub fn bill_now(window: &mut Window, before: &[Entry], tick: u64, was: Nanos, e:
     requires tied { IsTied tick window.old before.now }
     requires fits { FitsTicks tick (before.now ++ e.now ∷ []) }
     requires some { 100000 ≤ tick }
-    requires short { tick ≤ 10000000 }
+    requires short { tick ≤ longest_tick }
     requires forward { e.now.from ≤ e.now.to }
     requires early { e.now.to ≤ last_moment }
     requires was { window.old.tick ≡ was / tick }
@@ -95,7 +95,7 @@ pub fn pick(
     requires cpu { cpu < length machine.old.cpus }
     requires idle { live_cpu_at machine.old cpu ≡ None }
     requires small { All IsSmall parts.now }
-    requires few { length parts.now ≤ 32 }
+    requires few { length parts.now ≤ most_partitions }
     ensures { live_pick free parts.now machine.old cpu e ≡ record { entry = result; state = machine.new } }
 {
     let starved = machine.missing(parts);

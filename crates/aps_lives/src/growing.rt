@@ -4,6 +4,7 @@ ghost use Rattle.aps_core.specs.Run.{state_of};
 ghost use Rattle.aps_lives.specs.Doing as spec;
 ghost use Rattle.aps_lives.specs.Growing.{IsPassed, keeps_on, nothing_aside, told_of};
 ghost use Rattle.aps_lives.specs.Life.{AreLonger};
+ghost use Rattle.aps_model.specs.Limits.{most_threads};
 
 use crate::doing::{Doing, does, doing_by};
 use crate::life::{Life, Segment};
@@ -58,7 +59,7 @@ impl GrowingLives {
     /// Each life goes on with what its thread does after the entries of the core, from one moment (ns) to another. Where no
     /// time passes between them nothing changes, whatever the threads do. `NoMemory` comes where memory runs out.
     pub fn lengthen(&mut self, core: &Core, from: Nanos, to: Nanos) -> Result<(), NoMemory>
-        requires { length self.old ≤ 1024 }
+        requires { length self.old ≤ most_threads }
         ensures { OnOk result (AreLonger (state_of core.now) from to self.old self.new) }
     {
         if from >= to {
@@ -113,7 +114,7 @@ fn pass(
     until: Nanos,
     from: Nanos,
 ) -> Result<(), NoMemory>
-    requires few { length lives.old.items ≤ 1024 }
+    requires few { length lives.old.items ≤ most_threads }
     requires both { length aside.old.items ≡ length lives.old.items }
     ensures lives { length lives.new.items ≡ length lives.old.items }
     ensures aside { length aside.new.items ≡ length aside.old.items }
@@ -133,7 +134,7 @@ fn pass(
 
 /// The first thread from this one on that doesn't go on with what stands aside, or the number of threads where each does.
 fn next_other(aside: &Vec<Aside>, core: &Core, start: usize, until: Nanos, from: Nanos) -> usize
-    requires few { length aside.now.items ≤ 1024 }
+    requires few { length aside.now.items ≤ most_threads }
     requires start { start ≤ length aside.now.items }
     ensures later { start ≤ result }
     ensures inside { result ≤ length aside.now.items }

@@ -1,6 +1,10 @@
 -- The documented limits, each with its name: what a scenario, a run and a command may have at most or at least.
 -- docs/FORMATS.md says which refusal each has; `src/limits.rt` has the same numbers for code.
-use Rattle.std.specs.Prelude.{ℕ}
+use Rattle.std.specs.Prelude.{ℕ, ◌≤◌}
+
+-- a number lies in a range, both ends included
+abbrev pub IsIn : ℕ → ℕ → ℕ → Type 0
+IsIn low high n = (low ≤ n) × (n ≤ high)
 
 -- ---- how many of each
 
@@ -27,6 +31,20 @@ greatest_priority = 255
 
 abbrev pub longest_name : ℕ
 longest_name = 15
+
+-- ---- the greatest number of each, which are counted from 0
+
+abbrev pub last_cpu : ℕ
+last_cpu = 15
+
+abbrev pub last_partition : ℕ
+last_partition = 31
+
+abbrev pub last_channel : ℕ
+last_channel = 255
+
+abbrev pub last_thread : ℕ
+last_thread = 1023
 
 -- ---- times, in ns but for the window and the ticks of a run, which count ticks
 

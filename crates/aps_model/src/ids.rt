@@ -1,6 +1,8 @@
 ghost use Rattle.std.specs.Prelude.{◌≡◌, ℕ, ◌<◌, ◌≤◌, ◌↔◌, ◌∷◌, IsOk, IfOk, IfErr};
 ghost use Rattle.std.specs.Coded.{coded_ℕ};
+ghost use Rattle.aps_model.specs.Limits.{last_channel, last_cpu, last_partition, last_thread};
 
+use crate::limits::{LAST_CHANNEL, LAST_CPU, LAST_PARTITION, LAST_THREAD};
 use std::alloc::AllocError;
 use std::marker::Model;
 
@@ -29,7 +31,7 @@ impl Model for CpuId {
 
     ghost view = { λ i. i.index };
 
-    ghost invariant = { λ i. i.index ≤ 15 };
+    ghost invariant = { λ i. i.index ≤ last_cpu };
 
     ghost inverse = { λ n. record { index = n } };
 }
@@ -38,24 +40,24 @@ impl CpuId {
     /// The processor with this number, 0 to 15. `OutOfRange` comes exactly where the number is greater, and has
     /// it and the range.
     pub fn new(value: u64) -> Result<Self, OutOfRange>
-        ensures accepted { IsOk result ↔ (value ≤ 15) }
+        ensures accepted { IsOk result ↔ (value ≤ last_cpu) }
         ensures kept { IfOk result (λ id. id ≡ value) }
-        ensures outside { IfErr result (λ e. e ≡ record { value = value; low = 0; high = 15 }) }
+        ensures outside { IfErr result (λ e. e ≡ record { value = value; low = 0; high = last_cpu }) }
     {
-        if value <= 15 {
+        if value <= LAST_CPU {
             Ok(CpuId { index: value as u8 })
         } else {
             Err(OutOfRange {
                 value,
                 low: 0,
-                high: 15,
+                high: LAST_CPU,
             })
         }
     }
 
     /// The processor with this number, which is at most 15.
     pub fn at(index: usize) -> Self
-        requires { index ≤ 15 }
+        requires { index ≤ last_cpu }
         ensures { result ≡ index }
     {
         CpuId { index: index as u8 }
@@ -64,7 +66,7 @@ impl CpuId {
     /// The number as an index.
     pub fn index(self) -> usize
         ensures same { result ≡ self }
-        ensures small { result ≤ 15 }
+        ensures small { result ≤ last_cpu }
     {
         self.index as usize
     }
@@ -81,7 +83,7 @@ impl Model for ThreadId {
 
     ghost view = { λ i. i.index };
 
-    ghost invariant = { λ i. i.index ≤ 1023 };
+    ghost invariant = { λ i. i.index ≤ last_thread };
 
     ghost inverse = { λ n. record { index = n } };
 }
@@ -90,11 +92,11 @@ impl ThreadId {
     /// The thread with this number, 0 to 1,023. `OutOfRange` comes exactly where the number is greater, and has
     /// it and the range.
     pub fn new(value: u64) -> Result<Self, OutOfRange>
-        ensures accepted { IsOk result ↔ (value ≤ 1023) }
+        ensures accepted { IsOk result ↔ (value ≤ last_thread) }
         ensures kept { IfOk result (λ id. id ≡ value) }
-        ensures outside { IfErr result (λ e. e ≡ record { value = value; low = 0; high = 1023 }) }
+        ensures outside { IfErr result (λ e. e ≡ record { value = value; low = 0; high = last_thread }) }
     {
-        if value <= 1023 {
+        if value <= LAST_THREAD {
             Ok(ThreadId {
                 index: value as u16,
             })
@@ -102,14 +104,14 @@ impl ThreadId {
             Err(OutOfRange {
                 value,
                 low: 0,
-                high: 1023,
+                high: LAST_THREAD,
             })
         }
     }
 
     /// The thread with this number, which is at most 1,023.
     pub fn at(index: usize) -> Self
-        requires { index ≤ 1023 }
+        requires { index ≤ last_thread }
         ensures { result ≡ index }
     {
         ThreadId {
@@ -120,7 +122,7 @@ impl ThreadId {
     /// The number as an index.
     pub fn index(self) -> usize
         ensures same { result ≡ self }
-        ensures small { result ≤ 1023 }
+        ensures small { result ≤ last_thread }
     {
         self.index as usize
     }
@@ -137,7 +139,7 @@ impl Model for PartitionId {
 
     ghost view = { λ i. i.index };
 
-    ghost invariant = { λ i. i.index ≤ 31 };
+    ghost invariant = { λ i. i.index ≤ last_partition };
 
     ghost inverse = { λ n. record { index = n } };
 }
@@ -146,24 +148,24 @@ impl PartitionId {
     /// The partition with this number, 0 to 31. `OutOfRange` comes exactly where the number is greater, and has
     /// it and the range.
     pub fn new(value: u64) -> Result<Self, OutOfRange>
-        ensures accepted { IsOk result ↔ (value ≤ 31) }
+        ensures accepted { IsOk result ↔ (value ≤ last_partition) }
         ensures kept { IfOk result (λ id. id ≡ value) }
-        ensures outside { IfErr result (λ e. e ≡ record { value = value; low = 0; high = 31 }) }
+        ensures outside { IfErr result (λ e. e ≡ record { value = value; low = 0; high = last_partition }) }
     {
-        if value <= 31 {
+        if value <= LAST_PARTITION {
             Ok(PartitionId { index: value as u8 })
         } else {
             Err(OutOfRange {
                 value,
                 low: 0,
-                high: 31,
+                high: LAST_PARTITION,
             })
         }
     }
 
     /// The partition with this number, which is at most 31.
     pub fn at(index: usize) -> Self
-        requires { index ≤ 31 }
+        requires { index ≤ last_partition }
         ensures { result ≡ index }
     {
         PartitionId { index: index as u8 }
@@ -172,7 +174,7 @@ impl PartitionId {
     /// The number as an index.
     pub fn index(self) -> usize
         ensures same { result ≡ self }
-        ensures small { result ≤ 31 }
+        ensures small { result ≤ last_partition }
     {
         self.index as usize
     }
@@ -196,24 +198,24 @@ impl ChannelId {
     /// The channel with this number, 0 to 255. `OutOfRange` comes exactly where the number is greater, and has
     /// it and the range.
     pub fn new(value: u64) -> Result<Self, OutOfRange>
-        ensures accepted { IsOk result ↔ (value ≤ 255) }
+        ensures accepted { IsOk result ↔ (value ≤ last_channel) }
         ensures kept { IfOk result (λ id. id ≡ value) }
-        ensures outside { IfErr result (λ e. e ≡ record { value = value; low = 0; high = 255 }) }
+        ensures outside { IfErr result (λ e. e ≡ record { value = value; low = 0; high = last_channel }) }
     {
-        if value <= 255 {
+        if value <= LAST_CHANNEL {
             Ok(ChannelId { index: value as u8 })
         } else {
             Err(OutOfRange {
                 value,
                 low: 0,
-                high: 255,
+                high: LAST_CHANNEL,
             })
         }
     }
 
     /// The channel with this number, which is at most 255.
     pub fn at(index: usize) -> Self
-        requires { index ≤ 255 }
+        requires { index ≤ last_channel }
         ensures { result ≡ index }
     {
         ChannelId { index: index as u8 }
@@ -222,7 +224,7 @@ impl ChannelId {
     /// The number as an index.
     pub fn index(self) -> usize
         ensures same { result ≡ self }
-        ensures small { result ≤ 255 }
+        ensures small { result ≤ last_channel }
     {
         self.index as usize
     }

@@ -27,6 +27,9 @@ pub const LONGEST_NAME: usize = 15;
 /// The most entries that a history may be asked to hold.
 pub const MOST_ENTRIES: u64 = 4_000_000;
 
+/// The most ticks of a window.
+pub const LONGEST_WINDOW: usize = 400;
+
 /// The most ticks of a run.
 pub const MOST_TICKS: u64 = 1_000_000;
 
@@ -41,3 +44,12 @@ pub const MOST_SCENARIO_BYTES: usize = 1_048_576;
 
 /// The most bytes that a journal is read to.
 pub const MOST_JOURNAL_BYTES: usize = 310_000_000;
+
+/// The greatest number of a processor, of a thread, of a partition and of a channel: they count from 0.
+pub const LAST_CPU: u64 = 15;
+
+pub const LAST_THREAD: u64 = 1023;
+
+pub const LAST_PARTITION: u64 = 31;
+
+pub const LAST_CHANNEL: u64 = 255;

@@ -6,6 +6,7 @@ use Rattle.aps_pictures.specs.declared.group.Point.{Point}
 use Rattle.aps_pictures.specs.declared.scale.Sizes.{Sizes}
 use Rattle.aps_pictures.specs.Scale.{depth_of}
 use Rattle.aps_pictures.specs.Survey.{bound_of, whole_of}
+use Rattle.aps_model.specs.Limits.{most_partitions}
 
 -- the point of no sample
 abbrev pub no_point : Point
@@ -44,4 +45,4 @@ pub record IsEmptyGroup (place : ℕ) (group : Group) : Type 0 where
   pub from : group.from ≡ place
   pub end : group.end ≡ place
   pub unchanged : group.unchanged ≡ true
-  pub points : (p : ℕ) → p < 32 → slice_index_or group.points p unread_point ≡ no_point
+  pub points : (p : ℕ) → p < most_partitions → slice_index_or group.points p unread_point ≡ no_point

@@ -1,6 +1,7 @@
 -- What the panels say of the samples that are shown.
 use Rattle.std.specs.Prelude.{◌≡◌, ℕ, ◌+◌, ◌*◌, ◌/◌, ◌<◌, Bool, false, ◌&&◌, ◌||◌, List, max, min, nat_eq, nat_lt, if◌then◌else◌, Option, Some, None, slice_index, slice_index_or}
 use Rattle.std.specs.List.{fold, range_with_len}
+use Rattle.aps_model.specs.Limits.{most_partitions}
 use Rattle.aps_model.specs.declared.entry.Entry.{Entry}
 use Rattle.aps_model.specs.Scenario.{Scenario}
 use Rattle.aps_samples.specs.declared.sample.Sample.{Sample}
@@ -90,4 +91,4 @@ partial_from scenario h from count =
 pub record IsSurvey (scenario : Scenario) (h : List Entry) (sizes : Sizes) (from count : ℕ) (survey : Survey) : Type 0 where
   pub unchanged : survey.unchanged ≡ unchanged_from scenario h from count
   pub partial : survey.partial ≡ partial_from scenario h from count
-  pub found : (p : ℕ) → p < 32 → slice_index_or survey.found p no_found ≡ found_from scenario h sizes p from count
+  pub found : (p : ℕ) → p < most_partitions → slice_index_or survey.found p no_found ≡ found_from scenario h sizes p from count

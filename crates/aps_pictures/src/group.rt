@@ -6,7 +6,7 @@ ghost use Rattle.aps_pictures.specs.Group.{IsEmptyGroup, joined, no_point, point
 ghost use Rattle.aps_pictures.specs.Scale.{depth_of, top_at};
 ghost use Rattle.aps_pictures.specs.Survey.{no_found, whole_of};
 ghost use Rattle.aps_samples.specs.Pass.{IsAt, scenario_of};
-ghost use Rattle.aps_model.specs.Limits.{most_entries};
+ghost use Rattle.aps_model.specs.Limits.{most_entries, most_partitions};
 
 use crate::scale::{Sizes, depth_of, top_of};
 use crate::survey::{Range, Survey, bound_of};
@@ -75,7 +75,7 @@ pub fn groups_of(
 
 /// What the top of each partition's panel stands for.
 fn tops_of(survey: &Survey) -> [u64; 32]
-    ensures { (p : ℕ) → p < 32 → slice_index_or result p 0 ≡ top_at (slice_index_or survey.now.found p no_found).scale }
+    ensures { (p : ℕ) → p < most_partitions → slice_index_or result p 0 ≡ top_at (slice_index_or survey.now.found p no_found).scale }
 {
     let mut tops = [0; MOST_PARTITIONS];
     for p in 0..MOST_PARTITIONS {
@@ -141,7 +141,7 @@ impl Groups {
 
 /// How far below the top each partition's line begins, where it doesn't begin at 0.
 fn begins_at(sample: &Sample, sizes: Sizes, tops: &[u64; 32]) -> [u16; 32]
-    ensures { (p : ℕ) → p < 32 → slice_index_or result p 0
+    ensures { (p : ℕ) → p < most_partitions → slice_index_or result p 0
         ≡ depth_of (slice_index sample.now.usage.used p) (whole_of sizes sample.now) (slice_index_or tops.now p 0) }
 {
     let whole = sizes.whole(sample.window);
@@ -154,7 +154,7 @@ fn begins_at(sample: &Sample, sizes: Sizes, tops: &[u64; 32]) -> [u16; 32]
 
 /// The partitions that had no candidate at some pick of tick `j`, which the pass has just left, where so many exist in it.
 fn lacking(samples: &Samples, rows: usize, j: u64) -> [bool; 32]
-    ensures { (p : ℕ) → p < 32 → slice_index_or result p false ≡ (nat_lt p rows && nat_lt j (slice_index samples.now.lasts.lacked p)) }
+    ensures { (p : ℕ) → p < most_partitions → slice_index_or result p false ≡ (nat_lt p rows && nat_lt j (slice_index samples.now.lasts.lacked p)) }
 {
     let mut all = [false; MOST_PARTITIONS];
     for p in 0..MOST_PARTITIONS {
@@ -195,7 +195,7 @@ impl Group {
         ensures from { self.new.from ≡ self.old.from }
         ensures end { self.new.end ≡ self.old.end }
         ensures unchanged { self.new.unchanged ≡ (self.old.unchanged && sample.now.unchanged) }
-        ensures points { (p : ℕ) → p < 32 → slice_index_or self.new.points p unread_point
+        ensures points { (p : ℕ) → p < most_partitions → slice_index_or self.new.points p unread_point
             ≡ joined (slice_index_or self.old.points p unread_point)
             (point_of sizes p (slice_index_or tops.now p 0) (slice_index_or lacking.now p false) sample.now) }
     {
@@ -214,7 +214,7 @@ fn points_with(
     tops: &[u64; 32],
     lacking: &[bool; 32],
 ) -> [Point; 32]
-    ensures { (p : ℕ) → p < 32 → slice_index_or result p unread_point
+    ensures { (p : ℕ) → p < most_partitions → slice_index_or result p unread_point
         ≡ joined (slice_index_or points.now p unread_point)
         (point_of sizes p (slice_index_or tops.now p 0) (slice_index_or lacking.now p false) sample.now) }
 {
@@ -228,7 +228,7 @@ fn points_with(
 
 /// The point of one sample.
 fn point_of(sample: &Sample, sizes: Sizes, p: usize, top: u64, lacking: bool) -> Point
-    requires { p < 32 }
+    requires { p < most_partitions }
     ensures { result ≡ point_of sizes p top lacking sample.now }
 {
     let whole = sizes.whole(sample.window);

@@ -1,5 +1,6 @@
 //! The legend of partitions.
 ghost use Rattle.std.specs.Prelude.{◌≡◌, ◌+◌, ◌*◌, ◌/◌, ◌<◌, ◌≤◌, length};
+ghost use Rattle.aps_model.specs.Limits.{most_partitions};
 
 use crate::scene::Scene;
 use crate::titles::{add_budget, text_of};
@@ -21,7 +22,7 @@ const TOP: u64 = 420;
 
 /// Where the next line begins below the legend of so many partitions.
 pub fn below_partitions(count: usize) -> u64
-    requires { count ≤ 32 }
+    requires { count ≤ most_partitions }
     ensures same { result ≡ 420 + (count + 3) / 4 * 210 + 60 }
     ensures few { result ≤ 2160 }
 {

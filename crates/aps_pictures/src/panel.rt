@@ -1,5 +1,6 @@
 //! The panel of one partition.
 ghost use Rattle.std.specs.Prelude.{◌≡◌, ◌+◌, ◌*◌, ◌/◌, ◌<◌, ◌≤◌, length, min};
+ghost use Rattle.aps_model.specs.Limits.{most_partitions};
 
 use crate::group::{Group, Groups};
 use crate::scale::{HEIGHT, Sizes, top_of};
@@ -39,7 +40,7 @@ struct Plot {
     ghost inside: { x + width ≤ 14000 },
     ghost low: { top ≤ 200000 },
     ghost some: { 0 < count },
-    ghost partition: { p < 32 },
+    ghost partition: { p < most_partitions },
 }
 
 /// The panel of the partition with this number and row.
@@ -54,7 +55,7 @@ pub fn add_panel(
     survey: &Survey,
     groups: &Groups,
 ) -> Result<(), NoMemory>
-    requires { p < 32 }
+    requires { p < most_partitions }
 {
     let plot = Plot {
         x: panel.x,
@@ -237,7 +238,7 @@ enum Line {
 }
 
 fn depth_of(group: &Group, p: usize, line: Line) -> u16
-    requires { p < 32 }
+    requires { p < most_partitions }
 {
     let point = &group.points[p];
     match line {

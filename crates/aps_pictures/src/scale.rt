@@ -1,6 +1,7 @@
 //! The scale of a panel.
 ghost use Rattle.std.specs.Prelude.{◌≡◌, ◌+◌, ◌*◌, ◌<◌, ◌≤◌, length};
 ghost use Rattle.aps_pictures.specs.Scale.{depth_of, scale_of, top_at};
+ghost use Rattle.aps_model.specs.Limits.{longest_tick, most_cpus};
 
 use aps_model::Nanos;
 
@@ -18,9 +19,9 @@ static TOPS: [u64; SCALES] = [10, 20, 50, 100, 200, 300, 400, 500, 600, 800, 100
 pub struct Sizes {
     pub cpus: u8,
     pub tick: Nanos,
-    ghost few: { cpus ≤ 16 },
+    ghost few: { cpus ≤ most_cpus },
     ghost some: { 0 < tick },
-    ghost short: { tick ≤ 10000000 },
+    ghost short: { tick ≤ longest_tick },
 }
 
 impl Sizes {

@@ -1,5 +1,6 @@
 //! What all pictures of a span of a history show.
 ghost use Rattle.std.specs.Prelude.{◌<◌, ◌≤◌, length};
+ghost use Rattle.aps_model.specs.Limits.{most_cpus, most_partitions};
 
 pub use crate::retracing::Standing;
 use aps_model::{Nanos, PartitionRow, Usage};
@@ -26,6 +27,6 @@ pub struct Scene {
     pub rows: Vec<PartitionRow>,
     pub standing: Standing,
     pub usage: Usage,
-    ghost few_cpus: { cpus ≤ 16 },
-    ghost few_rows: { length rows.items ≤ 32 },
+    ghost few_cpus: { cpus ≤ most_cpus },
+    ghost few_rows: { length rows.items ≤ most_partitions },
 }

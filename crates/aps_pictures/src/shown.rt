@@ -3,7 +3,7 @@ ghost use Rattle.std.specs.Prelude.{◌≡◌, ◌+◌, ◌*◌, ◌<◌, ◌≤
 ghost use Rattle.aps_model.specs.Legal.{IsLegal};
 ghost use Rattle.aps_model.specs.Shape.{IsShape};
 ghost use Rattle.aps_pictures.specs.Scene.{IsScene, asked_end, end_of, last_begin, shown_end};
-ghost use Rattle.aps_model.specs.Limits.{most_entries};
+ghost use Rattle.aps_model.specs.Limits.{longest_tick, most_entries};
 
 use crate::retracing::standing_at;
 use crate::scene::{Scene, Stretch};
@@ -88,7 +88,7 @@ fn asked_end(asked: Option<u32>, end: Nanos, tick: Nanos) -> u64
 /// The time of these ticks.
 fn span_of(stretch: Stretch, tick: Nanos) -> Span
     requires some { 0 < tick }
-    requires short { tick ≤ 10000000 }
+    requires short { tick ≤ longest_tick }
     ensures from { result.from ≡ stretch.from * tick }
     ensures to { result.to ≡ stretch.to * tick }
 {
@@ -101,7 +101,7 @@ fn span_of(stretch: Stretch, tick: Nanos) -> Span
 /// Where the last tick begins that is shown and that the history reached, which ends at this moment.
 fn last_begin(stretch: Stretch, end: Nanos, tick: Nanos) -> Nanos
     requires some { 0 < tick }
-    requires short { tick ≤ 10000000 }
+    requires short { tick ≤ longest_tick }
     ensures { result ≡ last_begin stretch.to end tick }
 {
     (stretch.to - 1).min(end / tick) * tick

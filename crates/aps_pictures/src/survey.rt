@@ -5,7 +5,7 @@ ghost use Rattle.aps_model.specs.Loaded.{finished_ticks};
 ghost use Rattle.aps_pictures.specs.Survey.{IsSurvey, bound_of, found_with, highest_of, less, more, no_found, peak_of, share_of, whole_of};
 ghost use Rattle.aps_pictures.specs.declared.scale.Sizes.{Sizes};
 ghost use Rattle.aps_samples.specs.Pass.{IsAt, scenario_of};
-ghost use Rattle.aps_model.specs.Limits.{most_entries};
+ghost use Rattle.aps_model.specs.Limits.{most_entries, most_partitions};
 
 use crate::scale::{Sizes, scale_of};
 use aps_model::limits::MOST_PARTITIONS;
@@ -86,7 +86,7 @@ impl Survey {
     fn none(alloc: Global) -> Survey
         ensures unchanged { result.unchanged ≡ 0 }
         ensures partial { result.partial ≡ None }
-        ensures found { (p : ℕ) → p < 32 → slice_index_or result.found p no_found ≡ no_found }
+        ensures found { (p : ℕ) → p < most_partitions → slice_index_or result.found p no_found ≡ no_found }
     {
         Survey {
             unchanged: 0,
@@ -140,7 +140,7 @@ impl Survey {
         ensures unchanged { self.new.unchanged
             ≡ (if sample.now.unchanged then self.old.unchanged + 1 else self.old.unchanged) }
         ensures partial { self.new.partial ≡ (if sample.now.full then self.old.partial else Some sample.now.tick) }
-        ensures found { (p : ℕ) → p < 32 → slice_index_or self.new.found p no_found
+        ensures found { (p : ℕ) → p < most_partitions → slice_index_or self.new.found p no_found
             ≡ found_with sizes p (slice_index_or self.old.found p no_found) sample.now }
     {
         if sample.unchanged {
@@ -155,7 +155,7 @@ impl Survey {
 
 /// What is found of each partition with one sample more.
 fn found_with(found: &[Found; 32], sample: &Sample, sizes: Sizes) -> [Found; 32]
-    ensures { (p : ℕ) → p < 32 → slice_index_or result p no_found ≡ found_with sizes p (slice_index_or found.now p no_found) sample.now }
+    ensures { (p : ℕ) → p < most_partitions → slice_index_or result p no_found ≡ found_with sizes p (slice_index_or found.now p no_found) sample.now }
 {
     let mut all = [Found::nothing(); MOST_PARTITIONS];
     for p in 0..MOST_PARTITIONS {
@@ -179,7 +179,7 @@ impl Found {
 
     /// What is found with one sample more, of the partition with this number.
     fn with(&self, sample: &Sample, sizes: Sizes, p: usize) -> Found
-        requires { p < 32 }
+        requires { p < most_partitions }
         ensures { result ≡ found_with sizes p self.now sample.now }
     {
         let whole = sizes.whole(sample.window);
@@ -196,7 +196,7 @@ impl Found {
 
 /// What the partition used in the sample, whose window has so much processor time.
 fn peak_of(sample: &Sample, whole: Nanos, p: usize) -> Peak
-    requires { p < 32 }
+    requires { p < most_partitions }
     ensures { (sizes : Sizes) → whole ≡ whole_of sizes sample.now → result ≡ peak_of sizes sample.now p }
 {
     let used = sample.usage.used[p];
@@ -220,7 +220,7 @@ fn share_of(used: Nanos, whole: Nanos) -> u128
 
 /// The greatest of what is drawn of a partition in a sample, in ns.
 fn highest_of(sample: &Sample, sizes: Sizes, p: usize) -> Nanos
-    requires { p < 32 }
+    requires { p < most_partitions }
     ensures { result ≡ highest_of sizes sample.now p }
 {
     let drawn = sample.usage.used[p].max(sample.allowance[p]);
@@ -234,7 +234,7 @@ fn highest_of(sample: &Sample, sizes: Sizes, p: usize) -> Nanos
 /// What a partition uses at most in a window without a change, in ns: what it is allowed, its critical time and its free time,
 /// and a tick of each processor where it is allowed anything.
 pub fn bound_of(sample: &Sample, sizes: Sizes, p: usize) -> Nanos
-    requires { p < 32 }
+    requires { p < most_partitions }
     ensures { result ≡ bound_of sizes sample.now p }
 {
     let allowance = sample.allowance[p];

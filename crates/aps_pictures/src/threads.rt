@@ -1,7 +1,7 @@
 //! The picture of threads: a lane for each.
 ghost use Rattle.std.specs.Prelude.{◌≡◌, ◌+◌, ◌*◌, ◌<◌, ◌≤◌, length};
 ghost use Rattle.aps_model.specs.Legal.{IsLegal};
-ghost use Rattle.aps_model.specs.Limits.{most_entries};
+ghost use Rattle.aps_model.specs.Limits.{most_entries, most_threads};
 
 use crate::legend::{add_hatched, add_partitions, add_sample, below_partitions};
 use crate::life::{add_life, add_ready, add_wait, stacked};
@@ -53,7 +53,7 @@ fn draw(
     scene: &Scene,
     lives: &[Life],
 ) -> Result<String, NoMemory>
-    requires { length threads.now ≤ 1024 }
+    requires { length threads.now ≤ most_threads }
 {
     let mut out = String::new(alloc);
     add_picture(alloc, &mut out, threads, scene, lives)?;
@@ -68,7 +68,7 @@ fn add_picture(
     scene: &Scene,
     lives: &[Life],
 ) -> Result<(), NoMemory>
-    requires { length threads.now ≤ 1024 }
+    requires { length threads.now ≤ most_threads }
 {
     let top = below_partitions(scene.rows.len()) + 300;
     let bottom = top + threads.len() as u64 * LANE;
@@ -157,7 +157,7 @@ fn add_lives(
     lives: &[Life],
     top: u64,
 ) -> Result<(), NoMemory>
-    requires threads { length threads.now ≤ 1024 }
+    requires threads { length threads.now ≤ most_threads }
     requires top { top ≤ 10000 }
 {
     for (x, thread) in threads.iter().enumerate() {
@@ -180,7 +180,7 @@ fn add_stacks(
     lives: &[Life],
     top: u64,
 ) -> Result<(), NoMemory>
-    requires threads { length threads.now ≤ 1024 }
+    requires threads { length threads.now ≤ most_threads }
     requires top { top ≤ 10000 }
 {
     let mut columns = Columns::new(alloc, scene.span)?;

@@ -3,7 +3,7 @@ ghost use Rattle.std.specs.Prelude.{◌≡◌, ◌+◌, ◌*◌, ◌<◌, ◌≤
 ghost use Rattle.aps_model.specs.Legal.{IsLegal};
 ghost use Rattle.aps_model.specs.Loaded.{finished_ticks};
 ghost use Rattle.aps_pictures.specs.Panel.{IsPlaced, rows_of_panels};
-ghost use Rattle.aps_model.specs.Limits.{most_entries};
+ghost use Rattle.aps_model.specs.Limits.{most_entries, most_partitions};
 
 use crate::group::{Groups, groups_of};
 use crate::panel::{Panel, add_panel};
@@ -113,7 +113,7 @@ fn usage_of(
     requires legal { IsLegal history.now.scenario order history.now.entries }
     requires few { length history.now.entries ≤ most_entries }
     requires finished { range.end ≤ finished_ticks history.now.scenario.shape history.now.entries }
-    requires rows { length rows.now ≤ 32 }
+    requires rows { length rows.now ≤ most_partitions }
 {
     let survey = survey_of(alloc, history, order, sizes, range)?;
     let groups = groups_of(alloc, history, order, sizes, range, &survey)?;
@@ -130,7 +130,7 @@ fn draw(
     survey: &Survey,
     groups: &Groups,
 ) -> Result<String, NoMemory>
-    requires { length rows.now ≤ 32 }
+    requires { length rows.now ≤ most_partitions }
 {
     let mut out = String::new(alloc);
     add_picture(&mut out, rows, parts, sizes, range, survey, groups)?;
@@ -147,7 +147,7 @@ fn add_picture(
     survey: &Survey,
     groups: &Groups,
 ) -> Result<(), NoMemory>
-    requires { length rows.now ≤ 32 }
+    requires { length rows.now ≤ most_partitions }
 {
     let height = TOP + height_of(rows.len()) * PITCH;
     add_head(out, "usage", height, rows.len())?;
@@ -169,9 +169,9 @@ fn add_top(out: &mut String, sizes: Sizes, unchanged: u64) -> Result<(), NoMemor
 
 /// How many panels stand below one another.
 fn height_of(count: usize) -> u64
-    requires { count ≤ 32 }
+    requires { count ≤ most_partitions }
     ensures same { result ≡ rows_of_panels count }
-    ensures few { result ≤ 32 }
+    ensures few { result ≤ most_partitions }
 {
     if count <= ONE_COLUMN {
         count as u64
@@ -189,7 +189,7 @@ fn add_panels(
     survey: &Survey,
     groups: &Groups,
 ) -> Result<(), NoMemory>
-    requires rows { length rows.now ≤ 32 }
+    requires rows { length rows.now ≤ most_partitions }
 {
     for (p, row) in rows.iter().enumerate() {
         let panel = panel_at(p, rows.len());
@@ -201,7 +201,7 @@ fn add_panels(
 /// Where the panel of a partition stands, of so many.
 fn panel_at(p: usize, count: usize) -> Panel
     requires p { p < count }
-    requires count { count ≤ 32 }
+    requires count { count ≤ most_partitions }
     ensures { IsPlaced p count result }
 {
     if count <= ONE_COLUMN {

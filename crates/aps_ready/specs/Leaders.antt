@@ -2,6 +2,7 @@ use Rattle.std.specs.Prelude.{◌≡◌, ℕ, ◌%◌, ◌<◌, ◌≤◌, Bool,
 use Rattle.aps_model.specs.declared.merit.PartFacts.{PartFacts}
 use Rattle.aps_model.specs.Merit.{smaller}
 use Rattle.aps_model.specs.Budget.{part_at}
+use Rattle.aps_model.specs.Limits.{most_partitions}
 use Rattle.aps_levels.specs.Bits.{has}
 use Rattle.aps_ready.specs.declared.entrant.Entrant.{Entrant}
 use Rattle.aps_ready.specs.declared.leaders.Leaders.{Leaders}
@@ -17,7 +18,7 @@ is_more_than parts used budget g = smaller (part_at parts (g % 32)).used (part_a
 
 -- the set has a group of the partition
 pub record HasGroup (set : ℕ → Bool) (p : ℕ) : Type 0 where
-  pub below : p < 32
+  pub below : p < most_partitions
   pub group : ℕ
   pub inside : group < 64
   pub here : set group ≡ true

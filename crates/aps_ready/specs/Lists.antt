@@ -6,6 +6,7 @@ use Rattle.aps_ready.specs.declared.entrant.Entrant.{Entrant}
 use Rattle.aps_ready.specs.Entrant.{entrant_at}
 use Rattle.aps_ready.specs.Ready.{IsQueued}
 use Rattle.aps_ready.specs.Table.{bits_at}
+use Rattle.aps_model.specs.Limits.{most_threads}
 
 -- the node that is the head of the list of a level and a group
 abbrev pub head_of : ℕ → ℕ → ℕ
@@ -22,7 +23,7 @@ list_of row n = if nat_lt n 1024 then head_of (entrant_at row n).level (entrant_
 -- a thread that is in, or the head of a list
 pub record IsNode (row : List Entrant) (n : ℕ) : Type 0 where
   pub below : n < 17408
-  pub there : n < 1024 → (entrant_at row n).group < 64
+  pub there : n < most_threads → (entrant_at row n).group < 64
 
 -- the link of a node leads to a node of its list, whose link back leads to this one
 pub record IsLinked (row : List Entrant) (forth back : List ℕ) (n : ℕ) : Type 0 where
@@ -35,11 +36,11 @@ AreLinked row forth back = (n : ℕ) → IsNode row n → IsLinked row forth bac
 
 -- from one thread to the next stamps rise
 abbrev pub AreRising : List Entrant → List ℕ → Type 0
-AreRising row after = (n : ℕ) → IsNode row n → n < 1024 → link after n < 1024 → (entrant_at row n).stamp < (entrant_at row (link after n)).stamp
+AreRising row after = (n : ℕ) → IsNode row n → n < most_threads → link after n < most_threads → (entrant_at row n).stamp < (entrant_at row (link after n)).stamp
 
 -- each list is a ring: from its head through its threads, in order of their stamps, and back to its head
 pub record AreRings (row : List Entrant) (after before : List ℕ) : Type 0 where
-  pub few : length row ≤ 1024
+  pub few : length row ≤ most_threads
   pub levels : (x : ℕ) → (entrant_at row x).group < 64 → (entrant_at row x).level ≤ 255
   pub after_size : length after ≡ 17408
   pub before_size : length before ≡ 17408
@@ -51,8 +52,8 @@ pub record AreRings (row : List Entrant) (after before : List ℕ) : Type 0 wher
 pub record IsPlace (row : List Entrant) (after : List ℕ) (head stamp place : ℕ) : Type 0 where
   pub node : IsNode row place
   pub same : list_of row place ≡ head
-  pub over : place < 1024 → (entrant_at row place).stamp < stamp
-  pub under : link after place < 1024 → stamp < (entrant_at row (link after place)).stamp
+  pub over : place < most_threads → (entrant_at row place).stamp < stamp
+  pub under : link after place < most_threads → stamp < (entrant_at row (link after place)).stamp
 
 -- each thread that is in stands in the list of its level and group, and the lists that aren't empty are known
 pub record AreLists (row : List Entrant) (after before : List ℕ) (at_level : List Bits64) : Type 0 where

@@ -1,5 +1,6 @@
 //! Who is in, as it is kept.
 ghost use Rattle.std.specs.Prelude.{◌≡◌, ◌<◌, ◌≤◌};
+ghost use Rattle.aps_model.specs.Limits.{greatest_priority};
 ghost use Rattle.aps_model.specs.declared.state.Facts.{Facts};
 ghost use Rattle.aps_ready.specs.Entrant.{vacant, entrant_of};
 ghost use Rattle.aps_ready.specs.Ready.{seat_of};
@@ -36,7 +37,7 @@ pub fn vacant() -> Entrant
 pub fn entrant_of(x: ThreadId, facts: Facts, stamp: u64) -> Entrant
     ensures same { result ≡ entrant_of x facts stamp }
     ensures partition { facts.partition ≤ 31 }
-    ensures priority { facts.priority ≤ 255 }
+    ensures priority { facts.priority ≤ greatest_priority }
 {
     let partition = facts.partition.index() as u16;
     Entrant {

@@ -1,14 +1,13 @@
 //! Which groups of ready threads are candidates, in which class, and which partitions have a budget.
 ghost use Rattle.std.specs.Prelude.{◌≡◌, ◌≢◌, ℕ, ◌<◌, List, [], ◌∷◌, ◌++◌, length, slice_set, nat_eq, if◌then◌else◌};
+ghost use Rattle.aps_model.specs.Limits.{most_partitions};
 ghost use Rattle.aps_model.specs.declared.merit.PartFacts.{PartFacts};
 ghost use Rattle.aps_ready.specs.Gates.{is_first, is_open_first, is_open_second, open_first, AreGates, AreGatesOf};
 
 use crate::parts::part_at;
 use aps_levels::Bits64;
+use aps_model::limits::MOST_PARTITIONS;
 use aps_model::{PartFacts, PartitionId};
-
-/// The most partitions.
-pub const PARTITIONS: usize = 32;
 
 /// How the partitions stand at a pick, as sets: the groups of class 1 whose ready threads are candidates, the same of
 /// class 0, and the partitions with a budget above 0. A group is a partition's number, or 32 more for its critical
@@ -39,7 +38,7 @@ impl Gates {
         ensures { AreGates parts.now result }
     {
         let mut gates = Gates::none();
-        for p in 0..PARTITIONS {
+        for p in 0..MOST_PARTITIONS {
             gates.put(p, &part_at(parts, p));
         }
         gates
@@ -60,11 +59,11 @@ impl Gates {
     /// The partition with this number stands so, and each other as before.
     #[inline(always)]
     fn put(&mut self, p: usize, part: &PartFacts)
-        requires { p < 32 }
+        requires { p < most_partitions }
         ensures { (stands : ℕ → PartFacts) → AreGatesOf stands self.old
             → AreGatesOf (λ q. if nat_eq q p then part.now else stands q) self.new }
     {
-        let marked = p + PARTITIONS;
+        let marked = p + MOST_PARTITIONS;
         self.first = self
             .first
             .put(p, is_open_first(part, false))
@@ -91,7 +90,7 @@ pub(crate) fn is_in_first(parts: &[PartFacts], group: usize) -> bool
     requires { group < 64 }
     ensures { result ≡ open_first parts.now group }
 {
-    match parts.get(group % PARTITIONS) {
+    match parts.get(group % MOST_PARTITIONS) {
         Some(part) => is_open_first(part, 31 < group),
         None => false,
     }

@@ -2,14 +2,15 @@
 ghost use Rattle.std.specs.Prelude.{◌≡◌, ℕ, ◌+◌, ◌<◌, ◌≤◌, ◌%◌, ◌||◌, ◌&&◌, nat_eq, nat_lt, true, false, length, Bool, All};
 ghost use Rattle.aps_levels.specs.Bits.{has};
 ghost use Rattle.aps_model.specs.Budget.{part_at};
+ghost use Rattle.aps_model.specs.Limits.{most_partitions};
 ghost use Rattle.aps_model.specs.Merit.{smaller};
 ghost use Rattle.aps_ready.specs.Leaders.{HasGroup, AreLeading, AreLeaders};
 ghost use Rattle.aps_ready.specs.Small.{IsSmall};
 
-use crate::gates::PARTITIONS;
 use crate::parts::part_of;
 use aps_levels::Bits64;
 use aps_model::PartFacts;
+use aps_model::limits::MOST_PARTITIONS;
 
 /// Groups whose partitions have used the least fraction of their budgets of those seen so far, and that fraction: `used` of
 /// `budget`. Of no budget 1 is used, so that two products tell which of two fractions is the smaller.
@@ -122,8 +123,8 @@ fn has_more(part: &PartFacts, leaders: &Leaders) -> bool
 /// The two groups of a partition.
 #[inline(always)]
 fn groups_of(p: usize) -> Bits64
-    requires { p < 32 }
+    requires { p < most_partitions }
     ensures { (g : ℕ) → g < 64 → has result g ≡ nat_eq (g % 32) p }
 {
-    Bits64::none().with(p).with(p + PARTITIONS)
+    Bits64::none().with(p).with(p + MOST_PARTITIONS)
 }

@@ -5,6 +5,7 @@ ghost use Rattle.aps_ready.specs.Entrant.{entrant_at, vacant};
 ghost use Rattle.aps_ready.specs.Firsts.{firsts_of, level_of, AreAt, AreEmpty, AreLeast};
 ghost use Rattle.aps_ready.specs.Leaders.{IsEarliest};
 ghost use Rattle.aps_ready.specs.Lists.{head_of, link, list_of, AreRings, IsNode, IsPlace};
+ghost use Rattle.aps_model.specs.Limits.{most_threads};
 
 use crate::entrant::{Entrant, vacant};
 use crate::ring::{HEADS, NODES, head_of, link, place_for, unlink};
@@ -45,7 +46,7 @@ impl Model for Lists {
 impl Lists {
     /// Nobody is in.
     pub fn new(alloc: Global, threads: usize) -> Result<Lists, NoMemory>
-        requires { threads ≤ 1024 }
+        requires { threads ≤ most_threads }
         ensures { IfOk result (λ lists. lists ≡ replicate threads vacant) }
     {
         let row = vec![in alloc; vacant(); threads]?;

@@ -1,6 +1,7 @@
 //! The ready threads, and the greatest candidate among them.
 ghost use Rattle.std.specs.Prelude.{◌≡◌, ◌≢◌, ◌<◌, ◌≤◌, All, List, length, slice_set, slice_index_or, replicate, IfOk, IfSome, Some, None};
 ghost use Rattle.std.specs.Option.{option_map};
+ghost use Rattle.aps_model.specs.Limits.{most_partitions, most_threads};
 ghost use Rattle.aps_model.specs.Pick.{greatest, missing};
 ghost use Rattle.aps_model.specs.declared.merit.Contender.{Contender};
 ghost use Rattle.aps_model.specs.declared.merit.PartFacts.{PartFacts};
@@ -12,9 +13,10 @@ ghost use Rattle.aps_ready.specs.Small.{IsSmall};
 
 use crate::ahead::{Ahead, ahead_at, highest};
 use crate::entrant::{Entrant, entrant_of, seat_of};
-use crate::gates::{Gates, PARTITIONS};
+use crate::gates::Gates;
 use crate::lists::Lists;
 use crate::look::{look, near};
+use aps_model::limits::MOST_PARTITIONS;
 use aps_model::{Contender, Facts, Free, NoMemory, PartFacts, PartitionId, ThreadId};
 use std::alloc::Global;
 use std::marker::Model;
@@ -45,19 +47,20 @@ impl Drop for Ready {
 impl Model for Ready {
     ghost use Rattle.std.specs.Prelude.{◌≤◌, List, Option, length, map};
     ghost use Rattle.aps_model.specs.declared.merit.Contender.{Contender};
+    ghost use Rattle.aps_model.specs.Limits.{most_threads};
     ghost use Rattle.aps_ready.specs.Ready.{seat_of, IsQueued};
 
     ghost Value = { List (Option Contender) };
 
     ghost view = { λ r. map seat_of r.lists };
 
-    ghost invariant = { λ r. IsQueued r.lists × (length r.lists ≤ 1024) };
+    ghost invariant = { λ r. IsQueued r.lists × (length r.lists ≤ most_threads) };
 }
 
 impl Ready {
     /// Nobody is in. All room is taken here: 16 bytes for each thread, and 73,728 besides.
     pub fn new(alloc: Global, threads: u16) -> Result<Ready, NoMemory>
-        requires { threads ≤ 1024 }
+        requires { threads ≤ most_threads }
         ensures { IfOk result (λ ready. ready ≡ replicate threads None) }
     {
         let lists = Lists::new(alloc, threads as usize)?;
@@ -247,7 +250,7 @@ impl Ready {
 
     /// The lowest partition with a budget above 0 that has no candidate; none exactly where each of these has one.
     pub fn missing(&self, parts: &[PartFacts]) -> Option<PartitionId>
-        requires { length parts.now ≤ 32 }
+        requires { length parts.now ≤ most_partitions }
         ensures { result ≡ missing parts.now (members self.now) }
     {
         self.missing_by(Gates::of(parts))
@@ -256,12 +259,12 @@ impl Ready {
     /// The lowest partition with a budget and no candidate, as `missing`, by kept gates. It looks at no thread and at no
     /// partition.
     pub fn missing_by(&self, gates: Gates) -> Option<PartitionId>
-        ensures { (parts : List PartFacts) → AreGates parts gates → length parts ≤ 32 → result ≡ missing parts (members self.now) }
+        ensures { (parts : List PartFacts) → AreGates parts gates → length parts ≤ most_partitions → result ≡ missing parts (members self.now) }
     {
         let groups = gates.first.join(gates.second).meet(self.lists.occupied());
         let starved = gates.budgeted.minus(groups.join(groups.upper_half()));
         match starved.least() {
-            Some(p) if p < PARTITIONS => Some(PartitionId::at(p)),
+            Some(p) if p < MOST_PARTITIONS => Some(PartitionId::at(p)),
             _ => None,
         }
     }

@@ -2,11 +2,13 @@
 ghost use Rattle.std.specs.Prelude.{◌≡◌, ◌≢◌, ℕ, ◌<◌, ◌≤◌, ◌&&◌, nat_lt, length, slice_set};
 ghost use Rattle.aps_ready.specs.Entrant.{entrant_at};
 ghost use Rattle.aps_ready.specs.Lists.{head_of, link, list_of, AreRings, IsNode, IsPlace};
+ghost use Rattle.aps_model.specs.Limits.{most_threads};
 
 use crate::entrant::Entrant;
+use aps_model::limits::MOST_THREADS;
 
 /// The first head of a list: below it are the threads.
-pub const HEADS: usize = 1024;
+pub const HEADS: usize = MOST_THREADS;
 
 /// How many nodes there are: 1,024 threads, and a head for each of 256 levels and 64 groups.
 pub const NODES: usize = 17408;
@@ -26,7 +28,7 @@ pub fn head_of(level: usize, group: usize) -> usize
 #[inline(always)]
 pub fn place_for(row: &[Entrant], after: &[u16], before: &[u16], head: usize, stamp: u64) -> usize
     requires rings { AreRings row.now after.now before.now }
-    requires above { 1024 ≤ head }
+    requires above { most_threads ≤ head }
     requires below { head < 17408 }
     requires stamp { (x : ℕ) → (entrant_at row.now x).group < 64 → (entrant_at row.now x).stamp ≢ stamp }
     ensures { IsPlace row.now after.now head stamp result }
@@ -44,8 +46,8 @@ pub fn place_for(row: &[Entrant], after: &[u16], before: &[u16], head: usize, st
 /// Whether a node is a thread with a greater stamp.
 #[inline(always)]
 fn is_later(row: &[Entrant], node: usize, stamp: u64) -> bool
-    requires { node < 1024 → node < length row.now }
-    ensures { result ≡ (nat_lt node 1024 && nat_lt stamp (entrant_at row.now node).stamp) }
+    requires { node < most_threads → node < length row.now }
+    ensures { result ≡ (nat_lt node most_threads && nat_lt stamp (entrant_at row.now node).stamp) }
 {
     if node < HEADS {
         stamp < row[node].stamp
@@ -60,7 +62,7 @@ pub fn link(after: &mut Vec<u16>, before: &mut Vec<u16>, place: usize, x: usize)
     requires after_size { length after.old.items ≡ 17408 }
     requires before_size { length before.old.items ≡ 17408 }
     requires place { place < 17408 }
-    requires x { x < 1024 }
+    requires x { x < most_threads }
     requires next { link after.old.items place < 17408 }
     ensures after { after.new.items ≡ slice_set (slice_set after.old.items place x) x (link after.old.items place) }
     ensures before { before.new.items ≡ slice_set (slice_set before.old.items (link after.old.items place) x) x place }
@@ -77,7 +79,7 @@ pub fn link(after: &mut Vec<u16>, before: &mut Vec<u16>, place: usize, x: usize)
 pub fn unlink(after: &mut Vec<u16>, before: &mut Vec<u16>, x: usize)
     requires after_size { length after.old.items ≡ 17408 }
     requires before_size { length before.old.items ≡ 17408 }
-    requires x { x < 1024 }
+    requires x { x < most_threads }
     requires next { link after.old.items x < 17408 }
     requires last { link before.old.items x < 17408 }
     ensures after { after.new.items ≡ slice_set after.old.items (link before.old.items x) (link after.old.items x) }

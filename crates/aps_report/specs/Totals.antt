@@ -1,4 +1,5 @@
 use Rattle.std.specs.Prelude.{◌≡◌, ℕ, ◌+◌, ◌<◌, ◌^◌, List, length, replicate, slice_index, slice_set, if◌then◌else◌, Option, Some, None}
+use Rattle.aps_model.specs.Limits.{most_partitions, most_threads}
 use Rattle.aps_model.specs.declared.entry.Entry.{Entry}
 use Rattle.aps_model.specs.Report.{length_of, total_billed, total_critical, total_ran, total_idle}
 
@@ -12,12 +13,12 @@ pub record Sums : Type 0 where
 
 -- there is a place for each partition and each thread
 pub record HavePlaces (sums : Sums) : Type 0 where
-  pub billed : length sums.billed ≡ 32
-  pub critical : length sums.critical ≡ 32
-  pub ran : length sums.ran ≡ 1024
+  pub billed : length sums.billed ≡ most_partitions
+  pub critical : length sums.critical ≡ most_partitions
+  pub ran : length sums.ran ≡ most_threads
 
 abbrev pub no_time : Sums
-no_time = record { billed = replicate 32 0; critical = replicate 32 0; ran = replicate 1024 0; idle = 0 }
+no_time = record { billed = replicate most_partitions 0; critical = replicate most_partitions 0; ran = replicate most_threads 0; idle = 0 }
 
 -- the numbers with so much added at a place, where there is one
 abbrev pub added : List ℕ → Option ℕ → ℕ → List ℕ
@@ -40,14 +41,14 @@ sums_with sums e = record {
 
 -- the time of one more entry can be added to each
 pub record HaveRoom (sums : Sums) : Type 0 where
-  pub billed : (p : ℕ) → p < 32 → slice_index sums.billed p < 2 ^ 127
-  pub critical : (p : ℕ) → p < 32 → slice_index sums.critical p < 2 ^ 127
-  pub ran : (x : ℕ) → x < 1024 → slice_index sums.ran x < 2 ^ 127
+  pub billed : (p : ℕ) → p < most_partitions → slice_index sums.billed p < 2 ^ 127
+  pub critical : (p : ℕ) → p < most_partitions → slice_index sums.critical p < 2 ^ 127
+  pub ran : (x : ℕ) → x < most_threads → slice_index sums.ran x < 2 ^ 127
   pub idle : sums.idle < 2 ^ 127
 
 -- these are the sums over the entries
 pub record AreSums (h : List Entry) (sums : Sums) : Type 0 where
-  pub billed : (p : ℕ) → p < 32 → slice_index sums.billed p ≡ total_billed h p
-  pub critical : (p : ℕ) → p < 32 → slice_index sums.critical p ≡ total_critical h p
-  pub ran : (x : ℕ) → x < 1024 → slice_index sums.ran x ≡ total_ran h x
+  pub billed : (p : ℕ) → p < most_partitions → slice_index sums.billed p ≡ total_billed h p
+  pub critical : (p : ℕ) → p < most_partitions → slice_index sums.critical p ≡ total_critical h p
+  pub ran : (x : ℕ) → x < most_threads → slice_index sums.ran x ≡ total_ran h x
   pub idle : sums.idle ≡ total_idle h

@@ -6,6 +6,7 @@ use Rattle.aps_model.specs.declared.entry.Entry.{Entry}
 use Rattle.aps_model.specs.declared.shape.Shape.{Shape}
 use Rattle.aps_model.specs.Usage.{overlap, billed_by, used}
 use Rattle.aps_model.specs.Journal.{line_of}
+use Rattle.aps_model.specs.Limits.{most_partitions}
 
 -- the cells of a table have a place for each window and partition
 abbrev pub cell_of : List ℕ → ℕ → ℕ → ℕ
@@ -45,7 +46,7 @@ pub record HaveEntry (shape : Shape) (e : Entry) (before after : List ℕ) : Typ
 -- the cells are what each partition used in each window
 pub record AreUsed (shape : Shape) (h : List Entry) (windows : ℕ) (cells : List ℕ) : Type 0 where
   pub places : length cells ≡ windows * 32
-  pub each : (k p : ℕ) → k < windows → p < 32 → cell_of cells k p ≡ used_in shape h k p
+  pub each : (k p : ℕ) → k < windows → p < most_partitions → cell_of cells k p ≡ used_in shape h k p
 
 -- a cell with the space before it
 abbrev pub cell_words : List ℕ → ℕ → ℕ → List ℕ

@@ -5,7 +5,7 @@ ghost use Rattle.aps_model.specs.Shape.{IsShape};
 ghost use Rattle.aps_model.specs.History.{IsEntry};
 ghost use Rattle.aps_model.specs.Report.{windows_text};
 ghost use Rattle.aps_report.specs.Windows.{part_in, cell_words, window_with, HaveCellRoom, HaveParts, HaveEntry, AreUsed};
-ghost use Rattle.aps_model.specs.Limits.{last_moment};
+ghost use Rattle.aps_model.specs.Limits.{last_moment, most_partitions};
 
 use crate::lines::add_end;
 use crate::zeros::zeros;
@@ -45,7 +45,7 @@ fn add_windows(
     window: u16,
     count: usize,
 ) -> Result<(), NoMemory>
-    requires rows { rows ≤ 32 }
+    requires rows { rows ≤ most_partitions }
     requires count { count ≤ 100000000 }
     requires places { length cells.now ≡ count * 32 }
     ensures { OnOk result (string_bytes out.new
@@ -64,7 +64,7 @@ fn add_window(
     window: u16,
     k: usize,
 ) -> Result<(), NoMemory>
-    requires rows { rows ≤ 32 }
+    requires rows { rows ≤ most_partitions }
     requires window { k ≤ 100000000 }
     requires places { k * 32 + 32 ≤ length cells.now }
     ensures { OnOk result (string_bytes out.new ≡ string_bytes out.old ++ window_with cells.now rows window k) }
@@ -76,7 +76,7 @@ fn add_window(
 }
 
 fn add_cells(out: &mut String, cells: &[u128], rows: usize, k: usize) -> Result<(), NoMemory>
-    requires rows { rows ≤ 32 }
+    requires rows { rows ≤ most_partitions }
     requires window { k ≤ 100000000 }
     requires places { k * 32 + 32 ≤ length cells.now }
     ensures { OnOk result (string_bytes out.new ≡ string_bytes out.old ++ flat_map (cell_words cells.now k) (range_with_len 0 rows)) }
@@ -156,7 +156,7 @@ fn add_parts(
     e: &Entry,
 )
     requires shape { IsShape shape.now }
-    requires partition { partition < 32 }
+    requires partition { partition < most_partitions }
     requires range { first ≤ past }
     requires windows { past ≤ 100000000 }
     requires entry { IsEntry e.now }

@@ -1,6 +1,7 @@
 //! The summary of a history: how it ended, and who used how much.
 ghost use Rattle.std.specs.Prelude.{◌≡◌, ◌≤◌, ◌++◌, length, string_bytes, IfOk, OnOk};
 ghost use Rattle.std.specs.List.{flat_map, enumerate_from};
+ghost use Rattle.aps_model.specs.Limits.{most_partitions, most_threads};
 ghost use Rattle.aps_model.specs.Report.{usage_text, summary_text};
 ghost use Rattle.aps_model.specs.Replies.{reply_line};
 ghost use Rattle.aps_report.specs.Lines.{partition_with, thread_with, with_head, tables_with};
@@ -60,8 +61,8 @@ fn add_head(out: &mut String, history: &History) -> Result<(), NoMemory>
 /// Who used how much, by these sums.
 fn add_tables(out: &mut String, history: &History, totals: &Totals) -> Result<(), NoMemory>
     ensures text { OnOk result (string_bytes out.new ≡ string_bytes out.old ++ tables_with history.now totals.now) }
-    ensures few_rows { length history.now.rows ≤ 32 }
-    ensures few_threads { length history.now.scenario.threads ≤ 1024 }
+    ensures few_rows { length history.now.rows ≤ most_partitions }
+    ensures few_threads { length history.now.scenario.threads ≤ most_threads }
 {
     let threads = history.scenario().threads();
     add_partitions(out, history.rows(), totals)?;
@@ -70,7 +71,7 @@ fn add_tables(out: &mut String, history: &History, totals: &Totals) -> Result<()
 }
 
 fn add_partitions(out: &mut String, rows: &[PartitionRow], totals: &Totals) -> Result<(), NoMemory>
-    requires { length rows.now ≤ 32 }
+    requires { length rows.now ≤ most_partitions }
     ensures { OnOk result (string_bytes out.new
         ≡ string_bytes out.old ++ flat_map (partition_with totals.now) (enumerate_from 0 rows.now)) }
 {
@@ -81,7 +82,7 @@ fn add_partitions(out: &mut String, rows: &[PartitionRow], totals: &Totals) -> R
 }
 
 fn add_threads(out: &mut String, threads: &[ThreadRow], totals: &Totals) -> Result<(), NoMemory>
-    requires { length threads.now ≤ 1024 }
+    requires { length threads.now ≤ most_threads }
     ensures { OnOk result (string_bytes out.new
         ≡ string_bytes out.old ++ flat_map (thread_with totals.now) (enumerate_from 0 threads.now)) }
 {

@@ -1,6 +1,7 @@
 //! Sums of time over all entries of a history.
-ghost use Rattle.std.specs.Prelude.{◌≡◌, ◌≤◌, ◌<◌, All, IfOk, slice_index};
+ghost use Rattle.std.specs.Prelude.{◌≡◌, ◌<◌, All, IfOk, slice_index};
 ghost use Rattle.aps_model.specs.History.{IsEntry};
+ghost use Rattle.aps_model.specs.Limits.{most_partitions, most_threads};
 ghost use Rattle.aps_report.specs.Totals.{no_time, sums_with, HavePlaces, HaveRoom, AreSums};
 
 use crate::zeros::zeros;
@@ -73,21 +74,21 @@ impl Totals {
     }
 
     pub fn billed(&self, id: usize) -> u128
-        requires { id < 32 }
+        requires { id < most_partitions }
         ensures { result ≡ slice_index self.now.billed id }
     {
         self.billed[id]
     }
 
     pub fn critical(&self, id: usize) -> u128
-        requires { id < 32 }
+        requires { id < most_partitions }
         ensures { result ≡ slice_index self.now.critical id }
     {
         self.critical[id]
     }
 
     pub fn ran(&self, id: usize) -> u128
-        requires { id < 1024 }
+        requires { id < most_threads }
         ensures { result ≡ slice_index self.now.ran id }
     {
         self.ran[id]

@@ -1,6 +1,7 @@
 -- What is seen at a pick.
 use Rattle.std.specs.Prelude.{◌≡◌, ℕ, ◌<◌, List, length, is_some, nat_lt, Bool, true, false, not, slice_index_or, Some, None}
 use Rattle.std.specs.List.{list_all}
+use Rattle.aps_model.specs.Limits.{most_partitions}
 use Rattle.aps_model.specs.declared.entry.Entry.{Entry}
 use Rattle.aps_model.specs.declared.merit.PartFacts.{PartFacts}
 use Rattle.aps_model.specs.Scenario.{Scenario}
@@ -12,16 +13,16 @@ use Rattle.aps_samples.specs.Picks.{changes_by, had_candidate, is_in_budget, is_
 
 -- the entry came last and left this state, so many changes stood before it
 pub record IsSeen (s : SchedulerState) (h : List Entry) (changes : ℕ) (e : Entry) (look : Look) : Type 0 where
-  pub lacking : (p : ℕ) → p < 32 → slice_index_or look.lacking p false ≡ not (had_candidate s h e.cpu p)
-  pub out : (p : ℕ) → p < 32 → slice_index_or look.out p false ≡ not (is_in_budget s h p)
+  pub lacking : (p : ℕ) → p < most_partitions → slice_index_or look.lacking p false ≡ not (had_candidate s h e.cpu p)
+  pub out : (p : ℕ) → p < most_partitions → slice_index_or look.out p false ≡ not (is_in_budget s h p)
   pub starved : look.starved ≡ is_some e.starved
   pub changed : look.changed ≡ nat_lt changes (length s.changes)
   pub free : look.free ≡ is_unfunded (parts_now s h) e.picked (cpu_at s e.cpu).running
 
 -- the same of an entry that follows on these
 pub record IsLook (scenario : Scenario) (before : List Entry) (e : Entry) (look : Look) : Type 0 where
-  pub lacking : (p : ℕ) → p < 32 → slice_index_or look.lacking p false ≡ lacks_test scenario p before e
-  pub out : (p : ℕ) → p < 32 → slice_index_or look.out p false ≡ out_test scenario p before e
+  pub lacking : (p : ℕ) → p < most_partitions → slice_index_or look.lacking p false ≡ lacks_test scenario p before e
+  pub out : (p : ℕ) → p < most_partitions → slice_index_or look.out p false ≡ out_test scenario p before e
   pub starved : look.starved ≡ is_some e.starved
   pub changed : look.changed ≡ changes_by scenario before e
   pub free : look.free ≡ is_free (kind_of scenario before e)

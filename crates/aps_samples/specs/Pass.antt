@@ -6,6 +6,7 @@ use Rattle.aps_model.specs.declared.entry.Done.TheVariants.{Nothing}
 use Rattle.aps_model.specs.After.{state_after}
 use Rattle.aps_model.specs.History.{History}
 use Rattle.aps_model.specs.Legal.{IsLegal}
+use Rattle.aps_model.specs.Limits.{most_cpus}
 use Rattle.aps_model.specs.Loaded.{finished_ticks}
 use Rattle.aps_model.specs.Scenario.{Scenario}
 use Rattle.aps_model.specs.Valid.{IsScenario}
@@ -46,7 +47,7 @@ is_before h i bound = nat_lt i (length h) && nat_lt (entry_at h i).to bound
 
 -- the last pick of each processor was a free one
 abbrev pub AreFree : Scenario → List Entry → List Bool → Type 0
-AreFree scenario h free = (c : ℕ) → c < 16 → slice_index_or free c false ≡ is_free (last_kind scenario h c)
+AreFree scenario h free = (c : ℕ) → c < most_cpus → slice_index_or free c false ≡ is_free (last_kind scenario h c)
 
 -- the first entries are done: the core made their steps, and the windows, which stand at tick j, have their bills
 pub record IsUpTo (scenario : Scenario) (order : Order) (h : List Entry) (j : ℕ) (cursor : Cursor) : Type 0 where

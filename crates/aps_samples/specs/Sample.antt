@@ -4,6 +4,7 @@ use Rattle.std.specs.List.{range_with_len}
 use Rattle.aps_model.specs.declared.entry.Entry.{Entry}
 use Rattle.aps_model.specs.After.{state_after}
 use Rattle.aps_model.specs.Audit.{allowance}
+use Rattle.aps_model.specs.Limits.{most_partitions}
 use Rattle.aps_model.specs.Loaded.{has_change, has_starved, state_of_tick}
 use Rattle.aps_model.specs.Partition.{row_or_none}
 use Rattle.aps_model.specs.Scenario.{Scenario}
@@ -58,7 +59,7 @@ had_share scenario h j p = was_out scenario h p (first_at scenario h j) (j + 1)
 
 -- of each partition
 abbrev pub of_each : {A : Type 0} → (ℕ → A) → List A
-of_each f = map f (range_with_len 0 32)
+of_each f = map f (range_with_len 0 most_partitions)
 
 abbrev pub sample_of : Scenario → List Entry → ℕ → Sample
 sample_of scenario h j = record {

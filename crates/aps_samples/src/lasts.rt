@@ -1,6 +1,7 @@
 //! The last ticks in which something was so, as ticks pass.
 ghost use Rattle.std.specs.Prelude.{◌≡◌, ℕ, ◌+◌, ◌<◌, ◌≤◌, slice_index, slice_index_or, false, if◌then◌else◌};
 ghost use Rattle.aps_samples.specs.Passed.{IsPassed, later, no_lasts};
+ghost use Rattle.aps_model.specs.Limits.{most_partitions};
 
 use crate::note::Note;
 use aps_model::limits::MOST_PARTITIONS;
@@ -43,7 +44,7 @@ impl Lasts {
 /// Of each partition, the tick after `j` where it was so in that.
 fn all_later(lasts: &[u64; 32], was: &[bool; 32], j: u64) -> [u64; 32]
     requires { j ≤ 100000000 }
-    ensures { (p : ℕ) → p < 32 → slice_index result p ≡ later (slice_index lasts.now p) (slice_index_or was.now p false) j }
+    ensures { (p : ℕ) → p < most_partitions → slice_index result p ≡ later (slice_index lasts.now p) (slice_index_or was.now p false) j }
 {
     let mut all = [0; MOST_PARTITIONS];
     for p in 0..MOST_PARTITIONS {

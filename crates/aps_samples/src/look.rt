@@ -2,6 +2,7 @@
 ghost use Rattle.std.specs.Prelude.{◌≡◌, ℕ, ◌<◌, ◌++◌, List, [], ◌∷◌, ◌||◌, length, slice_index_or, false, true, not, nat_le};
 ghost use Rattle.aps_model.specs.declared.entry.Entry.{Entry};
 ghost use Rattle.aps_model.specs.Budget.{no_part, part_at};
+ghost use Rattle.aps_model.specs.Limits.{most_partitions};
 ghost use Rattle.aps_model.specs.Pick.{contenders};
 ghost use Rattle.aps_model.specs.SchedulerState.{cpu_at};
 ghost use Rattle.aps_core.specs.Run.{state_of};
@@ -65,7 +66,7 @@ fn no_part() -> PartFacts
 fn lacking(core: &Core, parts: &[PartFacts], e: &Entry) -> [bool; 32]
     requires last { (before : List Entry) × (core.now.entries ≡ before ++ e.now ∷ []) }
     requires parts { parts.now ≡ parts_now (state_of core.now) core.now.entries }
-    ensures { (p : ℕ) → p < 32 → slice_index_or result p false ≡ not (had_candidate (state_of core.now) core.now.entries e.now.cpu p) }
+    ensures { (p : ℕ) → p < most_partitions → slice_index_or result p false ≡ not (had_candidate (state_of core.now) core.now.entries e.now.cpu p) }
 {
     // the check wants to see here that the entries of the core are legal
     let _history = core.history();
@@ -101,7 +102,7 @@ fn have_budgets(parts: &[PartFacts]) -> bool
 
 /// The partitions with this number and later ones.
 fn from_on(first: usize) -> [bool; 32]
-    ensures { (p : ℕ) → p < 32 → slice_index_or result p false ≡ nat_le first p }
+    ensures { (p : ℕ) → p < most_partitions → slice_index_or result p false ≡ nat_le first p }
 {
     let mut all = [false; MOST_PARTITIONS];
     for p in 0..MOST_PARTITIONS {
@@ -113,7 +114,7 @@ fn from_on(first: usize) -> [bool; 32]
 /// Which partitions had no candidate at the last pick, which was the processor's, where they stand so: in one pass over the threads.
 fn found_lacking(core: &Core, parts: &[PartFacts], c: CpuId) -> [bool; 32]
     ensures { (p : ℕ)
-        → p < 32
+        → p < most_partitions
         → slice_index_or result p false
         ≡ not (bills (cpu_at (state_of core.now) c).running p || has_candidate parts.now p (contenders (state_of core.now))) }
 {
@@ -124,7 +125,7 @@ fn found_lacking(core: &Core, parts: &[PartFacts], c: CpuId) -> [bool; 32]
 
 /// Which partitions are neither billed by the pick nor among these.
 fn neither(pick: &Option<Pick>, others: &[bool; 32]) -> [bool; 32]
-    ensures { (p : ℕ) → p < 32 → slice_index_or result p false ≡ not (bills pick.now p || slice_index_or others.now p false) }
+    ensures { (p : ℕ) → p < most_partitions → slice_index_or result p false ≡ not (bills pick.now p || slice_index_or others.now p false) }
 {
     let mut all = [false; MOST_PARTITIONS];
     for p in 0..MOST_PARTITIONS {
@@ -145,7 +146,7 @@ fn bills(pick: &Option<Pick>, p: usize) -> bool
 
 /// Which partitions aren't in budget, where they stand so.
 fn unfunded(parts: &[PartFacts]) -> [bool; 32]
-    ensures { (p : ℕ) → p < 32 → slice_index_or result p false ≡ not (part_at parts.now p).funded }
+    ensures { (p : ℕ) → p < most_partitions → slice_index_or result p false ≡ not (part_at parts.now p).funded }
 {
     let mut all = [false; MOST_PARTITIONS];
     for p in 0..MOST_PARTITIONS {

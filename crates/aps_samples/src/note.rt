@@ -1,6 +1,7 @@
 //! What is noted of one tick.
 ghost use Rattle.std.specs.Prelude.{◌≡◌, ℕ, ◌<◌, ◌≤◌, ◌/◌, ◌*◌, ◌||◌, All, slice_index, slice_index_or, false};
 ghost use Rattle.aps_model.specs.Audit.{allowance};
+ghost use Rattle.aps_model.specs.Limits.{most_partitions};
 ghost use Rattle.aps_model.specs.Partition.{IsRow, row_or_none};
 ghost use Rattle.aps_model.specs.Shape.{IsShape};
 ghost use Rattle.aps_core.specs.Run.{state_of};
@@ -69,7 +70,7 @@ impl Note {
 
 /// Of each partition, whether one or the other holds.
 fn either(a: &[bool; 32], b: &[bool; 32]) -> [bool; 32]
-    ensures { (p : ℕ) → p < 32 → slice_index_or result p false ≡ (slice_index_or a.now p false || slice_index_or b.now p false) }
+    ensures { (p : ℕ) → p < most_partitions → slice_index_or result p false ≡ (slice_index_or a.now p false || slice_index_or b.now p false) }
 {
     let mut all = [false; MOST_PARTITIONS];
     for p in 0..MOST_PARTITIONS {
@@ -82,7 +83,7 @@ fn either(a: &[bool; 32], b: &[bool; 32]) -> [bool; 32]
 fn allowances(shape: &Shape, rows: &[PartitionRow]) -> [Nanos; 32]
     requires shape { IsShape shape.now }
     requires rows { All IsRow rows.now }
-    ensures { (p : ℕ) → p < 32 → slice_index result p ≡ allowance shape.now (row_or_none rows.now p).budget }
+    ensures { (p : ℕ) → p < most_partitions → slice_index result p ≡ allowance shape.now (row_or_none rows.now p).budget }
 {
     let mut allowed = [0; MOST_PARTITIONS];
     for p in 0..MOST_PARTITIONS {

@@ -8,7 +8,7 @@ ghost use Rattle.aps_model.specs.Valid.{IsScenario};
 ghost use Rattle.aps_samples.specs.Look.{IsLook};
 ghost use Rattle.aps_samples.specs.Pass.{BeginsIfMet, GoesUpTo, IsAt, IsReady, IsUpTo, KeepsNotes, Opens, RunsIn, at_start, entry_at, is_before, order_of, scenario_of};
 ghost use Rattle.aps_samples.specs.Sample.{sample_of};
-ghost use Rattle.aps_model.specs.Limits.{most_entries};
+ghost use Rattle.aps_model.specs.Limits.{most_entries, most_partitions};
 
 use crate::lasts::Lasts;
 use crate::look::Look;
@@ -106,7 +106,7 @@ impl Samples {
         requires at { IsAt history.now.entries self }
         requires of { scenario_of self.cursor ≡ history.now.scenario }
         ensures same { IfOk result (λ rows. rows.items ≡ (state_after history.now.scenario history.now.entries).rows) }
-        ensures few { IfOk result (λ rows. length rows.items ≤ 32) }
+        ensures few { IfOk result (λ rows. length rows.items ≤ most_partitions) }
     {
         let Cursor { mut core, next, .. } = self.cursor;
         retrace_rest(&mut core, history.entries(), next);

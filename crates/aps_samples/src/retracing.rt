@@ -5,7 +5,7 @@ ghost use Rattle.aps_model.specs.Legal.{IsLegal};
 ghost use Rattle.aps_model.specs.Valid.{IsScenario};
 ghost use Rattle.aps_core.specs.Turn.{IsTaken, with_entry};
 ghost use Rattle.aps_samples.specs.Retraced.{start_of};
-ghost use Rattle.aps_model.specs.Limits.{most_entries};
+ghost use Rattle.aps_model.specs.Limits.{most_entries, most_partitions};
 
 use aps_core::Core;
 use aps_model::{Entry, History, NoMemory, Order, PartitionRow};
@@ -21,7 +21,7 @@ pub fn rows_after(
     requires legal { IsLegal history.now.scenario order history.now.entries }
     requires few { length history.now.entries ≤ most_entries }
     ensures same { IfOk result (λ rows. rows.items ≡ (state_after history.now.scenario history.now.entries).rows) }
-    ensures few { IfOk result (λ rows. length rows.items ≤ 32) }
+    ensures few { IfOk result (λ rows. length rows.items ≤ most_partitions) }
 {
     let mut core = boot(alloc, history, order)?;
     retrace_all(&mut core, history.entries());
@@ -44,7 +44,7 @@ pub fn boot(alloc: Global, history: &History, order: Order) -> Result<Core, NoMe
 /// A copy of the rows that stand.
 pub fn rows_of(alloc: Global, core: &Core) -> Result<Vec<PartitionRow>, NoMemory>
     ensures same { IfOk result (λ rows. rows.items ≡ (state_after core.now.setup.scenario core.now.entries).rows) }
-    ensures few { IfOk result (λ rows. length rows.items ≤ 32) }
+    ensures few { IfOk result (λ rows. length rows.items ≤ most_partitions) }
 {
     let mut rows = Vec::new(alloc);
     rows.extend_from_slice(core.history().rows())?;

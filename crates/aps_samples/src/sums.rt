@@ -1,6 +1,7 @@
 //! What each partition was billed in the last ticks, and what of that was critical, and what ran in free time.
 ghost use Rattle.std.specs.Prelude.{◌≡◌, ℕ, ◌+◌, ◌-◌, ◌<◌, ◌≤◌, List, IfOk, Some};
 ghost use Rattle.aps_model.specs.History.{IsEntry};
+ghost use Rattle.aps_model.specs.Limits.{longest_window};
 ghost use Rattle.aps_window.specs.Window.{advanced, opened, resized};
 ghost use Rattle.aps_core.specs.Counts.{critical_in, used_in};
 ghost use Rattle.aps_samples.specs.Sums.{GoesOnBy, HasRoom};
@@ -23,7 +24,7 @@ impl Sums {
     /// Nothing billed; the last `window` ticks count, 8 to 400. `NoMemory` comes where memory runs out.
     pub fn new(alloc: Global, window: u16) -> Result<Sums, NoMemory>
         requires least { 8 ≤ window }
-        requires most { window ≤ 400 }
+        requires most { window ≤ longest_window }
         ensures { IfOk result (λ sums. sums ≡ record { all = opened window; free = opened window; span = window }) }
     {
         let all = Window::new(alloc, window)?;
@@ -51,7 +52,7 @@ impl Sums {
     /// From now on the last `window` ticks count, 8 to 400.
     pub fn resize(&mut self, window: u16)
         requires least { 8 ≤ window }
-        requires most { window ≤ 400 }
+        requires most { window ≤ longest_window }
         requires all { self.old.all.span ≡ self.old.span }
         requires free { self.old.free.span ≡ self.old.span }
         ensures { self.new ≡ record { all = resized window self.old.all; free = resized window self.old.free; span = window } }

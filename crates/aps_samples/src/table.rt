@@ -6,7 +6,7 @@ ghost use Rattle.aps_model.specs.Legal.{IsLegal};
 ghost use Rattle.aps_model.specs.Loaded.{finished_ticks};
 ghost use Rattle.aps_samples.specs.Csv.{bit, csv_text, first_cells, head_line, line_at, part_cells, past_of, row_titles, sample_line};
 ghost use Rattle.aps_samples.specs.Pass.{IsAt, scenario_of};
-ghost use Rattle.aps_model.specs.Limits.{most_entries};
+ghost use Rattle.aps_model.specs.Limits.{longest_tick, most_entries, most_partitions};
 
 use crate::pass::Samples;
 use crate::retracing::rows_after;
@@ -47,7 +47,7 @@ fn text_of_samples(
     requires at { IsAt history.now.entries samples.old }
     requires of { scenario_of samples.old.cursor ≡ history.now.scenario }
     requires first { samples.old.tick ≡ 0 }
-    requires few_rows { length rows.now ≤ 32 }
+    requires few_rows { length rows.now ≤ most_partitions }
     ensures { IfOk result (λ text. string_bytes text ≡ csv_text history.now.scenario history.now.entries ticks) }
 {
     let finished = finished_ticks(history.scenario().shape(), history.entries());
@@ -136,7 +136,7 @@ fn add_lines(
     end: u64,
 ) -> Result<(), NoMemory>
     requires rows { rows ≡ length (state_after history.now.scenario history.now.entries).rows }
-    requires few_rows { rows ≤ 32 }
+    requires few_rows { rows ≤ most_partitions }
     requires at { IsAt history.now.entries samples.old }
     requires of { scenario_of samples.old.cursor ≡ history.now.scenario }
     requires first { samples.old.tick ≡ 0 }
@@ -156,8 +156,8 @@ fn add_lines(
 }
 
 fn add_line(out: &mut String, tick: u64, rows: usize, sample: &Sample) -> Result<(), NoMemory>
-    requires tick { tick ≤ 10000000 }
-    requires rows { rows ≤ 32 }
+    requires tick { tick ≤ longest_tick }
+    requires rows { rows ≤ most_partitions }
     requires sample { sample.now.tick ≤ 100000000 }
     ensures { OnOk result (string_bytes out.new ≡ string_bytes out.old ++ sample_line tick rows sample.now) }
 {
@@ -168,7 +168,7 @@ fn add_line(out: &mut String, tick: u64, rows: usize, sample: &Sample) -> Result
 }
 
 fn add_parts(out: &mut String, sample: &Sample, rows: usize) -> Result<(), NoMemory>
-    requires { rows ≤ 32 }
+    requires { rows ≤ most_partitions }
     ensures { OnOk result (string_bytes out.new ≡ string_bytes out.old ++ flat_map (part_cells sample.now) (range_with_len 0 rows)) }
 {
     for p in 0..rows {
@@ -178,7 +178,7 @@ fn add_parts(out: &mut String, sample: &Sample, rows: usize) -> Result<(), NoMem
 }
 
 fn add_first(out: &mut String, tick: u64, sample: &Sample) -> Result<(), NoMemory>
-    requires tick { tick ≤ 10000000 }
+    requires tick { tick ≤ longest_tick }
     requires sample { sample.now.tick ≤ 100000000 }
     ensures { OnOk result (string_bytes out.new ≡ string_bytes out.old ++ first_cells tick sample.now) }
 {
@@ -190,7 +190,7 @@ fn add_first(out: &mut String, tick: u64, sample: &Sample) -> Result<(), NoMemor
 }
 
 fn add_part(out: &mut String, sample: &Sample, p: usize) -> Result<(), NoMemory>
-    requires { p < 32 }
+    requires { p < most_partitions }
     ensures { OnOk result (string_bytes out.new ≡ string_bytes out.old ++ part_cells sample.now p) }
 {
     let used = sample.usage.used[p];

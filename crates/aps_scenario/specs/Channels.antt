@@ -2,6 +2,7 @@
 use Rattle.std.specs.Prelude.{ℕ, Bool, List, [], ◌∷◌, ◌++◌, length, None, Result, Ok}
 use Rattle.std.specs.List.{list_any}
 use Rattle.std.specs.Str.{bytes_eq}
+use Rattle.aps_model.specs.Limits.{most_channels}
 use Rattle.toml.specs.Data.{Data, Items, Members}
 use Rattle.aps_scenario.specs.declared.key.Key.{Key}
 use Rattle.aps_scenario.specs.declared.key.Key.TheVariants.{Channel, Name}
@@ -40,5 +41,5 @@ channels_from = read_each next_channel channels_with_new
 
 unfoldable pub channels_at : Members → Result (List (List ℕ)) Finding
 channels_at t = do
-  elements ← value_of (row_tables Channel 256) place.Top t
+  elements ← value_of (row_tables Channel most_channels) place.Top t
   channels_from [] elements

@@ -1,5 +1,6 @@
 -- The timed commands of the top table.
 use Rattle.std.specs.Prelude.{ℕ, ◌-◌, List, [], ◌∷◌, ◌++◌, length, None, Result, Ok}
+use Rattle.aps_model.specs.Limits.{most_commands}
 use Rattle.toml.specs.Data.{Data, Items, Members}
 use Rattle.aps_model.specs.declared.command.CommandRow.{CommandRow}
 use Rattle.aps_model.specs.declared.scenario.ThreadRow.{ThreadRow}
@@ -44,5 +45,5 @@ commands_from shape threads = read_each (next_command shape threads) commands_wi
 
 unfoldable pub commands_at : Shape → List ThreadRow → Members → Result (List CommandRow) Finding
 commands_at shape threads t = do
-  elements ← value_of (row_tables Command 1024) place.Top t
+  elements ← value_of (row_tables Command most_commands) place.Top t
   commands_from shape threads [] elements

@@ -1,5 +1,6 @@
 -- The program of a thread.
 use Rattle.std.specs.Prelude.{ℕ, ◌+◌, Bool, true, not, nat_eq, List, [], ◌∷◌, ◌++◌, length, None, Result, Ok, Err, if◌then◌else◌}
+use Rattle.aps_model.specs.Limits.{most_operations}
 use Rattle.toml.specs.Data.{Data, Items, Members, as_str}
 use Rattle.aps_model.specs.declared.program.Op.{Op}
 use Rattle.aps_model.specs.Program.{is_last_op}
@@ -50,7 +51,7 @@ abbrev pub operations_from : ℕ → List (List ℕ) → List (List ℕ) → ℕ
 operations_from count channels joinable thread = read_each (next_operation count channels joinable thread) ops_with_new
 
 abbrev pub row_program : Row Items
-row_program = row_array key.Program 1 256 None
+row_program = row_array key.Program 1 most_operations None
 
 -- the program of a thread by its index
 unfoldable pub program_at : List (List ℕ) → List (List ℕ) → ℕ → Members → Result (List Op) Finding

@@ -1,5 +1,6 @@
 -- The sizes and the policies of the top table.
 use Rattle.std.specs.Prelude.{ℕ, false, Bool, nat_eq, if◌then◌else◌, Some, None, Result, Ok}
+use Rattle.aps_model.specs.Limits.{longest_call, longest_tick, longest_window, microsecond, most_cpus, most_ticks, shortest_tick, shortest_window}
 use Rattle.toml.specs.Data.{Members}
 use Rattle.aps_model.specs.declared.shape.Shape.{Shape}
 use Rattle.aps_model.specs.declared.shape.Free.{Free}
@@ -16,19 +17,19 @@ abbrev pub row_version : Row ℕ
 row_version = row_integer key.Version 1 2 1 None
 
 abbrev pub row_cpus : Row ℕ
-row_cpus = row_integer key.Cpus 1 16 1 None
+row_cpus = row_integer key.Cpus 1 most_cpus 1 None
 
 abbrev pub row_tick : Row ℕ
-row_tick = row_integer key.Tick 100000 10000000 1000 (Some 1000000)
+row_tick = row_integer key.Tick shortest_tick longest_tick microsecond (Some 1000000)
 
 abbrev pub row_window : Row ℕ
-row_window = row_integer key.Window 8 400 1 (Some 100)
+row_window = row_integer key.Window shortest_window longest_window 1 (Some 100)
 
 abbrev pub row_ticks : Row ℕ
-row_ticks = row_integer key.Ticks 1 1000000 1 None
+row_ticks = row_integer key.Ticks 1 most_ticks 1 None
 
 abbrev pub row_call_ns : Row ℕ
-row_call_ns = row_integer key.CallNs 1 100000 1 (Some 1000)
+row_call_ns = row_integer key.CallNs 1 longest_call 1 (Some 1000)
 
 abbrev pub row_free : Row Free
 row_free = row_word key.Free free_words (Some free.Priority)

@@ -2,6 +2,7 @@
 use Rattle.std.specs.Prelude.{ℕ, Bool, false, List, [], ◌∷◌, ◌++◌, length, Some, None, Result, Ok}
 use Rattle.std.specs.List.{list_any}
 use Rattle.std.specs.Str.{bytes_eq}
+use Rattle.aps_model.specs.Limits.{greatest_priority, most_threads}
 use Rattle.toml.specs.Data.{Data, Items, Members}
 use Rattle.aps_model.specs.declared.partition.PartitionRow.{PartitionRow}
 use Rattle.aps_model.specs.declared.scenario.ThreadRow.{ThreadRow}
@@ -22,7 +23,7 @@ abbrev pub thread_keys : List Key
 thread_keys = Name ∷ Partition ∷ Priority ∷ Policy ∷ Critical ∷ Program ∷ []
 
 abbrev pub row_priority : Row ℕ
-row_priority = row_integer Priority 1 255 1 (Some 10)
+row_priority = row_integer Priority 1 greatest_priority 1 (Some 10)
 
 abbrev pub row_policy : Row PolicyType
 row_policy = row_word Policy policy_words (Some Fifo)
@@ -65,5 +66,5 @@ threads_from partitions channels joinable = read_each (next_thread partitions ch
 
 unfoldable pub threads_at : List PartitionRow → List (List ℕ) → List (List ℕ) → Members → Result (List ThreadRow) Finding
 threads_at partitions channels joinable t = do
-  elements ← value_of (row_tables Thread 1024) place.Top t
+  elements ← value_of (row_tables Thread most_threads) place.Top t
   threads_from partitions channels joinable [] elements

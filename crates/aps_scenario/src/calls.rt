@@ -4,15 +4,17 @@ ghost use Rattle.std.specs.List.{list_any};
 ghost use Rattle.toml.specs.View.{view, table_view};
 ghost use Rattle.aps_scenario.specs.Row.{value_of};
 ghost use Rattle.aps_scenario.specs.Calls as spec;
+ghost use Rattle.aps_model.specs.Limits.{most_threads};
 
 use crate::key::Key;
 use crate::kind::Kind;
-use crate::partitions::{MOST_CRITICAL, system_name};
+use crate::partitions::system_name;
 use crate::refusal::{Finding, Place};
 use crate::row::{
     at_key, integer_at, name, name_at, optional_integer_at, optional_truth_at, refuse_if, value_at,
 };
 use crate::words::{CommandKind, optional_bankruptcy_at, optional_free_at};
+use aps_model::limits::MOST_CRITICAL;
 use aps_model::{Call, Name, ThreadId, ThreadRow};
 use toml::{Table, Value};
 
@@ -37,7 +39,7 @@ fn place_of(threads: &[ThreadRow], name: &Name) -> Option<usize>
 }
 
 fn thread_of(threads: &[ThreadRow], value: &Value) -> Result<ThreadId, Kind>
-    requires { length threads.now ≤ 1024 }
+    requires { length threads.now ≤ most_threads }
     ensures { result ≡ spec.thread_of threads.now (view value.now) }
 {
     let name = name(value)?;
@@ -48,7 +50,7 @@ fn thread_of(threads: &[ThreadRow], value: &Value) -> Result<ThreadId, Kind>
 }
 
 fn thread_at(table: &Table, place: Place, threads: &[ThreadRow]) -> Result<ThreadId, Finding>
-    requires { length threads.now ≤ 1024 }
+    requires { length threads.now ≤ most_threads }
     ensures { result ≡ value_of (spec.row_thread threads.now) place (table_view table.now) }
 {
     let found = match value_at(table, Key::Thread) {
@@ -140,7 +142,7 @@ pub fn call_at(
     parts: u16,
     threads: &[ThreadRow],
 ) -> Result<Call, Finding>
-    requires { length threads.now ≤ 1024 }
+    requires { length threads.now ≤ most_threads }
     ensures { result ≡ spec.call_at parts threads.now kind place (table_view table.now) }
 {
     match kind {

@@ -5,6 +5,7 @@ ghost use Rattle.aps_scenario.specs.Calls.{command_keys};
 ghost use Rattle.aps_scenario.specs.Row.{only as only_spec};
 ghost use Rattle.aps_scenario.specs.Refusal.{Gives};
 ghost use Rattle.aps_scenario.specs.Commands as spec;
+ghost use Rattle.aps_model.specs.Limits.{most_commands, most_threads};
 
 use crate::calls::call_at;
 use crate::joinable::command_kind_in;
@@ -78,8 +79,8 @@ fn next_command(
     value: &Value,
 ) -> Result<CommandRow, Finding>
     requires some_tick { 0 < shape.now.ticks }
-    requires few_threads { length threads.now ≤ 1024 }
-    requires few { length commands.now ≤ 1024 }
+    requires few_threads { length threads.now ≤ most_threads }
+    requires few { length commands.now ≤ most_commands }
     ensures { result ≡ spec.next_command shape.now threads.now commands.now (view value.now) }
 {
     let place = Place::Command(commands.len() as u16);
@@ -100,8 +101,8 @@ fn commands_of(
     array: &Array,
 ) -> Result<Vec<CommandRow>, Failure>
     requires some_tick { 0 < shape.now.ticks }
-    requires few_threads { length threads.now ≤ 1024 }
-    requires few { length array.now.items ≤ 1024 }
+    requires few_threads { length threads.now ≤ most_threads }
+    requires few { length array.now.items ≤ most_commands }
     ensures { Gives (λ commands. commands.items) result (spec.commands_from shape.now threads.now [] (array_view array.now)) }
 {
     let mut commands = Vec::new(alloc);
@@ -121,7 +122,7 @@ pub fn commands_at(
     table: &Table,
 ) -> Result<Vec<CommandRow>, Failure>
     requires some_tick { 0 < shape.now.ticks }
-    requires few_threads { length threads.now ≤ 1024 }
+    requires few_threads { length threads.now ≤ most_threads }
     ensures { Gives (λ commands. commands.items) result (spec.commands_at shape.now threads.now (table_view table.now)) }
 {
     match tables_at(table, Place::Top, Key::Command, MOST_COMMANDS)? {

@@ -12,6 +12,7 @@ use crate::partitions::system_name;
 use crate::refusal::{Failure, Finding, Place, ScenarioRefusal, no_document};
 use crate::row::{integer_at, name_at, only, refuse_if, table_of, tables_at};
 use crate::sizes::{cpus_at, parts_of, tick_at, version_at, window_at};
+use aps_model::limits::MOST_CRITICAL;
 use aps_model::{Bankruptcy, Demand, Free, Name, Shape};
 use std::alloc::Global;
 use std::marker::Model;
@@ -26,7 +27,7 @@ const DEMAND_KEYS: [Key; 2] = [Key::Name, Key::Need];
 const MOST_DEMANDS: usize = 31;
 
 /// The greatest need, in ns.
-const MOST_NEED: u64 = 64_000_000_000;
+const MOST_NEED: u64 = MOST_CRITICAL;
 
 /// Demands, and the shape of a scenario that is to meet them: its parts, processors, tick and window are those of the
 /// text, it has one tick, and the rest is as in a scenario where nothing is given. Every value is valid, which its type

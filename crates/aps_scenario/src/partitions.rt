@@ -1,6 +1,7 @@
 //! The partitions of a scenario, as the elements of an array.
 ghost use Rattle.std.specs.Prelude.{◌≡◌, ◌<◌, ◌≤◌, [], ◌∷◌, length, OnOk, IfOk};
 ghost use Rattle.toml.specs.View.{view, table_view, array_view};
+ghost use Rattle.aps_model.specs.Limits.{most_partitions};
 ghost use Rattle.aps_model.specs.Partition.{row_or_none, partition_named};
 ghost use Rattle.aps_scenario.specs.Refusal.{Gives};
 ghost use Rattle.aps_scenario.specs.Row.{value_of};
@@ -12,6 +13,7 @@ use crate::refusal::{Failure, Finding, Place};
 use crate::row::{
     at_key, integer_at, name, name_at, only, refuse_if, table_of, tables_at, value_at,
 };
+use aps_model::limits::MOST_CRITICAL;
 use aps_model::{Name, NoMemory, PartitionId, PartitionRow};
 use std::alloc::{AllocFailed, Global};
 use toml::value::Array;
@@ -22,9 +24,6 @@ const PARTITION_KEYS: [Key; 5] = [Key::Name, Key::Parent, Key::Budget, Key::Crit
 /// The most partitions of a scenario beside the root.
 const MOST_PARTITIONS: usize = 31;
 
-/// The greatest critical budget, in ns.
-pub const MOST_CRITICAL: u64 = 64_000_000_000;
-
 fn place_of(rows: &[PartitionRow], name: &Name) -> Option<usize>
     ensures { result ≡ partition_named rows.now name.now }
 {
@@ -32,7 +31,7 @@ fn place_of(rows: &[PartitionRow], name: &Name) -> Option<usize>
 }
 
 fn partition_of(rows: &[PartitionRow], value: &Value) -> Result<PartitionId, Kind>
-    requires { length rows.now ≤ 32 }
+    requires { length rows.now ≤ most_partitions }
     ensures is { result ≡ spec.partition_of rows.now (view value.now) }
     ensures within { IfOk result (λ p. p < length rows.now) }
 {
@@ -51,7 +50,7 @@ pub fn partition_id_at(
     rows: &[PartitionRow],
 ) -> Result<PartitionId, Finding>
     requires some { 0 < length rows.now }
-    requires few { length rows.now ≤ 32 }
+    requires few { length rows.now ≤ most_partitions }
     ensures is { result ≡ value_of (spec.row_partition key rows.now) place (table_view table.now) }
     ensures within { IfOk result (λ p. p < length rows.now) }
 {
@@ -72,7 +71,7 @@ fn is_partition(rows: &[PartitionRow], name: &Name) -> bool
 #[tactic(auto, unfolding(crate::specs::Partitions::partition_at))]
 fn next_partition(parts: u16, rows: &[PartitionRow], value: &Value) -> Result<PartitionRow, Finding>
     requires some { 0 < length rows.now }
-    requires few { length rows.now ≤ 32 }
+    requires few { length rows.now ≤ most_partitions }
     ensures is { result ≡ spec.next_partition parts rows.now (view value.now) }
     ensures parent { IfOk result (λ new. new.parent < length rows.now) }
     ensures funded { IfOk result (λ new. new.budget ≤ (row_or_none rows.now new.parent).budget) }
@@ -95,7 +94,7 @@ fn partition_values(
     table: &Table,
 ) -> Result<PartitionRow, Finding>
     requires some { 0 < length rows.now }
-    requires few { length rows.now ≤ 32 }
+    requires few { length rows.now ≤ most_partitions }
     ensures is { result ≡ spec.partition_values parts rows.now place name (table_view table.now) }
     ensures parent { IfOk result (λ new. new.parent < length rows.now) }
     ensures funded { IfOk result (λ new. new.budget ≤ (row_or_none rows.now new.parent).budget) }

@@ -1,6 +1,7 @@
 //! One key of a table: its kind, its range and its default.
 ghost use Rattle.std.specs.Prelude.{◌≡◌, ◌<◌, ◌≤◌, Some, None, Ok, Err, IfSome, IfNone, IfOk, option_map, option_copied, find, not, false, length, string_bytes, MatchResult};
 ghost use Rattle.std.specs.BTreeMap.{keys};
+ghost use Rattle.aps_model.specs.Limits.{IsIn};
 ghost use Rattle.toml.specs.Data.{get_member};
 ghost use Rattle.toml.specs.View.{view, table_view, array_view};
 ghost use Rattle.aps_scenario.specs.Key.{key_text};
@@ -19,7 +20,7 @@ use toml::{Table, Value};
 fn integer(value: &Value, low: u64, high: u64, step: u64) -> Result<u64, Kind>
     requires { 0 < step }
     ensures is { result ≡ spec.integer low high step (view value.now) }
-    ensures within { IfOk result (λ n. (low ≤ n) × (n ≤ high)) }
+    ensures within { IfOk result (IsIn low high) }
 {
     match value.as_integer() {
         None => Err(Kind::WrongKind),
@@ -102,9 +103,9 @@ pub fn integer_at(
     default: Option<u64>,
 ) -> Result<u64, Finding>
     requires step { 0 < step }
-    requires default { IfSome default (λ n. (low ≤ n) × (n ≤ high)) }
+    requires default { IfSome default (IsIn low high) }
     ensures is { result ≡ value_of (spec.row_integer key low high step default) place (table_view table.now) }
-    ensures within { IfOk result (λ n. (low ≤ n) × (n ≤ high)) }
+    ensures within { IfOk result (IsIn low high) }
 {
     let found = match value_at(table, key) {
         None => default.ok_or(Kind::Missing),
@@ -122,7 +123,7 @@ pub fn optional_integer_at(
     high: u64,
 ) -> Result<Option<u64>, Finding>
     ensures is { result ≡ value_of (optional (spec.row_integer key low high 1 None)) place (table_view table.now) }
-    ensures within { IfOk result (λ found. IfSome found (λ n. (low ≤ n) × (n ≤ high))) }
+    ensures within { IfOk result (λ found. IfSome found (IsIn low high)) }
 {
     let found = match value_at(table, key) {
         None => Ok(None),

@@ -3,6 +3,7 @@ ghost use Rattle.std.specs.Prelude.{◌≡◌, ◌<◌, ◌≤◌, [], length};
 ghost use Rattle.toml.specs.View.{view, table_view, array_view};
 ghost use Rattle.aps_scenario.specs.Refusal.{Gives};
 ghost use Rattle.aps_scenario.specs.Threads as spec;
+ghost use Rattle.aps_model.specs.Limits.{most_partitions, most_threads};
 
 use crate::key::Key;
 use crate::kind::Kind;
@@ -44,9 +45,9 @@ fn next_thread(
     value: &Value,
 ) -> Result<ThreadRow, Failure>
     requires some_partition { 0 < length partitions.now }
-    requires few_partitions { length partitions.now ≤ 32 }
+    requires few_partitions { length partitions.now ≤ most_partitions }
     requires few_channels { length channels.now ≤ 256 }
-    requires few { length threads.now ≤ 1024 }
+    requires few { length threads.now ≤ most_threads }
     ensures { Gives (λ row. row) result (spec.next_thread partitions.now channels.now joinable.now threads.now (view value.now)) }
 {
     let index = threads.len() as u16;
@@ -70,7 +71,7 @@ fn thread_values(
     table: &Table,
 ) -> Result<ThreadRow, Failure>
     requires some_partition { 0 < length partitions.now }
-    requires few_partitions { length partitions.now ≤ 32 }
+    requires few_partitions { length partitions.now ≤ most_partitions }
     requires few_channels { length channels.now ≤ 256 }
     ensures { Gives (λ row. row) result
         (spec.thread_values partitions.now channels.now joinable.now index name (table_view table.now)) }
@@ -100,9 +101,9 @@ fn threads_of(
     array: &Array,
 ) -> Result<Vec<ThreadRow>, Failure>
     requires some_partition { 0 < length partitions.now }
-    requires few_partitions { length partitions.now ≤ 32 }
+    requires few_partitions { length partitions.now ≤ most_partitions }
     requires few_channels { length channels.now ≤ 256 }
-    requires few { length array.now.items ≤ 1024 }
+    requires few { length array.now.items ≤ most_threads }
     ensures { Gives (λ threads. threads.items) result
         (spec.threads_from partitions.now channels.now joinable.now [] (array_view array.now)) }
 {
@@ -125,7 +126,7 @@ pub fn threads_at(
     table: &Table,
 ) -> Result<Vec<ThreadRow>, Failure>
     requires some_partition { 0 < length partitions.now }
-    requires few_partitions { length partitions.now ≤ 32 }
+    requires few_partitions { length partitions.now ≤ most_partitions }
     requires few_channels { length channels.now ≤ 256 }
     ensures { Gives (λ threads. threads.items) result (spec.threads_at partitions.now channels.now joinable.now (table_view table.now)) }
 {

@@ -1,5 +1,6 @@
 -- The window in which critical time is counted.
 use Rattle.std.specs.Prelude.{◌≡◌, ℕ, ◌+◌, ◌-◌, ◌/◌, ◌≤◌, ◌++◌, List, [], ◌∷◌, Some}
+use Rattle.aps_model.specs.Limits.{most_ticks}
 use Rattle.aps_model.specs.declared.entry.Entry.{Entry}
 use Rattle.aps_model.specs.declared.shape.Shape.{Shape}
 use Rattle.aps_model.specs.Scenario.{Scenario}
@@ -23,7 +24,7 @@ for_span span time = record { window = resized span time.window; span = span }
 
 -- the entry ran in the window's tick or the one before, and its time has room there
 pub record HasRoom (tick : ℕ) (window : Window) (e : Entry) : Type 0 where
-  pub early : window.tick ≤ 1000000
+  pub early : window.tick ≤ most_ticks
   pub past : e.from / tick ≤ window.tick
   pub recent : window.tick ≤ e.from / tick + 1
   pub fits : (p : ℕ) → e.billed ≡ Some p → billed_on window p (e.from / tick) + (e.to - e.from) ≤ 160000000

@@ -1,5 +1,6 @@
 -- How far a pass over the entries of a history has come that tells who overspends.
 use Rattle.std.specs.Prelude.{◌≡◌, ℕ, ◌-◌, ◌<◌, ◌≤◌, List, ◌&&◌, nat_eq, nat_lt, if◌then◌else◌, slice_index_or, Option, Some, None, IfSome}
+use Rattle.aps_model.specs.Limits.{most_partitions}
 use Rattle.aps_model.specs.declared.entry.Order.{Order}
 use Rattle.aps_model.specs.Scenario.{Scenario}
 use Rattle.aps_model.specs.Valid.{IsScenario}
@@ -37,4 +38,4 @@ excess_by budget used p = if nat_eq budget.partition p && nat_lt budget.ns used 
 
 -- so often one can go on counting
 abbrev pub AreFew : List (Option Spent) → Type 0
-AreFew spent = (p : ℕ) → p < 32 → IfSome (slice_index_or spent p None) (λ s. s.count ≤ 10000000)
+AreFew spent = (p : ℕ) → p < most_partitions → IfSome (slice_index_or spent p None) (λ s. s.count ≤ 10000000)

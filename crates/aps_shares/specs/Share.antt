@@ -7,6 +7,7 @@ use Rattle.aps_shares.specs.declared.share.Counts.{Counts}
 use Rattle.aps_shares.specs.declared.share.Share.{Share}
 use Rattle.aps_shares.specs.declared.share.Shortfall.{Shortfall}
 use Rattle.aps_shares.specs.declared.share.Used.{Used}
+use Rattle.aps_model.specs.Limits.{most_partitions}
 
 -- one more where it is so
 abbrev pub counted : ℕ → Bool → ℕ
@@ -66,7 +67,7 @@ taken_by turn p sample q =
 
 -- what the other partitions may take
 abbrev pub others_of : ℕ → ℕ → Sample → ℕ
-others_of turn p sample = sum_by (taken_by turn p sample) (range_with_len 0 32)
+others_of turn p sample = sum_by (taken_by turn p sample) (range_with_len 0 most_partitions)
 
 -- by how much it fell short of its allowance, beside what the others may take
 abbrev pub shortfall_in : ℕ → ℕ → Sample → Shortfall

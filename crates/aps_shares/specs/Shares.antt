@@ -1,6 +1,7 @@
 -- What is told of all partitions over the windows of a history.
 use Rattle.std.specs.Prelude.{◌≡◌, ℕ, ◌*◌, ◌<◌, ◌≤◌, List, slice_index_or}
 use Rattle.std.specs.List.{fold, range_with_len}
+use Rattle.aps_model.specs.Limits.{most_partitions}
 use Rattle.aps_model.specs.declared.entry.Entry.{Entry}
 use Rattle.aps_model.specs.declared.shape.Shape.{Shape}
 use Rattle.aps_model.specs.Loaded.{finished_ticks}
@@ -33,7 +34,7 @@ share_of scenario h p = share_up_to scenario h p (finished_ticks scenario.shape 
 -- this is so after the samples of the first n ticks
 pub record AreUpTo (scenario : Scenario) (h : List Entry) (n : ℕ) (shares : Shares) : Type 0 where
   pub counts : shares.counts ≡ counts_up_to scenario h n
-  pub each : (p : ℕ) → p < 32 → slice_index_or shares.each p no_share ≡ share_up_to scenario h p n
+  pub each : (p : ℕ) → p < most_partitions → slice_index_or shares.each p no_share ≡ share_up_to scenario h p n
 
 -- so much can be counted on
 pub record IsFew (share : Share) : Type 0 where
@@ -47,4 +48,4 @@ pub record AreFewCounts (counts : Counts) : Type 0 where
 
 pub record AreFew (shares : Shares) : Type 0 where
   pub counts : AreFewCounts shares.counts
-  pub each : (p : ℕ) → p < 32 → IsFew (slice_index_or shares.each p no_share)
+  pub each : (p : ℕ) → p < most_partitions → IsFew (slice_index_or shares.each p no_share)

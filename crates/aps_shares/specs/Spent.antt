@@ -3,6 +3,7 @@ use Rattle.std.specs.Prelude.{◌≡◌, ◌<◌, slice_index_or, ℕ, ◌+◌, 
 use Rattle.aps_model.specs.declared.entry.Entry.{Entry}
 use Rattle.aps_model.specs.After.{state_after}
 use Rattle.aps_model.specs.Bill.{bankrupt}
+use Rattle.aps_model.specs.Limits.{most_partitions}
 use Rattle.aps_model.specs.Scenario.{Scenario}
 use Rattle.aps_model.specs.SchedulerState.{SchedulerState, row_at}
 use Rattle.aps_model.specs.Usage.{names, window_critical}
@@ -75,4 +76,4 @@ spent_of scenario h p = spent_from scenario p None [] h
 
 -- this is so of each partition
 abbrev pub AreSpent : Scenario → List Entry → List (Option Spent) → Type 0
-AreSpent scenario h spent = (p : ℕ) → p < 32 → slice_index_or spent p None ≡ spent_of scenario h p
+AreSpent scenario h spent = (p : ℕ) → p < most_partitions → slice_index_or spent p None ≡ spent_of scenario h p

@@ -7,6 +7,7 @@ use Rattle.aps_model.specs.declared.command.CtlView.{CtlView}
 use Rattle.aps_model.specs.declared.partition.PartitionRow.{PartitionRow}
 use Rattle.aps_model.specs.declared.shape.Shape.{Shape}
 use Rattle.aps_model.specs.Command.{perform}
+use Rattle.aps_model.specs.Limits.{most_partitions}
 use Rattle.aps_model.specs.SchedulerState.{SchedulerState}
 
 -- the rows and the shape of a state
@@ -22,7 +23,7 @@ standing_of s = stand s.rows s.shape
 
 -- nothing is seen of usages and threads
 abbrev pub unseen : CtlView
-unseen = record { used = replicate 32 0; critical_used = replicate 32 0; thread = None }
+unseen = record { used = replicate most_partitions 0; critical_used = replicate most_partitions 0; thread = None }
 
 -- after a command
 abbrev pub commanded : Call → Standing → Standing

@@ -9,7 +9,7 @@ ghost use Rattle.aps_samples.specs.Retraced.{start_of};
 ghost use Rattle.aps_shares.specs.CriticalBudget.{AreUntestedFrom, tested_by};
 ghost use Rattle.aps_shares.specs.CriticalTime.{for_span};
 ghost use Rattle.aps_shares.specs.Spent.{AreSpent, listed, overspent_as, overspent_by, overspent_of, spent_with};
-ghost use Rattle.aps_model.specs.Limits.{most_entries};
+ghost use Rattle.aps_model.specs.Limits.{longest_window, most_entries, most_partitions};
 
 use crate::critical_budget::{CriticalBudget, budget_next, if_lasts, tested};
 use crate::critical_time::CriticalTime;
@@ -166,16 +166,16 @@ impl Pass {
     /// Notes by how much the partition has overspent this budget at the last moment, if it has, and gives it.
     fn compare(&mut self, budget: &CriticalBudget) -> Option<Overspent>
         requires least { 8 ≤ budget.now.window }
-        requires most { budget.now.window ≤ 400 }
+        requires most { budget.now.window ≤ longest_window }
         requires span { self.old.time.window.span ≡ self.old.time.span }
         requires few { AreFew self.old.spent }
         ensures same { self.new ≡ record self.old { time = self.new.time; spent = self.new.spent } }
         ensures time { self.new.time ≡ for_span budget.now.window self.old.time }
-        ensures within { budget.now.partition < 32 }
+        ensures within { budget.now.partition < most_partitions }
         ensures overspent { result ≡ overspent_as self.old.moment budget.now.partition
             (excess_by budget.now (used_by budget.now self.old.time) budget.now.partition) }
         ensures spent { (p : ℕ)
-            → p < 32
+            → p < most_partitions
             → slice_index_or self.new.spent p None
             ≡ spent_with (slice_index_or self.old.spent p None) self.old.moment
             (excess_by budget.now (used_by budget.now self.old.time) p) }

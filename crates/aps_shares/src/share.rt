@@ -2,6 +2,7 @@
 ghost use Rattle.std.specs.Prelude.{◌≡◌, ◌≤◌, ◌<◌, ◌&&◌, not};
 ghost use Rattle.aps_shares.specs.Share as spec;
 ghost use Rattle.aps_shares.specs.Shares.{AreFewCounts, IsFew};
+ghost use Rattle.aps_model.specs.Limits.{most_partitions};
 
 use aps_model::Nanos;
 use aps_model::limits::MOST_PARTITIONS;
@@ -107,7 +108,7 @@ impl Share {
 
     /// The share of partition `p` with one window more, where all processors have so much time in a tick (ns).
     pub fn with(&self, sample: &Sample, p: usize, turn: Nanos) -> Share
-        requires p { p < 32 }
+        requires p { p < most_partitions }
         requires few { IsFew self.now }
         requires tick { sample.now.tick ≤ 100000000 }
         ensures { result ≡ spec.share_with turn p self.now sample.now }
@@ -150,7 +151,7 @@ fn first_tick(sample: &Sample) -> u64
 
 /// What partition `p` used in the window.
 fn used_in(sample: &Sample, p: usize) -> Used
-    requires p { p < 32 }
+    requires p { p < most_partitions }
     requires tick { sample.now.tick ≤ 100000000 }
     ensures { result ≡ spec.used_in p sample.now }
 {
@@ -163,7 +164,7 @@ fn used_in(sample: &Sample, p: usize) -> Used
 
 /// The free time of partition `p` in the window.
 fn free_in(sample: &Sample, p: usize) -> Amount
-    requires p { p < 32 }
+    requires p { p < most_partitions }
     requires tick { sample.now.tick ≤ 100000000 }
     ensures { result ≡ spec.free_in p sample.now }
 {
@@ -175,7 +176,7 @@ fn free_in(sample: &Sample, p: usize) -> Amount
 
 /// The critical time of partition `p` in the window.
 fn critical_in(sample: &Sample, p: usize) -> Amount
-    requires p { p < 32 }
+    requires p { p < most_partitions }
     requires tick { sample.now.tick ≤ 100000000 }
     ensures { result ≡ spec.critical_in p sample.now }
 {
@@ -187,7 +188,7 @@ fn critical_in(sample: &Sample, p: usize) -> Amount
 
 /// What partition `p` used beyond its allowance, its critical time and its free time.
 fn beyond_in(sample: &Sample, p: usize) -> Amount
-    requires p { p < 32 }
+    requires p { p < most_partitions }
     requires tick { sample.now.tick ≤ 100000000 }
     ensures { result ≡ spec.beyond_in p sample.now }
 {
@@ -201,7 +202,7 @@ fn beyond_in(sample: &Sample, p: usize) -> Amount
 
 /// By how much partition `p` fell short, beside what the others may take.
 fn shortfall_in(sample: &Sample, p: usize, turn: Nanos) -> Shortfall
-    requires p { p < 32 }
+    requires p { p < most_partitions }
     requires tick { sample.now.tick ≤ 100000000 }
     ensures { result ≡ spec.shortfall_in turn p sample.now }
 {
@@ -220,7 +221,7 @@ fn short_with(
     turn: Nanos,
     counts: bool,
 ) -> Option<Shortfall>
-    requires p { p < 32 }
+    requires p { p < most_partitions }
     requires tick { sample.now.tick ≤ 100000000 }
     ensures { result ≡ spec.with_one spec.is_shorter best (spec.shortfall_in turn p sample.now) counts }
 {
@@ -245,7 +246,7 @@ fn others(sample: &Sample, p: usize, turn: Nanos) -> u128
 /// What partition `q` may take from partition `p` in the window: its critical time, and where it has an allowance one tick of
 /// all processors. It takes nothing from itself.
 fn taken_by(sample: &Sample, p: usize, q: usize, turn: Nanos) -> u128
-    requires { q < 32 }
+    requires { q < most_partitions }
     ensures same { result ≡ spec.taken_by turn p sample.now q }
     ensures few { result ≤ 40000000000000000000 }
 {

@@ -7,7 +7,7 @@ ghost use Rattle.aps_model.specs.Shape.{IsShape};
 ghost use Rattle.aps_samples.specs.Pass.{IsAt, scenario_of};
 ghost use Rattle.aps_shares.specs.Share.{counts_with, no_counts, no_share, share_with};
 ghost use Rattle.aps_shares.specs.Shares.{AreFew, AreUpTo, IsFew, tick_of_all};
-ghost use Rattle.aps_model.specs.Limits.{most_entries};
+ghost use Rattle.aps_model.specs.Limits.{most_entries, most_partitions};
 
 use crate::share::{Counts, Share};
 use aps_model::limits::MOST_PARTITIONS;
@@ -37,7 +37,7 @@ pub fn all_shares(alloc: Global, history: &History, order: Order) -> Result<AllS
     ensures told { IfOk result (λ all. AreUpTo history.now.scenario history.now.entries
         (finished_ticks history.now.scenario.shape history.now.entries) all.shares) }
     ensures rows { IfOk result (λ all. all.rows.items ≡ (state_after history.now.scenario history.now.entries).rows) }
-    ensures few { IfOk result (λ all. length all.rows.items ≤ 32) }
+    ensures few { IfOk result (λ all. length all.rows.items ≤ most_partitions) }
 {
     let mut samples = Samples::begin(alloc, history, order)?;
     let shares = shares_of(history, &mut samples);
@@ -77,7 +77,7 @@ impl Shares {
     /// Before the first window.
     fn none() -> Shares
         ensures counts { result.counts ≡ no_counts }
-        ensures each { (p : ℕ) → p < 32 → slice_index_or result.each p no_share ≡ no_share }
+        ensures each { (p : ℕ) → p < most_partitions → slice_index_or result.each p no_share ≡ no_share }
     {
         Shares {
             counts: Counts::none(),
@@ -91,7 +91,7 @@ impl Shares {
         requires tick { sample.now.tick ≤ 100000000 }
         ensures counts { self.new.counts ≡ counts_with self.old.counts sample.now }
         ensures each { (p : ℕ)
-            → p < 32
+            → p < most_partitions
             → slice_index_or self.new.each p no_share ≡ share_with turn p (slice_index_or self.old.each p no_share) sample.now }
     {
         self.counts = self.counts.with(sample);
@@ -101,9 +101,9 @@ impl Shares {
 
 /// The share of each partition with one window more.
 fn each_with(shares: &[Share; 32], sample: &Sample, turn: Nanos) -> [Share; 32]
-    requires few { (p : ℕ) → p < 32 → IsFew (slice_index_or shares.now p no_share) }
+    requires few { (p : ℕ) → p < most_partitions → IsFew (slice_index_or shares.now p no_share) }
     requires tick { sample.now.tick ≤ 100000000 }
-    ensures { (p : ℕ) → p < 32 → slice_index_or result p no_share ≡ share_with turn p (slice_index_or shares.now p no_share) sample.now }
+    ensures { (p : ℕ) → p < most_partitions → slice_index_or result p no_share ≡ share_with turn p (slice_index_or shares.now p no_share) sample.now }
 {
     let mut all = [Share::none(); MOST_PARTITIONS];
     for p in 0..MOST_PARTITIONS {

@@ -6,7 +6,7 @@ ghost use Rattle.aps_model.specs.Legal.{IsLegal};
 ghost use Rattle.aps_shares.specs.Share.{no_share};
 ghost use Rattle.aps_shares.specs.Spent.{AreSpent};
 ghost use Rattle.aps_shares.specs.Text as spec;
-ghost use Rattle.aps_model.specs.Limits.{most_entries};
+ghost use Rattle.aps_model.specs.Limits.{most_entries, most_partitions};
 
 use crate::lines::{add_head, add_partition};
 use crate::overspending::all_spent;
@@ -56,7 +56,7 @@ fn add_partitions(
     shares: &[Share; 32],
     spent: &[Option<Spent>; 32],
 ) -> Result<(), NoMemory>
-    requires { length rows.now ≤ 32 }
+    requires { length rows.now ≤ most_partitions }
     ensures { OnOk result (string_bytes out.new
         ≡ string_bytes out.old
         ++ flat_map (spec.partition_text (λ p. slice_index_or shares.now p no_share) (λ p. slice_index_or spent.now p None))

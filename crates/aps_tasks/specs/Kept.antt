@@ -1,5 +1,6 @@
 -- What every list of calls keeps.
 use Rattle.std.specs.Prelude.{◌≡◌, ℕ, ◌+◌, ◌<◌, ◌≤◌, ◌^◌, ◌⊎◌, List, length, All, slice_index_or, Option, None, ⊤}
+use Rattle.aps_model.specs.Limits.{last_moment}
 use Rattle.aps_model.specs.declared.program.Op.{Op}
 use Rattle.aps_model.specs.declared.program.Op.TheVariants.{Forever, Sleep}
 use Rattle.aps_model.specs.Shape.{IsShape}
@@ -9,7 +10,7 @@ use Rattle.aps_tasks.specs.Tasks.{Tasks, no_task, op_of, task_at}
 
 -- if the operation is a sleep, its moment fits
 abbrev pub IsShort : Op → Type 0
-IsShort (Sleep ns) = ns ≤ 10000000000000
+IsShort (Sleep ns) = ns ≤ last_moment
 IsShort op = ⊤
 
 pub record IsPlan (plan : Plan) : Type 0 where

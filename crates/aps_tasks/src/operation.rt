@@ -1,5 +1,6 @@
 //! What an operation takes, and what comes after it.
 ghost use Rattle.std.specs.Prelude.{◌≡◌, ◌*◌, ◌≤◌, ◌<◌};
+ghost use Rattle.aps_model.specs.Limits.{last_moment, longest_tick};
 ghost use Rattle.aps_model.specs.Operation.{duration, is_slice_over, place_after, state_in};
 ghost use Rattle.aps_tasks.specs.Calls.{is_over, left_after, sleep_end};
 ghost use Rattle.aps_tasks.specs.Kept.{IsLeft, IsShort};
@@ -24,7 +25,7 @@ pub fn duration(shape: &Shape, op: &Op) -> Option<Nanos>
 
 /// The moment until which a thread sleeps that enters the operation now, if that is a sleep.
 pub fn sleep_end(op: &Op, now: Nanos) -> Option<Nanos>
-    requires now { now ≤ 10000000000000 }
+    requires now { now ≤ last_moment }
     requires short { IsShort op.now }
     ensures { result ≡ sleep_end op.now now }
 {
@@ -36,7 +37,7 @@ pub fn sleep_end(op: &Op, now: Nanos) -> Option<Nanos>
 
 /// The state of a thread that enters an operation now: it sleeps, or it is in the state that is named.
 pub fn state_in(op: &Op, now: Nanos, otherwise: State) -> State
-    requires now { now ≤ 10000000000000 }
+    requires now { now ≤ last_moment }
     requires short { IsShort op.now }
     ensures { result ≡ state_in op.now now otherwise }
 {
@@ -76,7 +77,7 @@ pub fn is_over(left: &Option<Nanos>) -> bool
 
 /// Whether a thread that ran for so long since its stamp is to have a new one.
 pub fn is_slice_over(shape: &Shape, policy: Policy, since: Nanos) -> bool
-    requires { shape.now.tick ≤ 10000000 }
+    requires { shape.now.tick ≤ longest_tick }
     ensures { result ≡ is_slice_over shape.now policy since }
 {
     (policy == Policy::Rr) & (SLICE_TICKS * shape.tick <= since)

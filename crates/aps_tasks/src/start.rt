@@ -1,5 +1,6 @@
 //! The threads at the start of a scenario.
 ghost use Rattle.std.specs.Prelude.{◌≡◌, ◌≤◌, map, IfOk};
+ghost use Rattle.aps_model.specs.Limits.{most_threads};
 ghost use Rattle.aps_model.specs.Opening.{first_op, stamp_after, start_stamps, start_threads, started};
 ghost use Rattle.aps_tasks.specs.Kept.{IsShort};
 ghost use Rattle.aps_tasks.specs.Start.{plan_of, task_of};
@@ -77,7 +78,7 @@ fn first_op(row: &ThreadRow) -> Op
 
 /// The next stamp after a thread that has started.
 fn stamp_after(state: &State, next: u64) -> u64
-    requires { next ≤ 1024 }
+    requires { next ≤ most_threads }
     ensures { result ≡ stamp_after state.now next }
 {
     match state {

@@ -3,6 +3,7 @@ ghost use Rattle.std.specs.Prelude.{◌≡◌, ◌+◌, ◌<◌, ◌≤◌, ◌^
 ghost use Rattle.aps_tasks.specs.Kept.{IsShort};
 ghost use Rattle.aps_tasks.specs.Start.{start_table};
 ghost use Rattle.aps_tasks.specs.Table.{put_back, put_entered, put_given, put_on, put_ready, put_spent, put_stamped, put_state, put_task, task_in};
+ghost use Rattle.aps_model.specs.Limits.{last_moment, longest_tick};
 
 use crate::operation::{duration, is_slice_over, left_after, state_in};
 use crate::start::start_tasks;
@@ -80,7 +81,7 @@ impl TaskTable {
     /// a sleep the thread sleeps; else it stays in its state.
     #[inline(always)]
     pub fn enter(&mut self, x: ThreadId, place: u16, op: &Op, shape: &Shape, now: Nanos)
-        requires now { now ≤ 10000000000000 }
+        requires now { now ≤ last_moment }
         requires short { IsShort op.now }
         ensures { self.new ≡ put_entered self.old x shape.now place op.now now }
     {
@@ -97,7 +98,7 @@ impl TaskTable {
     /// sleeps; else it is ready, with a new stamp. Fewer than 2^63 stamps were given.
     #[inline(always)]
     pub fn go_on(&mut self, x: ThreadId, place: u16, op: &Op, shape: &Shape, now: Nanos)
-        requires now { now ≤ 10000000000000 }
+        requires now { now ≤ last_moment }
         requires short { IsShort op.now }
         requires stamps { self.old.stamps < 2 ^ 63 }
         ensures { self.new ≡ put_on self.old x shape.now place op.now now }
@@ -134,7 +135,7 @@ impl TaskTable {
     #[inline(always)]
     pub fn give_back(&mut self, x: ThreadId, shape: &Shape, policy: Policy)
         requires stamps { self.old.stamps < 2 ^ 63 }
-        requires tick { shape.now.tick ≤ 10000000 }
+        requires tick { shape.now.tick ≤ longest_tick }
         ensures { self.new ≡ put_given self.old x shape.now policy (task_in self.old x).state }
     {
         let task = self.task(x);

@@ -1,5 +1,6 @@
 //! The threads of a run, and the calls that change one of them.
 ghost use Rattle.std.specs.Prelude.{◌≡◌, ◌≢◌, ◌↔◌, ◌+◌, ◌<◌, ◌≤◌, ◌^◌, length, IfOk, IfSome, None};
+ghost use Rattle.aps_model.specs.Limits.{last_moment};
 ghost use Rattle.aps_model.specs.declared.program.Op.TheVariants.{Exit, Forever};
 ghost use Rattle.aps_model.specs.declared.state.State.TheVariants.{Gone, Running};
 ghost use Rattle.aps_tasks.specs.Calls.{advanced, given_back, is_over, left_after, made_ready, restamped, sleep_end, spent};
@@ -102,7 +103,7 @@ impl Tasks {
     pub fn advance(&mut self, x: ThreadId, now: Nanos) -> Option<Nanos>
         requires forever { op_of self.old x ≢ Forever }
         requires exit { op_of self.old x ≢ Exit }
-        requires now { now ≤ 10000000000000 }
+        requires now { now ≤ last_moment }
         ensures thread { self.new ≡ advanced self.old x now }
         ensures until { result ≡ sleep_end (op_of self.new x) now }
     {
@@ -164,7 +165,7 @@ impl Tasks {
     /// 10,000,000,000,000 in all. The answer is whether its operation is over.
     pub fn spend(&mut self, x: ThreadId, ns: Nanos) -> bool
         requires left { IfSome (task_at self.old x).left (λ left. ns ≤ left) }
-        requires since { (task_at self.old x).since + ns ≤ 10000000000000 }
+        requires since { (task_at self.old x).since + ns ≤ last_moment }
         ensures thread { self.new ≡ spent self.old x ns }
         ensures over { result ≡ is_over (left_after (task_at self.old x).left ns) }
     {

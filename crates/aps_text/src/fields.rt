@@ -4,8 +4,7 @@ ghost use Rattle.aps_text.specs.Reader.{Gives, word_at, digits_at, number_at};
 ghost use Rattle.aps_text.specs.Fields.{option_at, mark_at};
 ghost use Rattle.aps_model.specs.Limits.{last_moment};
 
-/// The greatest number of a thread.
-pub const LAST_THREAD: u64 = 1023;
+use aps_model::limits::LAST_THREAD;
 
 /// A value and the bytes behind it, or the bytes from the first one on that fits nothing.
 pub type Reading<'a, T> = Result<(T, &'a [u8]), &'a [u8]>;

@@ -7,16 +7,12 @@ ghost use Rattle.aps_text.specs.Line.{cpu_of_line, line_at};
 ghost use Rattle.aps_text.specs.Refusal.{Refuses};
 ghost use Rattle.aps_text.specs.declared.refusal.JournalRefusal.TheVariants.{NoMemory};
 
-use crate::fields::{LAST_THREAD, Reading, mark, number, number_or_none};
+use crate::fields::{Reading, mark, number, number_or_none};
 use crate::operation::done;
 use crate::refusal::JournalRefusal;
-use aps_model::limits::LAST_MOMENT;
+use aps_model::limits::{LAST_CPU, LAST_MOMENT, LAST_PARTITION, LAST_THREAD};
 use aps_model::{CpuId, Entry, PartitionId, ThreadId};
 use std::alloc::Global;
-
-const LAST_CPU: u64 = 15;
-
-const LAST_PARTITION: u64 = 31;
 
 /// The entries whose journal the bytes are, of which there is one list at most. There may be
 /// 4,000,000,000 bytes, so that the number of a line and that of a column fit the refusal.

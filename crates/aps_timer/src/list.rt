@@ -1,14 +1,13 @@
 //! Those who are due, in the order in which they wake.
 ghost use Rattle.std.specs.Prelude.{◌≡◌, ◌++◌, ℕ, ◌<◌, ◌≤◌, [], ◌∷◌, length, take, drop, slice_index_or, IfOk, true};
+ghost use Rattle.aps_model.specs.Limits.{most_threads};
 ghost use Rattle.aps_model.specs.TickWork.{insert_sleeper, is_earlier};
 
 use crate::sleeper::{Sleeper, is_earlier};
 use aps_model::NoMemory;
+use aps_model::limits::MOST_THREADS;
 use std::alloc::Global;
 use std::marker::Model;
-
-/// The most threads.
-const THREADS: usize = 1024;
 
 /// Sleepers in the order in which they wake. There is room for every thread.
 #[derive(Drop)]
@@ -24,8 +23,9 @@ impl Model for Due {
     ghost view = { λ d. d.list.items };
 
     ghost use Rattle.std.specs.Prelude.{◌≤◌, vec_capacity};
+    ghost use Rattle.aps_model.specs.Limits.{most_threads};
 
-    ghost invariant = { λ d. 1024 ≤ vec_capacity d.list };
+    ghost invariant = { λ d. most_threads ≤ vec_capacity d.list };
 }
 
 impl Due {
@@ -34,7 +34,7 @@ impl Due {
         ensures { IfOk result (λ d. d ≡ []) }
     {
         Ok(Due {
-            list: Vec::with_capacity(alloc, THREADS)?,
+            list: Vec::with_capacity(alloc, MOST_THREADS)?,
         })
     }
 
@@ -47,7 +47,7 @@ impl Due {
 
     /// One sleeper more, before the first that wakes after it.
     pub fn insert(&mut self, sleeper: Sleeper)
-        requires { length self.old < 1024 }
+        requires { length self.old < most_threads }
         ensures { self.new ≡ insert_sleeper sleeper self.old }
     {
         let place = place_of(&self.list, &sleeper);

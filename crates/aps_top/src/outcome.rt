@@ -10,7 +10,7 @@ ghost use Rattle.aps_top.specs.Cause.{Input, HasCause, IsOutcome};
 ghost use Rattle.aps_top.specs.Outcome.{history_of, status_of, text_of};
 ghost use Rattle.aps_top.specs.Printing.{Says, output_of};
 ghost use Rattle.aps_top.specs.Reading.{intake_of};
-ghost use Rattle.aps_model.specs.Limits.{most_entries};
+ghost use Rattle.aps_model.specs.Limits.{most_cpus, most_entries, most_partitions, most_ticks};
 
 use crate::answer::{print_admission, print_verdict};
 use crate::printing::print;
@@ -198,11 +198,11 @@ impl Outcome {
     /// Generates a scenario from these numbers.
     fn of_gen(alloc: Global, seed: u64, cpus: u8, partitions: u8, ticks: u32) -> Outcome
         requires some_cpu { 1 ≤ cpus }
-        requires few_cpus { cpus ≤ 16 }
+        requires few_cpus { cpus ≤ most_cpus }
         requires some_partition { 1 ≤ partitions }
-        requires few_partitions { partitions ≤ 32 }
+        requires few_partitions { partitions ≤ most_partitions }
         requires some_tick { 1 ≤ ticks }
-        requires few_ticks { ticks ≤ 1000000 }
+        requires few_ticks { ticks ≤ most_ticks }
         ensures { (input : Input) → input.asked ≡ Some (asked.Gen seed cpus partitions ticks) → input.reading.bytes ≡ []
             → HasCause input result }
     {
@@ -301,11 +301,11 @@ fn generated_text(
     ticks: u32,
 ) -> Result<String, NoMemory>
     requires some_cpu { 1 ≤ cpus }
-    requires few_cpus { cpus ≤ 16 }
+    requires few_cpus { cpus ≤ most_cpus }
     requires some_partition { 1 ≤ partitions }
-    requires few_partitions { partitions ≤ 32 }
+    requires few_partitions { partitions ≤ most_partitions }
     requires some_tick { 1 ≤ ticks }
-    requires few_ticks { ticks ≤ 1000000 }
+    requires few_ticks { ticks ≤ most_ticks }
     ensures { IfOk result (λ text. reads (string_bytes text) ≡ Ok (generated seed cpus partitions ticks)) }
 {
     let scenario = generate(alloc, seed, cpus, partitions, ticks)?;

@@ -1,6 +1,6 @@
 //! What a source gives: a scenario, demands, or the verdict on a journal; or the outcome of the call where it gives none.
 ghost use Rattle.std.specs.Prelude.{◌≡◌, ◌≤◌, length, IfSome};
-ghost use Rattle.aps_model.specs.Limits.{most_entries};
+ghost use Rattle.aps_model.specs.Limits.{most_entries, most_journal_bytes};
 ghost use Rattle.aps_text.specs.Separator.{journal_place};
 ghost use Rattle.aps_top.specs.CheckInput.{check_refusal};
 ghost use Rattle.aps_top.specs.Outcome.{not_read, of_refusal, of_journal_refusal};
@@ -90,7 +90,7 @@ fn demands_in(alloc: Global, bytes: &[u8]) -> Result<Demands, Outcome>
 fn verdict_in(alloc: Global, order: Order, limit: u32, bytes: &[u8]) -> Result<Verdict, Outcome>
     requires some { 1 ≤ limit }
     requires few { limit ≤ most_entries }
-    requires short { length bytes.now ≤ 310000000 }
+    requires short { length bytes.now ≤ most_journal_bytes }
     ensures { GivesText (check_refusal bytes.now) (IsJudgedText order limit bytes.now) result }
 {
     let Some(at) = parted(bytes) else {

@@ -6,7 +6,7 @@ ghost use Rattle.aps_model.specs.Loaded.{finished_ticks};
 ghost use Rattle.aps_samples.specs.Pass.{IsAt, scenario_of};
 ghost use Rattle.aps_traces.specs.Counters as spec;
 ghost use Rattle.aps_traces.specs.Piece.{IsTold};
-ghost use Rattle.aps_model.specs.Limits.{most_entries};
+ghost use Rattle.aps_model.specs.Limits.{longest_tick, most_entries, most_partitions};
 
 use crate::fault::TraceFault;
 use crate::piece::make_room;
@@ -30,7 +30,7 @@ pub fn write_counters<K: Sink>(
 ) -> Result<(), TraceFault>
     requires legal { IsLegal history.now.scenario order history.now.entries }
     requires few { length history.now.entries ≤ most_entries }
-    requires few_rows { rows ≤ 32 }
+    requires few_rows { rows ≤ most_partitions }
     ensures told { OnOk result (IsTold (K.written sink.old) (K.written sink.new) (string_bytes out.old) (string_bytes out.new)
         (spec.counters_text history.now.scenario history.now.entries rows)) }
     ensures fault { IsErrOf result TraceFault.WriteFault → Rose (K.faults sink.old) (K.faults sink.new) }
@@ -48,7 +48,7 @@ fn write_ticks<K: Sink>(
     rows: usize,
     samples: &mut Samples,
 ) -> Result<(), TraceFault>
-    requires few_rows { rows ≤ 32 }
+    requires few_rows { rows ≤ most_partitions }
     requires at { IsAt history.now.entries samples.old }
     requires of { scenario_of samples.old.cursor ≡ history.now.scenario }
     requires first { samples.old.tick ≡ 0 }
@@ -77,8 +77,8 @@ fn add_sample(
     before: &Option<Sample>,
     sample: &Sample,
 ) -> Result<(), NoMemory>
-    requires tick { tick ≤ 10000000 }
-    requires rows { rows ≤ 32 }
+    requires tick { tick ≤ longest_tick }
+    requires rows { rows ≤ most_partitions }
     requires sample { sample.now.tick ≤ 100000000 }
     ensures { OnOk result (string_bytes out.new ≡ string_bytes out.old ++ spec.sample_events tick rows before.now sample.now) }
 {

@@ -4,6 +4,7 @@ ghost use Rattle.std.specs.List.{flat_map, enumerate_from, range_with_len};
 ghost use Rattle.aps_io.specs.Causes.{Rose};
 ghost use Rattle.aps_traces.specs.Names as spec;
 ghost use Rattle.aps_traces.specs.Piece.{IsTold};
+ghost use Rattle.aps_model.specs.Limits.{most_cpus, most_partitions, most_threads};
 
 use crate::fault::TraceFault;
 use crate::piece::make_room;
@@ -16,7 +17,7 @@ use std::fmt::Write;
 
 /// The head of a trace with its first event, and the names of so many processors.
 pub fn add_processors(out: &mut String, cpus: u8) -> Result<(), NoMemory>
-    requires { cpus ≤ 16 }
+    requires { cpus ≤ most_cpus }
     ensures { OnOk result (string_bytes out.new ≡ string_bytes out.old ++ spec.processors_text cpus) }
 {
     add_first(out)?;
@@ -36,7 +37,7 @@ fn add_first(out: &mut String) -> Result<(), NoMemory>
 }
 
 fn add_each_processor(out: &mut String, cpus: u8) -> Result<(), NoMemory>
-    requires { cpus ≤ 16 }
+    requires { cpus ≤ most_cpus }
     ensures { OnOk result (string_bytes out.new ≡ string_bytes out.old ++ flat_map spec.processor_names (range_with_len 0 cpus)) }
 {
     for c in 0..usize::from(cpus) {
@@ -61,7 +62,7 @@ pub fn write_partitions<K: Sink>(
     out: &mut String,
     rows: &[PartitionRow],
 ) -> Result<(), TraceFault>
-    requires { length rows.now ≤ 32 }
+    requires { length rows.now ≤ most_partitions }
     ensures told { OnOk result (IsTold (K.written sink.old) (K.written sink.new) (string_bytes out.old) (string_bytes out.new)
         (flat_map spec.partition_names (enumerate_from 0 rows.now))) }
     ensures fault { IsErrOf result TraceFault.WriteFault → Rose (K.faults sink.old) (K.faults sink.new) }
@@ -90,7 +91,7 @@ pub fn write_threads<K: Sink>(
     out: &mut String,
     threads: &[ThreadRow],
 ) -> Result<(), TraceFault>
-    requires { length threads.now ≤ 1024 }
+    requires { length threads.now ≤ most_threads }
     ensures told { OnOk result (IsTold (K.written sink.old) (K.written sink.new) (string_bytes out.old) (string_bytes out.new)
         (flat_map (spec.thread_names threads.now) (enumerate_from 0 threads.now))) }
     ensures fault { IsErrOf result TraceFault.WriteFault → Rose (K.faults sink.old) (K.faults sink.new) }

@@ -4,6 +4,7 @@ ghost use Rattle.std.specs.List.{flat_map, enumerate_from};
 ghost use Rattle.aps_io.specs.Causes.{Rose};
 ghost use Rattle.aps_traces.specs.Piece.{IsTold};
 ghost use Rattle.aps_traces.specs.Slices as spec;
+ghost use Rattle.aps_model.specs.Limits.{most_cpus};
 
 use crate::fault::TraceFault;
 use crate::piece::make_room;
@@ -25,7 +26,7 @@ pub fn write_lanes<K: Sink>(
     rows: &[PartitionRow],
     lanes: &[Lane],
 ) -> Result<(), TraceFault>
-    requires { length lanes.now ≤ 16 }
+    requires { length lanes.now ≤ most_cpus }
     ensures told { OnOk result (IsTold (K.written sink.old) (K.written sink.new) (string_bytes out.old) (string_bytes out.new)
         (flat_map (spec.lane_events threads.now rows.now) (enumerate_from 0 lanes.now))) }
     ensures fault { IsErrOf result TraceFault.WriteFault → Rose (K.faults sink.old) (K.faults sink.new) }

@@ -9,7 +9,7 @@ ghost use Rattle.aps_bars.specs.Alteration.{alterations_of};
 ghost use Rattle.aps_traces.specs.Instants.{alteration_event, overspent_event};
 ghost use Rattle.aps_traces.specs.Piece.{IsTold};
 ghost use Rattle.aps_traces.specs.Trace as spec;
-ghost use Rattle.aps_model.specs.Limits.{most_entries};
+ghost use Rattle.aps_model.specs.Limits.{most_entries, most_partitions};
 
 use crate::arrows::write_arrows;
 use crate::counters::write_counters;
@@ -90,7 +90,7 @@ fn write_processors<K: Sink>(
         (spec.processors_part history.now.scenario history.now.entries)) }
     ensures alterations { IfOk result (λ r. r.0.items ≡ alterations_of history.now.scenario history.now.entries) }
     ensures rows { IfOk result (λ r. r.1.items ≡ (state_after history.now.scenario history.now.entries).rows) }
-    ensures few_rows { IfOk result (λ r. length r.1.items ≤ 32) }
+    ensures few_rows { IfOk result (λ r. length r.1.items ≤ most_partitions) }
     ensures fault { IsErrOf result TraceFault.WriteFault → Rose (K.faults sink.old) (K.faults sink.new) }
     ensures later { K.faults sink.old ≤ K.faults sink.new }
 {
@@ -106,7 +106,7 @@ fn write_drawn<K: Sink>(
     scenario: &Scenario,
     drawn: &Drawn,
 ) -> Result<(), TraceFault>
-    requires rows { length drawn.now.rows ≤ 32 }
+    requires rows { length drawn.now.rows ≤ most_partitions }
     requires lanes { length drawn.now.lanes ≡ scenario.now.shape.cpus }
     ensures told { OnOk result (IsTold (K.written sink.old) (K.written sink.new) (string_bytes out.old) (string_bytes out.new)
         (spec.drawn_part scenario.now drawn.now.rows drawn.now.lanes)) }
@@ -131,7 +131,7 @@ fn write_lasting<K: Sink>(
 ) -> Result<(), TraceFault>
     requires legal { IsLegal history.now.scenario order history.now.entries }
     requires few { length history.now.entries ≤ most_entries }
-    requires few_rows { length rows.now ≤ 32 }
+    requires few_rows { length rows.now ≤ most_partitions }
     ensures told { OnOk result (IsTold (K.written sink.old) (K.written sink.new) (string_bytes out.old) (string_bytes out.new)
         (spec.lasting_part history.now.scenario history.now.entries rows.now)) }
     ensures fault { IsErrOf result TraceFault.WriteFault → Rose (K.faults sink.old) (K.faults sink.new) }

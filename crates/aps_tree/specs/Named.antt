@@ -1,4 +1,5 @@
 use Rattle.std.specs.Prelude.{◌≡◌, ℕ, ◌+◌, ◌≤◌, List, length, map}
+use Rattle.aps_model.specs.Limits.{most_partitions}
 use Rattle.aps_model.specs.declared.partition.PartitionRow.{PartitionRow}
 
 -- the names of the rows, in order
@@ -8,4 +9,4 @@ names_of rows = map (λ (row : PartitionRow). row.name) rows
 -- each row stands under its name, and there is room for 32 rows in all
 pub record AreByName (names : List (List ℕ)) (rows : List PartitionRow) (spare : ℕ) : Type 0 where
   pub named : names ≡ names_of rows
-  pub room : 32 ≤ length names + spare
+  pub room : most_partitions ≤ length names + spare

@@ -1,5 +1,6 @@
 //! What a command that isn't refused does to the rows.
 ghost use Rattle.std.specs.Prelude.{◌≡◌, ◌+◌, ◌-◌, ◌^◌, ◌<◌, ◌≤◌, length, None};
+ghost use Rattle.aps_model.specs.Limits.{most_partitions};
 ghost use Rattle.aps_model.specs.Partition.{partition_named, row_or_none};
 ghost use Rattle.aps_model.specs.Tree.{rows_created, row_modified, rows_cancelled};
 ghost use Rattle.aps_tree.specs.Changes.{parent_of, rows_with_child};
@@ -11,7 +12,7 @@ use aps_model::{PartitionId, PartitionRow};
 pub fn add_child(rows: &mut Rows, row: PartitionRow)
     requires parent { row.parent < length rows.old }
     requires free { partition_named rows.old row.name ≡ None }
-    requires room { length rows.old < 32 }
+    requires room { length rows.old < most_partitions }
     requires covered { row.budget ≤ (row_or_none rows.old row.parent).budget }
     ensures { rows.new ≡ rows_created rows.old row.name row.parent row.budget row.critical row.max }
 {

@@ -1,5 +1,6 @@
 //! The rows of a tree, found by name.
 ghost use Rattle.std.specs.Prelude.{◌≡◌, ◌<◌, ◌++◌, [], ◌∷◌, length, slice_set, IfOk, IfSome, None};
+ghost use Rattle.aps_model.specs.Limits.{most_partitions};
 ghost use Rattle.aps_model.specs.Partition.{partition_named, row_or_none};
 
 use crate::key::Key;
@@ -63,7 +64,7 @@ impl Rows {
     /// Appends a row whose name is free.
     pub fn push(&mut self, row: PartitionRow)
         requires free { partition_named self.old row.name ≡ None }
-        requires room { length self.old < 32 }
+        requires room { length self.old < most_partitions }
         ensures { self.new ≡ self.old ++ row ∷ [] }
     {
         let _ = self.by_name.insert(Key::new(row.name), row);

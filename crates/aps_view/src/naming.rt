@@ -2,6 +2,7 @@
 ghost use Rattle.std.specs.Prelude.{◌≡◌, ◌<◌, ◌≤◌, length, IfSome};
 ghost use Rattle.std.specs.List.{position};
 ghost use Rattle.std.specs.Str.{bytes_eq};
+ghost use Rattle.aps_model.specs.Limits.{most_threads};
 ghost use Rattle.aps_model.specs.declared.scenario.ThreadRow.{ThreadRow as Row};
 ghost use Rattle.aps_view.specs.Naming as spec;
 
@@ -9,7 +10,7 @@ use aps_model::{Name, ThreadId, ThreadRow};
 
 /// The thread that has this name, if there is a name and one of these threads has it.
 pub fn thread_named(threads: &[ThreadRow], name: Option<Name>) -> Option<ThreadId>
-    requires few { length threads.now ≤ 1024 }
+    requires few { length threads.now ≤ most_threads }
     ensures same { result ≡ spec.thread_named threads.now name }
     ensures inside { IfSome result (λ x. x < length threads.now) }
 {

@@ -5,7 +5,7 @@ ghost use Rattle.aps_text.specs.Separator.{journal_place};
 ghost use Rattle.aps_view.specs.Cause.{IsOutcome, TellsDue, not_read, of_journal_refusal, of_refusal};
 ghost use Rattle.aps_view.specs.Due.{IsDueAlone, IsDueOfInput, IsDueOfJournal, IsDueOfRead, IsDueOfScenario};
 ghost use Rattle.aps_view.specs.Intake.{intake_of};
-ghost use Rattle.aps_model.specs.Limits.{most_entries};
+ghost use Rattle.aps_model.specs.Limits.{most_entries, most_journal_bytes};
 
 use crate::outcome::Outcome;
 use crate::refusal::InputRefusal;
@@ -47,7 +47,7 @@ fn not_read(refusal: ReadRefusal) -> Outcome
 fn of_bytes(alloc: Global, asked: Asked, bytes: &[u8]) -> Outcome
     requires some { 1 ≤ asked.limit }
     requires few { asked.limit ≤ most_entries }
-    requires short { length bytes.now ≤ 310000000 }
+    requires short { length bytes.now ≤ most_journal_bytes }
     ensures { TellsDue (IsDueOfInput asked bytes.now) result }
 {
     match parted(bytes) {
@@ -100,7 +100,7 @@ fn of_short(alloc: Global, asked: Asked, text: &[u8]) -> Outcome
 fn of_parts(alloc: Global, asked: Asked, text: &[u8], journal: &[u8]) -> Outcome
     requires some { 1 ≤ asked.limit }
     requires few { asked.limit ≤ most_entries }
-    requires short { length journal.now ≤ 310000000 }
+    requires short { length journal.now ≤ most_journal_bytes }
     ensures { TellsDue (IsDueOfRead asked (reads text.now) journal.now) result }
 {
     match scenario_of(alloc, text) {
@@ -113,7 +113,7 @@ fn of_parts(alloc: Global, asked: Asked, text: &[u8], journal: &[u8]) -> Outcome
 fn of_journal(alloc: Global, asked: Asked, scenario: Scenario, journal: &[u8]) -> Outcome
     requires some { 1 ≤ asked.limit }
     requires few { asked.limit ≤ most_entries }
-    requires short { length journal.now ≤ 310000000 }
+    requires short { length journal.now ≤ most_journal_bytes }
     ensures { TellsDue (IsDueOfJournal asked scenario journal.now) result }
 {
     match read_journal(alloc, journal) {

@@ -1,6 +1,7 @@
 -- What the values of the options say.
 use Rattle.std.specs.Prelude.{ℕ, ◌≤◌, ◌<◌, ◌&&◌, length, nat_le, nat_lt, Bool, Option, Some, None, IfSome, if◌then◌else◌, option_map}
 use Rattle.std.specs.List.{list_all}
+use Rattle.aps_model.specs.Limits.{most_ticks}
 use Rattle.aps_model.specs.Name.{is_name_byte}
 use Rattle.aps_words.specs.Command.{◌>>=◌}
 use Rattle.aps_words.specs.Number.{number_in}
@@ -30,8 +31,8 @@ ticks_of first last = do
 
 -- the ranges of ticks
 pub record AreTicks (ticks : Ticks) : Type 0 where
-  pub from : ticks.from ≤ 1000000
-  pub to : IfSome ticks.to (λ to. (ticks.from < to) × (to ≤ 1000000))
+  pub from : ticks.from ≤ most_ticks
+  pub to : IfSome ticks.to (λ to. (ticks.from < to) × (to ≤ most_ticks))
 
 -- the text is 1 to 15 letters, digits, '_' and '-'
 abbrev pub is_name : Text → Bool

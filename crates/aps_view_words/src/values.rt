@@ -1,6 +1,7 @@
 //! What the values of the options say.
 ghost use Rattle.std.specs.Prelude.{◌≡◌, ◌≤◌, ◌<◌, IfSome, option_map};
 ghost use Rattle.aps_view_words.specs.Values as spec;
+ghost use Rattle.aps_model.specs.Limits.{most_ticks};
 
 use crate::asked::Ticks;
 use aps_model::Name;
@@ -20,7 +21,7 @@ pub fn ticks_of(from: Option<&str>, to: Option<&str>) -> Option<Ticks>
 /// The tick that the value is, 0 to 1,000,000, or 0 where there is no value.
 fn from_of(value: Option<&str>) -> Option<u32>
     ensures same { result ≡ spec.from_of (option_map (λ text. text.now) value.entry) }
-    ensures range { IfSome result (λ from. from ≤ 1000000) }
+    ensures range { IfSome result (λ from. from ≤ most_ticks) }
 {
     match value {
         None => Some(0),
@@ -31,7 +32,7 @@ fn from_of(value: Option<&str>) -> Option<u32>
 /// The tick that the value is, 0 to 1,000,000; or no end where there is no value.
 fn to_of(value: Option<&str>) -> Option<Option<u32>>
     ensures same { result ≡ spec.to_of (option_map (λ text. text.now) value.entry) }
-    ensures range { IfSome result (λ to. IfSome to (λ tick. tick ≤ 1000000)) }
+    ensures range { IfSome result (λ to. IfSome to (λ tick. tick ≤ most_ticks)) }
 {
     match value {
         None => Some(None),
@@ -41,8 +42,8 @@ fn to_of(value: Option<&str>) -> Option<Option<u32>>
 
 /// The ticks from one to another, where that is later.
 fn between(from: u32, to: Option<u32>) -> Option<Ticks>
-    requires from { from ≤ 1000000 }
-    requires to { IfSome to (λ tick. tick ≤ 1000000) }
+    requires from { from ≤ most_ticks }
+    requires to { IfSome to (λ tick. tick ≤ most_ticks) }
     ensures same { result ≡ spec.between from to }
     ensures ranges { IfSome result spec.AreTicks }
 {

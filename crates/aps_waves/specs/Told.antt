@@ -1,5 +1,6 @@
 -- What the entries tell that end at one moment.
 use Rattle.std.specs.Prelude.{◌≡◌, ℕ, ◌<◌, List, Bool, true, false, not, ◌&&◌, ◌||◌, nat_eq, nat_lt, slice_index_or, Option, Some, None, if◌then◌else◌}
+use Rattle.aps_model.specs.Limits.{most_partitions}
 use Rattle.aps_model.specs.declared.entry.End.{End}
 use Rattle.aps_model.specs.declared.entry.End.TheVariants.{Horizon, Limit, Reboot}
 use Rattle.aps_model.specs.declared.entry.Entry.{Entry}
@@ -22,7 +23,7 @@ abbrev pub demand_after : Run → Entry → Bool → ℕ → Bool
 demand_after run e before p = if has_pick run e then had_candidate (state_of run) run.entries e.cpu p else before
 
 abbrev pub IsNoted : Run → Entry → List Bool → List Bool → Type 0
-IsNoted run e before after = (p : ℕ) → p < 32 → slice_index_or after p false ≡ demand_after run e (slice_index_or before p false) p
+IsNoted run e before after = (p : ℕ) → p < most_partitions → slice_index_or after p false ≡ demand_after run e (slice_index_or before p false) p
 
 -- partition q is the one, or was one before
 abbrev pub is_one_more : ℕ → Bool → ℕ → Bool

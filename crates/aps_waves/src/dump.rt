@@ -5,7 +5,7 @@ ghost use Rattle.aps_model.specs.Legal.{IsLegal};
 ghost use Rattle.aps_core.specs.Turn.{with_entry};
 ghost use Rattle.aps_samples.specs.Retraced.{start_of};
 ghost use Rattle.aps_waves.specs.Retraced.{IsAt, order_of, scenario_of};
-ghost use Rattle.aps_model.specs.Limits.{most_entries};
+ghost use Rattle.aps_model.specs.Limits.{most_entries, most_partitions};
 
 use crate::changes::{add_all, add_changes, is_other};
 use crate::moments::add_values;
@@ -63,7 +63,7 @@ impl Dump {
         requires begins { self.old.at.core.entries ≡ [] }
         requires legal { IsLegal (scenario_of self.old.at) (order_of self.old.at) entries.now }
         requires few { length entries.now ≤ self.old.at.core.setup.limit }
-        requires few_rows { length rows.now ≤ 32 }
+        requires few_rows { length rows.now ≤ most_partitions }
         ensures at { OnOk result (IsAt self.new.at) }
         ensures fault { IsErrOf result TraceFault.WriteFault → Rose (K.faults sink.old) (K.faults sink.new) }
         ensures later { K.faults sink.old ≤ K.faults sink.new }
@@ -85,7 +85,7 @@ impl Dump {
         moment: Nanos,
     ) -> Result<(), TraceFault>
         requires at { IsAt self.old.at }
-        requires few_rows { length rows.now ≤ 32 }
+        requires few_rows { length rows.now ≤ most_partitions }
         ensures at { OnOk result (self.new.at ≡ self.old.at) }
         ensures fault { IsErrOf result TraceFault.WriteFault → Rose (K.faults sink.old) (K.faults sink.new) }
         ensures later { K.faults sink.old ≤ K.faults sink.new }
@@ -133,7 +133,7 @@ impl Dump {
         is_last: bool,
     ) -> Result<(), NoMemory>
         requires at { IsAt self.old.at }
-        requires few_rows { length rows.now ≤ 32 }
+        requires few_rows { length rows.now ≤ most_partitions }
         ensures { OnOk result (self.new.at ≡ self.old.at) }
     {
         let moment = self.at.moment;
@@ -151,7 +151,7 @@ impl Dump {
     /// The values that stand now, for so many partitions. Another moment begins.
     fn stand(&mut self, count: usize) -> Result<(), NoMemory>
         requires at { IsAt self.old.at }
-        requires few { count ≤ 32 }
+        requires few { count ≤ most_partitions }
         ensures at { OnOk result (self.new.at ≡ self.old.at) }
         ensures before { OnOk result (self.new.before ≡ self.old.before) }
     {

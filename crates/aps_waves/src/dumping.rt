@@ -3,7 +3,7 @@ ghost use Rattle.std.specs.Prelude.{◌≡◌, ◌≤◌, [], IsErrOf, length};
 ghost use Rattle.aps_io.specs.Causes.{Rose};
 ghost use Rattle.aps_model.specs.Legal.{IsLegal};
 ghost use Rattle.aps_waves.specs.Retraced.{IsAt, order_of, scenario_of};
-ghost use Rattle.aps_model.specs.Limits.{most_entries};
+ghost use Rattle.aps_model.specs.Limits.{most_entries, most_partitions};
 
 use crate::dump::Dump;
 use crate::signals::add_head;
@@ -58,7 +58,7 @@ fn write_dump<K: Sink>(
     requires begins { dump.old.at.core.entries ≡ [] }
     requires legal { IsLegal (scenario_of dump.old.at) (order_of dump.old.at) history.now.entries }
     requires few { length history.now.entries ≤ dump.old.at.core.setup.limit }
-    requires few_rows { length rows.now ≤ 32 }
+    requires few_rows { length rows.now ≤ most_partitions }
     ensures fault { IsErrOf result TraceFault.WriteFault → Rose (K.faults sink.old) (K.faults sink.new) }
     ensures later { K.faults sink.old ≤ K.faults sink.new }
 {

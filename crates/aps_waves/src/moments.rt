@@ -7,7 +7,7 @@ ghost use Rattle.aps_laws.specs.Moments.{moment};
 ghost use Rattle.aps_core.specs.Run.{state_of};
 ghost use Rattle.aps_waves.specs.Moment as spec;
 ghost use Rattle.aps_waves.specs.Usages.{IsUpTo};
-ghost use Rattle.aps_model.specs.Limits.{most_critical};
+ghost use Rattle.aps_model.specs.Limits.{most_cpus, most_critical, most_partitions, most_threads};
 
 use crate::kind::Kind;
 use crate::told::Told;
@@ -27,7 +27,7 @@ pub fn add_values(
     count: usize,
 ) -> Result<(), NoMemory>
     requires up { IsUpTo core.now usages.now }
-    requires few { count ≤ 32 }
+    requires few { count ≤ most_partitions }
     ensures { OnOk result (values.new.items ≡ values.old.items ++ spec.moment_values core.now told.now count) }
 {
     add_processors(values, core, cpus_of(core))?;
@@ -38,7 +38,7 @@ pub fn add_values(
 /// How many processors there are.
 fn cpus_of(core: &Core) -> usize
     ensures same { result ≡ core.now.setup.scenario.shape.cpus }
-    ensures few { result ≤ 16 }
+    ensures few { result ≤ most_cpus }
 {
     usize::from(core.history().scenario().shape().cpus)
 }
@@ -46,14 +46,14 @@ fn cpus_of(core: &Core) -> usize
 /// How many threads there are.
 fn threads_of(core: &Core) -> usize
     ensures same { result ≡ length core.now.setup.scenario.threads }
-    ensures few { result ≤ 1024 }
+    ensures few { result ≤ most_threads }
 {
     core.history().scenario().threads().len()
 }
 
 /// The values of so many processors.
 fn add_processors(values: &mut Vec<Value>, core: &Core, count: usize) -> Result<(), NoMemory>
-    requires { count ≤ 16 }
+    requires { count ≤ most_cpus }
     ensures { OnOk result (values.new.items ≡ values.old.items ++ flat_map (spec.cpu_values (state_of core.now)) (range_with_len 0 count)) }
 {
     for c in 0..count {
@@ -63,7 +63,7 @@ fn add_processors(values: &mut Vec<Value>, core: &Core, count: usize) -> Result<
 }
 
 fn add_processor(values: &mut Vec<Value>, core: &Core, c: usize) -> Result<(), NoMemory>
-    requires { c < 16 }
+    requires { c < most_cpus }
     ensures { OnOk result (values.new.items ≡ values.old.items ++ spec.cpu_values (state_of core.now) c) }
 {
     let cpu = core.cpu(CpuId::at(c));
@@ -114,7 +114,7 @@ fn add_partitions(
     count: usize,
 ) -> Result<(), NoMemory>
     requires up { IsUpTo core.now usages.now }
-    requires few { count ≤ 32 }
+    requires few { count ≤ most_partitions }
     ensures { OnOk result (values.new.items
         ≡ values.old.items ++ flat_map (spec.partition_values core.now told.now) (range_with_len 0 count)) }
 {
@@ -133,7 +133,7 @@ fn add_told(
     p: usize,
 ) -> Result<(), NoMemory>
     requires up { IsUpTo core.now usages.now }
-    requires small { p < 32 }
+    requires small { p < most_partitions }
     ensures { OnOk result (values.new.items ≡ values.old.items ++ spec.partition_values core.now told.now p) }
 {
     add_part(values, core, usages, PartitionId::at(p))?;
@@ -202,7 +202,7 @@ fn add_none(values: &mut Vec<Value>) -> Result<(), NoMemory>
 
 /// The values of so many threads.
 fn add_threads(values: &mut Vec<Value>, core: &Core, count: usize) -> Result<(), NoMemory>
-    requires { count ≤ 1024 }
+    requires { count ≤ most_threads }
     ensures { OnOk result (values.new.items
         ≡ values.old.items ++ flat_map (spec.thread_values (state_of core.now)) (range_with_len 0 count)) }
 {
@@ -213,7 +213,7 @@ fn add_threads(values: &mut Vec<Value>, core: &Core, count: usize) -> Result<(),
 }
 
 fn add_thread(values: &mut Vec<Value>, core: &Core, x: usize) -> Result<(), NoMemory>
-    requires { x < 1024 }
+    requires { x < most_threads }
     ensures { OnOk result (values.new.items ≡ values.old.items ++ spec.thread_values (state_of core.now) x) }
 {
     let thread = core.thread(ThreadId::at(x));

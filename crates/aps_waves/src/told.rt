@@ -1,6 +1,7 @@
 //! What the entries tell that end at one moment.
 ghost use Rattle.std.specs.Prelude.{◌≡◌, ℕ, ◌<◌, ◌||◌, length, slice_index_or, false};
 ghost use Rattle.aps_model.specs.Budget.{no_part};
+ghost use Rattle.aps_model.specs.Limits.{most_partitions};
 ghost use Rattle.aps_core.specs.Run.{state_of};
 ghost use Rattle.aps_samples.specs.Picks.{bills, had_candidate};
 ghost use Rattle.aps_waves.specs.Told as spec;
@@ -41,7 +42,7 @@ impl Told {
     pub fn note_overspent(&mut self, p: PartitionId)
         ensures demand { self.new.demand ≡ self.old.demand }
         ensures overspent { (q : ℕ)
-            → q < 32
+            → q < most_partitions
             → slice_index_or self.new.overspent q false ≡ spec.is_one_more p (slice_index_or self.old.overspent q false) q }
     {
         self.overspent[p.index()] = true;
@@ -50,7 +51,7 @@ impl Told {
     /// Another moment: no entry of it made a partition bankrupt yet.
     pub fn begin_moment(&mut self)
         ensures demand { self.new.demand ≡ self.old.demand }
-        ensures overspent { (q : ℕ) → q < 32 → slice_index_or self.new.overspent q false ≡ false }
+        ensures overspent { (q : ℕ) → q < most_partitions → slice_index_or self.new.overspent q false ≡ false }
     {
         self.overspent = [false; MOST_PARTITIONS];
     }
@@ -69,7 +70,7 @@ fn has_pick(core: &Core, e: &Entry) -> bool
 /// those that still have one.
 fn demand(core: &Core, c: CpuId) -> [bool; 32]
     requires { 0 < length core.now.entries }
-    ensures { (p : ℕ) → p < 32 → slice_index_or result p false ≡ had_candidate (state_of core.now) core.now.entries c p }
+    ensures { (p : ℕ) → p < most_partitions → slice_index_or result p false ≡ had_candidate (state_of core.now) core.now.entries c p }
 {
     let count = core.history().rows().len();
     let mut parts = [no_part(); MOST_PARTITIONS];
@@ -80,7 +81,7 @@ fn demand(core: &Core, c: CpuId) -> [bool; 32]
 
 /// These partitions, and the one that the pick bills.
 fn with_billed(pick: &Option<Pick>, ready: &[bool; 32]) -> [bool; 32]
-    ensures { (p : ℕ) → p < 32 → slice_index_or result p false ≡ (bills pick.now p || slice_index_or ready.now p false) }
+    ensures { (p : ℕ) → p < most_partitions → slice_index_or result p false ≡ (bills pick.now p || slice_index_or ready.now p false) }
 {
     let mut all = *ready;
     if let Some(pick) = pick {

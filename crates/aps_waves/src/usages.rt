@@ -8,7 +8,7 @@ ghost use Rattle.aps_window.specs.Window.{advanced, opened, resized};
 ghost use Rattle.aps_core.specs.Run.{state_of};
 ghost use Rattle.aps_shares.specs.CriticalTime.{GoesOnBy, HasRoom};
 ghost use Rattle.aps_waves.specs.Usages.{IsCounted, IsUpTo};
-ghost use Rattle.aps_model.specs.Limits.{most_critical};
+ghost use Rattle.aps_model.specs.Limits.{longest_window, most_critical};
 
 use aps_core::Core;
 use aps_model::{Entry, Nanos, NoMemory, PartitionId};
@@ -26,7 +26,7 @@ impl Usages {
     /// Nothing billed; the last `span` ticks count, 8 to 400. `NoMemory` comes where memory runs out.
     pub fn new(alloc: Global, span: u16) -> Result<Usages, NoMemory>
         requires least { 8 ≤ span }
-        requires most { span ≤ 400 }
+        requires most { span ≤ longest_window }
         ensures { IfOk result (λ usages. usages ≡ record { window = opened span; span = span }) }
     {
         let window = Window::new(alloc, span)?;
@@ -78,7 +78,7 @@ impl Usages {
 fn fit(window: &mut Window, before: u16, span: u16)
     requires before { window.old.span ≡ before }
     requires least { 8 ≤ span }
-    requires most { span ≤ 400 }
+    requires most { span ≤ longest_window }
     ensures { window.new ≡ resized span window.old }
 {
     if span != before {

@@ -2,6 +2,7 @@
 use Rattle.std.specs.Prelude.{ℕ, ◌+◌, ◌≤◌, List, ◌∷◌, Bool, length, take, replicate, slice_index_or, slice_set, zero, suc, if◌then◌else◌}
 use Rattle.std.specs.List.{sum_by}
 use Rattle.aps_window.specs.declared.slot.Slot.{Slot}
+use Rattle.aps_model.specs.Limits.{longest_window}
 
 -- a tick with no bill
 abbrev pub no_slot : Slot
@@ -9,7 +10,7 @@ no_slot = record { billed = 0; critical = 0 }
 
 -- the slots of a partition with no bills
 unfoldable pub no_slots : List Slot
-no_slots = replicate 400 no_slot
+no_slots = replicate longest_window no_slot
 
 -- what the tick so many ticks ago was billed
 abbrev pub slot_at : List Slot → ℕ → Slot

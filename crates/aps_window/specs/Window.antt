@@ -2,6 +2,7 @@
 use Rattle.std.specs.Prelude.{ℕ, ◌+◌, ◌-◌, List, [], Bool, map, replicate, slice_index_or, slice_set, zero, suc}
 use Rattle.aps_window.specs.declared.slot.Slot.{Slot}
 use Rattle.aps_window.specs.Slots.{no_slots, slot_at, slots_billed, slots_rotated, slots_total}
+use Rattle.aps_model.specs.Limits.{most_partitions}
 
 -- the current tick, how many ticks count, and the slots of each partition, the current tick first
 pub record Window : Type 0 where
@@ -23,7 +24,7 @@ total_of window p = slots_total window.span (slots_of window p)
 
 -- the window at tick 0, with no bills
 abbrev pub opened : ℕ → Window
-opened span = record { tick = 0; span = span; slots = replicate 32 no_slots }
+opened span = record { tick = 0; span = span; slots = replicate most_partitions no_slots }
 
 -- the window with a bill more
 abbrev pub billed : Window → ℕ → ℕ → ℕ → Bool → Window

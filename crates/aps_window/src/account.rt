@@ -4,14 +4,16 @@ ghost use Rattle.std.specs.List.{All};
 ghost use Rattle.circular_buffer.specs.Buffer.{buffer};
 ghost use Rattle.aps_window.specs.Slots.{no_slot, no_slots, slot_at, slots_billed, slots_total, IsSlot};
 ghost use Rattle.aps_window.specs.Account.{IsAccount, account_of, account_moved, account_resized};
+ghost use Rattle.aps_model.specs.Limits.{longest_window};
 
 use crate::slot::Slot;
 use aps_model::NoMemory;
+use aps_model::limits::LONGEST_WINDOW;
 use circular_buffer::HeapCircularBuffer;
 use std::alloc::Global;
 
 /// How many ticks back a bill is kept.
-pub const SLOTS: usize = 400;
+pub const SLOTS: usize = LONGEST_WINDOW;
 
 /// A partition's slots, that of the current tick first, and the total of those that count.
 #[derive(Drop)]
@@ -22,7 +24,7 @@ pub struct Account {
 
 /// 400 slots with no bill.
 fn empty_ring(alloc: Global) -> Result<HeapCircularBuffer<Slot>, NoMemory>
-    ensures { IfOk result (λ ring. ring ≡ buffer (replicate 400 no_slot) 400) }
+    ensures { IfOk result (λ ring. ring ≡ buffer (replicate longest_window no_slot) longest_window) }
 {
     let mut ring = HeapCircularBuffer::with_capacity(alloc, SLOTS)?;
     for count in 0..SLOTS {
@@ -46,7 +48,7 @@ fn bill_slot(ring: &mut HeapCircularBuffer<Slot>, age: usize, ns: u64, critical:
 impl Account {
     /// An account with no bill.
     pub fn new(alloc: Global) -> Result<Account, NoMemory>
-        ensures { IfOk result (λ account. account ≡ record { ring = buffer no_slots 400; total = no_slot }) }
+        ensures { IfOk result (λ account. account ≡ record { ring = buffer no_slots longest_window; total = no_slot }) }
     {
         Ok(Account {
             ring: empty_ring(alloc)?,
@@ -68,8 +70,8 @@ impl Account {
     /// Bills so many ns in the tick so many ticks ago. The total has them only where that tick counts.
     pub fn bill(&mut self, age: usize, ns: u64, critical: bool, span: usize)
         requires account { IsAccount span self.old }
-        requires kept { age < 400 }
-        requires span { span ≤ 400 }
+        requires kept { age < longest_window }
+        requires span { span ≤ longest_window }
         requires fits { (slot_at self.old.ring.items age).billed + ns ≤ 160000000 }
         ensures { self.new ≡ account_of span (slots_billed self.old.ring.items age ns critical) }
     {
@@ -83,7 +85,7 @@ impl Account {
     fn rotate(&mut self, span: usize)
         requires account { IsAccount span self.old }
         requires some { 0 < span }
-        requires span { span ≤ 400 }
+        requires span { span ≤ longest_window }
         ensures { self.new ≡ account_moved 1 span self.old }
     {
         let leaving = self.slot(span - 1);
@@ -96,7 +98,7 @@ impl Account {
     pub fn advance(&mut self, ticks: usize, span: usize)
         requires account { IsAccount span self.old }
         requires some { 0 < span }
-        requires span { span ≤ 400 }
+        requires span { span ≤ longest_window }
         ensures { self.new ≡ account_moved ticks span self.old }
     {
         for count in 0..ticks {
@@ -106,10 +108,10 @@ impl Account {
 
     /// Counts this number of slots, by a sum afresh.
     pub fn resize(&mut self, span: usize)
-        requires capacity { self.old.ring.capacity ≡ 400 }
-        requires full { length self.old.ring.items ≡ 400 }
+        requires capacity { self.old.ring.capacity ≡ longest_window }
+        requires full { length self.old.ring.items ≡ longest_window }
         requires small { All IsSlot self.old.ring.items }
-        requires span { span ≤ 400 }
+        requires span { span ≤ longest_window }
         ensures { self.new ≡ account_resized span self.old }
     {
         let mut total = Slot::EMPTY;

@@ -3,14 +3,13 @@ ghost use Rattle.std.specs.Prelude.{◌≡◌, ℕ, ◌+◌, ◌-◌, ◌<◌, �
 ghost use Rattle.aps_window.specs.Bills.{Bill, bills_used, bills_critical};
 ghost use Rattle.aps_window.specs.StandsFor.{StandsFor};
 ghost use Rattle.aps_window.specs.Window.{advanced, billed, billed_on, opened, resized, rotated, total_of};
+ghost use Rattle.aps_model.specs.Limits.{longest_window, most_critical};
 
 use crate::account::{Account, SLOTS};
+use aps_model::limits::MOST_PARTITIONS;
 use aps_model::{NoMemory, PartitionId};
 use std::alloc::Global;
 use std::marker::Model;
-
-/// The most partitions.
-const PARTITIONS: usize = 32;
 
 /// What each of 32 partitions was billed in each of the last 400 ticks, and the sums of the last `span` of them.
 /// Contracts see the current tick, the span and the slots, and say what each call does to every list of bills that these
@@ -52,12 +51,12 @@ impl Window {
     /// is no room for 400 slots of each partition.
     pub fn new(alloc: Global, window: u16) -> Result<Window, NoMemory>
         requires least { 8 ≤ window }
-        requires most { window ≤ 400 }
+        requires most { window ≤ longest_window }
         ensures same { IfOk result (λ w. w ≡ opened window) }
         ensures stands { IfOk result (λ w. StandsFor w []) }
     {
-        let mut accounts = Vec::with_capacity(alloc, PARTITIONS)?;
-        for count in 0..PARTITIONS {
+        let mut accounts = Vec::with_capacity(alloc, MOST_PARTITIONS)?;
+        for count in 0..MOST_PARTITIONS {
             accounts.push(Account::new(alloc)?)?;
         }
         Ok(Window {
@@ -92,7 +91,7 @@ impl Window {
     /// the partition in that tick, this one included, sum to at most 160,000,000 ns.
     pub fn bill_at(&mut self, p: PartitionId, tick: u32, ns: u64, critical: bool)
         requires past { tick ≤ self.old.tick }
-        requires kept { self.old.tick < tick + 400 }
+        requires kept { self.old.tick < tick + longest_window }
         requires fits { billed_on self.old p tick + ns ≤ 160000000 }
         ensures same { self.new ≡ billed self.old p tick ns critical }
         ensures stands { (bills : List Bill) → StandsFor self.old bills
@@ -133,7 +132,7 @@ impl Window {
     /// From now on the last `window` ticks count, 8 to 400. Bills up to 400 ticks back count again where it grows.
     pub fn resize(&mut self, window: u16)
         requires least { 8 ≤ window }
-        requires most { window ≤ 400 }
+        requires most { window ≤ longest_window }
         ensures same { self.new ≡ resized window self.old }
         ensures stands { (bills : List Bill) → StandsFor self.old bills → StandsFor self.new bills }
     {
@@ -150,7 +149,7 @@ impl Window {
         ensures same { result ≡ (total_of self.now p).billed }
         ensures stands { (bills : List Bill) → StandsFor self.now bills
             → result ≡ bills_used bills p (self.now.tick + 1 - self.now.span) (self.now.tick + 1) }
-        ensures small { result ≤ 64000000000 }
+        ensures small { result ≤ most_critical }
     {
         self.accounts[p.index()].total.billed
     }

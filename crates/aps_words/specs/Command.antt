@@ -7,7 +7,7 @@ use Rattle.aps_words.specs.declared.command.WordsRefusal.{WordsRefusal}
 use Rattle.aps_words.specs.declared.command.WordsRefusal.TheVariants as refusal
 use Rattle.aps_words.specs.Options.{Text, value_of, options}
 use Rattle.aps_words.specs.Values.{report_of, order_of, limit_of, required_in}
-use Rattle.aps_model.specs.Limits.{most_entries}
+use Rattle.aps_model.specs.Limits.{IsIn, most_cpus, most_entries, most_partitions, most_ticks}
 
 infixl 10 ◌>>=◌
 abbrev pub ◌>>=◌ : {A B : Type 0} → Option A → (A → Option B) → Option B
@@ -85,10 +85,10 @@ Says (Err refusal.NoMemory) meant = ⊤
 
 -- the numbers of a command have their ranges
 abbrev pub HasRanges : Command → Type 0
-HasRanges (Solo report limit) = (1 ≤ limit) × (limit ≤ most_entries)
-HasRanges (Run order report limit) = (1 ≤ limit) × (limit ≤ most_entries)
+HasRanges (Solo report limit) = IsIn 1 most_entries limit
+HasRanges (Run order report limit) = IsIn 1 most_entries limit
 HasRanges (Gen seed cpus partitions ticks) =
-    (1 ≤ cpus) × (cpus ≤ 16) × (1 ≤ partitions) × (partitions ≤ 32) × (1 ≤ ticks) × (ticks ≤ 1000000)
-HasRanges (Check order limit) = (1 ≤ limit) × (limit ≤ most_entries)
+    (1 ≤ cpus) × (cpus ≤ most_cpus) × (1 ≤ partitions) × (partitions ≤ most_partitions) × (1 ≤ ticks) × (ticks ≤ most_ticks)
+HasRanges (Check order limit) = IsIn 1 most_entries limit
 HasRanges Upgrade = ⊤
 HasRanges Admit = ⊤

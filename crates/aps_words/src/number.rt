@@ -1,7 +1,8 @@
 //! Numbers as words.
-ghost use Rattle.std.specs.Prelude.{◌≡◌, ◌≤◌, IfSome};
+ghost use Rattle.std.specs.Prelude.{◌≡◌, IfSome};
 ghost use Rattle.std.specs.List.{list_all};
 ghost use Rattle.std.specs.Char.{is_ascii_digit};
+ghost use Rattle.aps_model.specs.Limits.{IsIn};
 ghost use Rattle.aps_words.specs.Number as spec;
 
 /// Whether these are decimal digits, without a sign, and without a leading zero unless it is `0`.
@@ -26,7 +27,7 @@ fn are_digits(bytes: &[u8]) -> bool
 /// The number that the word is, where it is one in this range.
 pub fn number_in(low: u64, high: u64, word: &str) -> Option<u64>
     ensures same { result ≡ spec.number_in low high word.now }
-    ensures range { IfSome result (λ n. (low ≤ n) × (n ≤ high)) }
+    ensures range { IfSome result (IsIn low high) }
 {
     if !is_numeral(word.as_bytes()) {
         return None;

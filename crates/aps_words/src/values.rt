@@ -1,7 +1,7 @@
 //! What the values of the options say.
-ghost use Rattle.std.specs.Prelude.{◌≡◌, ◌≤◌, IfSome, option_map};
+ghost use Rattle.std.specs.Prelude.{◌≡◌, IfSome, option_map};
 ghost use Rattle.aps_words.specs.Values as spec;
-ghost use Rattle.aps_model.specs.Limits.{most_entries};
+ghost use Rattle.aps_model.specs.Limits.{IsIn, most_entries};
 
 use crate::command::Report;
 use crate::number::number_in;
@@ -37,7 +37,7 @@ pub fn order_of(value: Option<&str>) -> Option<Order>
 /// The limit that the value is, 1 to 4,000,000, or 1,000,000 where there is no value.
 pub fn limit_of(value: Option<&str>) -> Option<u32>
     ensures same { result ≡ spec.limit_of (option_map (λ text. text.now) value.entry) }
-    ensures range { IfSome result (λ limit. (1 ≤ limit) × (limit ≤ most_entries)) }
+    ensures range { IfSome result (IsIn 1 most_entries) }
 {
     match value {
         None => Some(USUAL_LIMIT),
@@ -48,7 +48,7 @@ pub fn limit_of(value: Option<&str>) -> Option<u32>
 /// The number that the value is, if it is there and in this range.
 pub fn required_in(low: u64, high: u64, value: Option<&str>) -> Option<u64>
     ensures same { result ≡ spec.required_in low high (option_map (λ text. text.now) value.entry) }
-    ensures range { IfSome result (λ n. (low ≤ n) × (n ≤ high)) }
+    ensures range { IfSome result (IsIn low high) }
 {
     number_in(low, high, value?)
 }

@@ -1,4 +1,5 @@
 ghost use Rattle.std.specs.Prelude.{◌≡◌, ℕ, ◌<◌, ◌≤◌, length, slice_index_or, IfOk, IfSome, IfNone, IsTrue, false, nat_eq, ◌&&◌, ◌||◌};
+ghost use Rattle.aps_model.specs.Limits.{most_partitions};
 ghost use Rattle.aps_model.specs.Pick.{contender_of, contenders, is_ready};
 ghost use Rattle.aps_model.specs.SchedulerState.{thread_at};
 ghost use Rattle.aps_core.specs.Counts.{parts_in};
@@ -17,7 +18,7 @@ impl Machine {
     pub fn stand(&self, window: &Window, parts: &mut [PartFacts])
         requires one_each { length parts.old ≡ length self.now.rows }
         ensures same { parts.new ≡ parts_in self.now.shape self.now.rows window.now }
-        ensures few { length self.now.rows ≤ 32 }
+        ensures few { length self.now.rows ≤ most_partitions }
     {
         usage::fill_parts(&self.shape, self.tree.rows(), window, parts);
     }
@@ -43,7 +44,7 @@ impl Machine {
     )
         requires { is_any ≡ false → DoOthersStand billed.now self.now.shape self.now.rows window.now standing.old }
         ensures same { standing.new ≡ parts_in self.now.shape self.now.rows window.now }
-        ensures few { length self.now.rows ≤ 32 }
+        ensures few { length self.now.rows ≤ most_partitions }
     {
         let rows = self.tree.rows();
         if is_any {
@@ -55,7 +56,7 @@ impl Machine {
 
     /// Which partitions have a candidate among the threads that are ready, where they stand so.
     pub fn candidates(&self, parts: &[PartFacts]) -> [bool; 32]
-        ensures { (p : ℕ) → p < 32 → slice_index_or result p false ≡ has_candidate parts.now p (contenders self.now) }
+        ensures { (p : ℕ) → p < most_partitions → slice_index_or result p false ≡ has_candidate parts.now p (contenders self.now) }
     {
         let mut found = [false; 32];
         for x in 0..self.count() {
@@ -86,7 +87,7 @@ impl Machine {
 
 /// The partition is marked, if this holds. Each other mark stays.
 fn mark(found: &mut [bool; 32], p: PartitionId, holds: bool)
-    ensures { (k : ℕ) → k < 32 → slice_index_or found.new k false ≡ (slice_index_or found.old k false || (holds && nat_eq p k)) }
+    ensures { (k : ℕ) → k < most_partitions → slice_index_or found.new k false ≡ (slice_index_or found.old k false || (holds && nat_eq p k)) }
 {
     if holds {
         found[p.index()] = true;

@@ -1,5 +1,6 @@
 ghost use Rattle.std.specs.Prelude.{◌≡◌, ◌≤◌, ◌++◌, ◌∷◌, [], ◌/◌, length};
 ghost use Rattle.aps_model.specs.Bill.{bankrupt, cancel};
+ghost use Rattle.aps_model.specs.Limits.{most_ticks};
 ghost use Rattle.aps_model.specs.SchedulerState.{row_at};
 ghost use Rattle.aps_model.specs.Shape.{horizon};
 ghost use Rattle.aps_model.specs.Step.{tested};
@@ -42,7 +43,7 @@ impl Machine {
     /// The partition has no critical budget from this tick on, which is a change where it had one.
     fn cancel(&mut self, tick: u64, p: PartitionId)
         requires few { length (cancel self.old tick p).changes ≤ changes_of_a_run }
-        requires tick { tick ≤ 1000000 }
+        requires tick { tick ≤ most_ticks }
         ensures { self.new ≡ cancel self.old tick p }
     {
         if self.critical_budget(p) == 0 {

@@ -1,5 +1,6 @@
 ghost use Rattle.std.specs.Prelude.{◌≡◌, ℕ, ◌<◌, ◌≤◌, length, None};
 ghost use Rattle.aps_model.specs.Bill.{bill_of};
+ghost use Rattle.aps_model.specs.Limits.{last_moment};
 ghost use Rattle.aps_model.specs.SchedulerState.{cpu_at, thread_at, with_cpu};
 ghost use Rattle.aps_model.specs.Step.{billed};
 
@@ -21,8 +22,8 @@ impl Machine {
     /// The bill: the thread that ran has run so long.
     pub fn bill(&mut self, e: &Entry, running: &Option<Pick>)
         requires forward { e.now.from ≤ e.now.to }
-        requires to { e.now.to ≤ 10000000000000 }
-        requires since { (x : ℕ) → (thread_at self.old x).since ≤ 10000000000000 }
+        requires to { e.now.to ≤ last_moment }
+        requires since { (x : ℕ) → (thread_at self.old x).since ≤ last_moment }
         ensures { self.new ≡ billed self.old e.now running.now }
     {
         if let Some(pick) = running {

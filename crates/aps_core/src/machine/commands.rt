@@ -1,5 +1,6 @@
 ghost use Rattle.std.specs.Prelude.{◌≡◌, ◌≢◌, ℕ, ◌<◌, ◌≤◌, length, false};
 ghost use Rattle.std.specs.Option.{option_map};
+ghost use Rattle.aps_model.specs.Limits.{most_commands, most_ticks};
 ghost use Rattle.aps_model.specs.TickWork.{do_command, thread_named, thread_view, view_of, with_mark};
 ghost use Rattle.aps_ctl.specs.Pending.{all_at};
 ghost use Rattle.aps_core.specs.Calls.{AreInRange, IsInRange, all_done, command_at};
@@ -87,9 +88,9 @@ impl Machine {
         call: &Call,
     )
         requires counts { Counts self.old.shape entries.now tick window.old }
-        requires tick { tick ≤ 1000000 }
+        requires tick { tick ≤ most_ticks }
         requires call { IsInRange call.now }
-        requires replies { length self.old.replies < 1024 }
+        requires replies { length self.old.replies < most_commands }
         requires changes { length (do_command entries.now tick self.old (command_at tick place call.now)).changes ≤ changes_of_a_run }
         ensures same { self.new ≡ do_command entries.now tick self.old (command_at tick place call.now) }
         ensures counts { Counts self.new.shape entries.now tick window.new }
@@ -121,9 +122,9 @@ impl Machine {
         tick: u64,
     ) -> bool
         requires counts { Counts self.old.shape entries.now tick window.old }
-        requires tick { tick ≤ 1000000 }
+        requires tick { tick ≤ most_ticks }
         requires calls { AreInRange (all_at tick ctl.old) }
-        requires replies { length (all_done entries.now tick self.old ctl.old).replies ≤ 1024 }
+        requires replies { length (all_done entries.now tick self.old ctl.old).replies ≤ most_commands }
         requires changes { length (all_done entries.now tick self.old ctl.old).changes ≤ changes_of_a_run }
         ensures same { self.new ≡ all_done entries.now tick self.old ctl.old }
         ensures counts { Counts self.new.shape entries.now tick window.new }

@@ -1,5 +1,6 @@
 ghost use Rattle.std.specs.Prelude.{◌≡◌, ◌<◌, ◌≤◌, ◌^◌, length};
 ghost use Rattle.aps_model.specs.Effect.{effect, joined};
+ghost use Rattle.aps_model.specs.Limits.{last_moment};
 ghost use Rattle.aps_model.specs.Operation.{with_stamped};
 ghost use Rattle.aps_model.specs.Partition.{partition_named};
 ghost use Rattle.aps_model.specs.SchedulerState.{thread_at};
@@ -40,7 +41,7 @@ impl Machine {
 
     /// The effect of the thread's operation, which is over. The answer says what it did.
     pub fn effect(&mut self, scenario: &Scenario, x: ThreadId, now: Nanos, op: &Op) -> Done
-        requires now { now ≤ 10000000000000 }
+        requires now { now ≤ last_moment }
         requires room { HasRoom self.old x }
         requires named { NamesIn (length self.old.channels) op.now }
         ensures { effect scenario.now self.old x now op.now ≡ record { state = self.new; done = result } }

@@ -1,6 +1,7 @@
 ghost use Rattle.std.specs.Prelude.{◌≡◌, ◌<◌, ◌≤◌, if◌then◌else◌, length, slice_index, IfSome, Some};
 ghost use Rattle.aps_model.specs.Flag.{flag_for, with_flag};
 ghost use Rattle.aps_model.specs.Budget.{part_at};
+ghost use Rattle.aps_model.specs.Limits.{greatest_priority, most_cpus};
 ghost use Rattle.aps_model.specs.Pick.{contenders, greatest, merit_among};
 ghost use Rattle.aps_ready.specs.Gates.{AreGates, is_first};
 ghost use Rattle.aps_core.specs.Classes.{AreClasses};
@@ -13,11 +14,9 @@ use super::Machine;
 use crate::classes::Classes;
 use crate::dues::Dues;
 use crate::posts::Posts;
+use aps_model::limits::MOST_CPUS;
 use aps_model::{Contender, CpuId, CpuNow, Entry, Facts, Free, Nanos, PartFacts};
 use aps_ready::{Gates, Ready};
-
-/// The most processors.
-const CPUS: usize = 16;
 
 /// Half of them.
 const HALF: usize = 8;
@@ -54,7 +53,7 @@ impl Machine {
         requires dues { AreOthersDues self.now entries.now c dues.now }
         requires spare { AreSpare self.now dues.now }
         requires own { slice_index dues.now c ≤ now }
-        requires d { d < 16 }
+        requires d { d < most_cpus }
         ensures key { d < length self.now.cpus → IsKey (ranked_at self.now entries.now parts.now c now d) d result }
         ensures rank { d < length self.now.cpus → IsRank (ranked_at self.now entries.now parts.now c now d) }
         ensures past { length self.now.cpus ≤ d → 16000 ≤ result }
@@ -85,7 +84,7 @@ impl Machine {
         requires spare { AreSpare self.now dues.now }
         requires own { slice_index dues.now c ≤ now }
         requires forward { from ≤ to }
-        requires few { to ≤ 16 }
+        requires few { to ≤ most_cpus }
         requires so_far { IsLeastOf self.now entries.now parts.now c now from least }
         ensures { IsLeastOf self.now entries.now parts.now c now to result }
     {
@@ -117,7 +116,7 @@ impl Machine {
         requires spare { AreSpare self.now dues.now }
         requires own { slice_index dues.now c ≤ now }
         ensures least { IsLeast (lowest self.now entries.now parts.now c now self.now.shape.cpus) self.now.shape.cpus result }
-        ensures few { self.now.shape.cpus ≤ 16 }
+        ensures few { self.now.shape.cpus ≤ most_cpus }
         ensures count { length self.now.cpus ≡ self.now.shape.cpus }
     {
         let near = self.least_among(
@@ -127,7 +126,7 @@ impl Machine {
             return near;
         }
         self.least_among(
-            entries, dues, parts, posts, classes, c, now, near, HALF, CPUS,
+            entries, dues, parts, posts, classes, c, now, near, HALF, MOST_CPUS,
         )
     }
 
@@ -229,7 +228,7 @@ fn past_if(holds: bool) -> u16
 #[inline(always)]
 fn height_of(first: bool, priority: u8) -> u16
     ensures same { result ≡ height_of first priority }
-    ensures few { priority ≤ 255 }
+    ensures few { priority ≤ greatest_priority }
 {
     let base = if first { 257 } else { 1 };
     base + u16::from(priority)
@@ -240,7 +239,7 @@ fn height_of(first: bool, priority: u8) -> u16
 fn limit_for(free: Free, facts: &Facts, parts: &[PartFacts], classes: Classes) -> u16
     requires { AreClasses parts.now classes }
     ensures same { result ≡ limit free (is_first (part_at parts.now facts.now.partition) facts.now.critical) facts.now.priority }
-    ensures few { facts.now.priority ≤ 255 }
+    ensures few { facts.now.priority ≤ greatest_priority }
 {
     let first = classes.is_first(facts.partition, facts.critical);
     limit_of(free, first, facts.priority)
@@ -250,7 +249,7 @@ fn limit_for(free: Free, facts: &Facts, parts: &[PartFacts], classes: Classes) -
 #[inline(always)]
 fn limit_of(free: Free, first: bool, priority: u8) -> u16
     ensures same { result ≡ limit free first priority }
-    ensures few { priority ≤ 255 }
+    ensures few { priority ≤ greatest_priority }
 {
     match free {
         Free::Priority => height_of(first, priority),

@@ -1,5 +1,6 @@
 ghost use Rattle.std.specs.Prelude.{◌≡◌, ◌<◌, ◌≤◌, length};
 ghost use Rattle.aps_model.specs.Inherit.{client_of};
+ghost use Rattle.aps_model.specs.Limits.{last_moment};
 ghost use Rattle.aps_model.specs.Messages.{received, replied, sent};
 ghost use Rattle.aps_model.specs.SchedulerState.{channel_at};
 ghost use Rattle.aps_core.specs.Conversation.{received_in, replied_in, sent_in, with_channels};
@@ -64,7 +65,7 @@ impl Machine {
     /// sender and goes on; else the message waits, with the priority that the sender has now.
     #[inline(never)]
     pub fn send(&mut self, scenario: &Scenario, x: ThreadId, c: ChannelId, now: Nanos) -> Done
-        requires now { now ≤ 10000000000000 }
+        requires now { now ≤ last_moment }
         requires channel { c < length self.old.channels }
         requires room { HasRoom self.old x }
         ensures { sent scenario.now self.old x c now (channel_at self.old c).receivers ≡ record { state = self.new; done = result } }
@@ -106,7 +107,7 @@ impl Machine {
     /// A reply of the thread, which serves nobody then; the client that it held, if any, goes on.
     #[inline(never)]
     pub fn reply(&mut self, scenario: &Scenario, x: ThreadId, now: Nanos) -> Done
-        requires now { now ≤ 10000000000000 }
+        requires now { now ≤ last_moment }
         requires room { HasRoom self.old x }
         ensures { replied scenario.now self.old x now (client_of self.old.triples x) ≡ record { state = self.new; done = result } }
     {

@@ -1,4 +1,5 @@
 ghost use Rattle.std.specs.Prelude.{◌≡◌, ◌<◌, ◌≤◌, ◌^◌, length, IfSome};
+ghost use Rattle.aps_model.specs.Limits.{last_moment};
 ghost use Rattle.aps_model.specs.SchedulerState.{thread_at};
 ghost use Rattle.aps_model.specs.Step.{do_op, enter_next, finish_op, give_back, settled};
 ghost use Rattle.aps_core.specs.Room.{CanFinish, HasRoom, NamesIn};
@@ -10,7 +11,7 @@ use aps_tasks::{op_at, place_after, policy_of};
 impl Machine {
     /// A thread that still runs enters its next operation.
     fn enter_next(&mut self, scenario: &Scenario, x: ThreadId, now: Nanos, op: &Op)
-        requires now { now ≤ 10000000000000 }
+        requires now { now ≤ last_moment }
         requires place { (thread_at self.old x).place < 65535 }
         ensures { self.new ≡ enter_next scenario.now self.old x now op.now (thread_at self.old x).state }
     {
@@ -25,7 +26,7 @@ impl Machine {
 
     /// The thread does the operation, which is over, and goes on.
     fn do_op(&mut self, scenario: &Scenario, x: ThreadId, now: Nanos, op: &Op) -> Done
-        requires now { now ≤ 10000000000000 }
+        requires now { now ≤ last_moment }
         requires room { HasRoom self.old x }
         requires named { NamesIn (length self.old.channels) op.now }
         ensures { do_op scenario.now self.old x now op.now ≡ record { state = self.new; done = result } }
@@ -37,7 +38,7 @@ impl Machine {
 
     /// The thread's operation has its effect, if nothing is left of it.
     fn finish_op(&mut self, scenario: &Scenario, x: ThreadId, now: Nanos) -> Done
-        requires now { now ≤ 10000000000000 }
+        requires now { now ≤ last_moment }
         requires room { CanFinish scenario.now self.old x }
         ensures { finish_op scenario.now self.old x now (thread_at self.old x).left ≡ record { state = self.new; done = result } }
     {
@@ -66,7 +67,7 @@ impl Machine {
 
     /// What the operation did whose thread ran, if it is over. A thread that still runs goes back to the ready ones.
     pub fn settle(&mut self, scenario: &Scenario, now: Nanos, running: &Option<Pick>) -> Done
-        requires now { now ≤ 10000000000000 }
+        requires now { now ≤ last_moment }
         requires room { IfSome running.now (λ p. CanFinish scenario.now self.old p.thread) }
         ensures { settled scenario.now self.old now running.now ≡ record { state = self.new; done = result } }
     {

@@ -5,13 +5,11 @@ ghost use Rattle.aps_model.specs.SchedulerState.{idle};
 use super::Machine;
 use aps_channel::Channels;
 use aps_inherit::Inherit;
+use aps_model::limits::MOST_COMMANDS;
 use aps_model::{CpuNow, NoMemory, Scenario};
 use aps_tasks::TaskTable;
 use aps_tree::Tree;
 use std::alloc::Global;
-
-/// The most replies of a run: one to each command.
-const MOST_REPLIES: usize = 1024;
 
 /// The most changes of a run: two for each command, and one for each partition but `System`.
 const MOST_CHANGES: usize = 2079;
@@ -35,7 +33,7 @@ impl Machine {
             channels,
             inherit,
             cpus,
-            replies: Vec::with_capacity(alloc, MOST_REPLIES)?,
+            replies: Vec::with_capacity(alloc, MOST_COMMANDS)?,
             changes: Vec::with_capacity(alloc, MOST_CHANGES)?,
         })
     }

@@ -1,5 +1,6 @@
 //! The threads: their tasks, and the values of their own.
 ghost use Rattle.std.specs.Prelude.{◌≡◌, ◌<◌, ◌≤◌, ◌^◌, length};
+ghost use Rattle.aps_model.specs.Limits.{last_moment, most_threads};
 ghost use Rattle.aps_model.specs.Operation.{go_on};
 ghost use Rattle.aps_model.specs.SchedulerState.{thread_at, with_state, with_own};
 ghost use Rattle.aps_tasks.specs.Start.{task_of};
@@ -8,15 +9,12 @@ use super::Machine;
 use aps_model::{Facts, Nanos, PartitionId, Scenario, State, ThreadId};
 use aps_tasks::{Task, op_at};
 
-/// How many threads a scenario has at most.
-pub const MOST_THREADS: usize = 1024;
-
 impl Machine {
     /// How many threads there are.
     #[inline(always)]
     pub fn count(&self) -> usize
         ensures same { result ≡ length self.now.threads }
-        ensures few { result ≤ 1024 }
+        ensures few { result ≤ most_threads }
     {
         self.tasks.len()
     }
@@ -67,7 +65,7 @@ impl Machine {
 
     /// A thread that waited goes on with its next operation.
     pub fn go_on(&mut self, scenario: &Scenario, x: ThreadId, now: Nanos)
-        requires now { now ≤ 10000000000000 }
+        requires now { now ≤ last_moment }
         requires place { (thread_at self.old x).place < 65535 }
         requires stamps { self.old.stamps < 2 ^ 63 }
         ensures { self.new ≡ go_on scenario.now self.old x now }

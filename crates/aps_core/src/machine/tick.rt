@@ -1,6 +1,7 @@
 ghost use Rattle.std.specs.Prelude.{◌≡◌, ◌≢◌, ℕ, ◌/◌, ◌≤◌, ◌++◌, [], ◌∷◌, length, true, false};
 ghost use Rattle.aps_model.specs.declared.entry.Entry.{Entry as EntryOf};
 ghost use Rattle.aps_model.specs.Inherit.{facts_of};
+ghost use Rattle.aps_model.specs.Limits.{last_moment, most_commands, most_ticks};
 ghost use Rattle.aps_model.specs.TickWork.{has_tick_work, tick_work};
 ghost use Rattle.aps_model.specs.Valid.{IsScenario};
 ghost use Rattle.aps_core.specs.Counts.{Counts};
@@ -37,15 +38,15 @@ impl Machine {
     ) -> bool
         requires done { is_later ≡ false → entries.now ≢ [] → has_tick_work self.old entries.now now ≡ false }
         requires tick { tick ≡ now / self.old.shape.tick }
-        requires few { tick ≤ 1000000 }
+        requires few { tick ≤ most_ticks }
         requires valid { IsScenario scenario.now }
         requires pending { IsPending scenario.now self.old.shape.tick entries.now ctl.old }
         requires rising { IsRising entries.now }
         requires counts { Counts self.old.shape entries.now (now / self.old.shape.tick) window.old }
-        requires now { now ≤ 10000000000000 }
+        requires now { now ≤ last_moment }
         requires room { HasRoomToWake last_place stamps_before self.old }
         requires timed { timer.old ≡ sleepers_of self.old }
-        requires replies { length (tick_work scenario.now self.old entries.now now).replies ≤ 1024 }
+        requires replies { length (tick_work scenario.now self.old entries.now now).replies ≤ most_commands }
         requires changes { length (tick_work scenario.now self.old entries.now now).changes ≤ changes_of_a_run }
         ensures same { self.new ≡ tick_work scenario.now self.old entries.now now }
         ensures timed { timer.new ≡ sleepers_of self.new }

@@ -3,6 +3,7 @@ ghost use Rattle.std.specs.Prelude.{nat_eq};
 ghost use Rattle.std.specs.List.{list_any};
 ghost use Rattle.aps_model.specs.declared.entry.Entry.{Entry as EntryOf};
 ghost use Rattle.aps_model.specs.Inherit.{facts_of};
+ghost use Rattle.aps_model.specs.Limits.{last_moment, most_commands, most_threads, most_ticks};
 ghost use Rattle.aps_model.specs.Valid.{IsScenario};
 ghost use Rattle.aps_core.specs.Pending.{IsPending};
 ghost use Rattle.aps_model.specs.TickWork.{has_tick_work, tick_work, wake_all, waking};
@@ -16,9 +17,9 @@ ghost use Rattle.aps_core.specs.Sleepers.{numbers_of, sleepers_of};
 ghost use Rattle.aps_core.specs.Touched.{woke};
 
 use super::Machine;
-use super::threads::MOST_THREADS;
 use crate::due;
 use aps_ctl::Ctl;
+use aps_model::limits::MOST_THREADS;
 use aps_model::{Entry, Nanos, NoMemory, Scenario, ThreadId};
 use aps_timer::Timer;
 use aps_window::Window;
@@ -39,8 +40,9 @@ impl Model for Woken {
     ghost view = { λ w. w.list.items };
 
     ghost use Rattle.std.specs.Prelude.{◌≤◌, vec_capacity};
+    ghost use Rattle.aps_model.specs.Limits.{most_threads};
 
-    ghost invariant = { λ w. 1024 ≤ vec_capacity w.list };
+    ghost invariant = { λ w. most_threads ≤ vec_capacity w.list };
 }
 
 impl Woken {
@@ -62,9 +64,9 @@ impl Woken {
 
     /// The sleepers whose moment has come, in order of moment, then of number: they are taken out of the timer.
     fn take_due(&mut self, timer: &mut Timer, now: Nanos)
-        requires few { length timer.old ≤ 1024 }
+        requires few { length timer.old ≤ most_threads }
         ensures same { self.new ≡ numbers_of (all_due timer.old now) }
-        ensures few { length self.new ≤ 1024 }
+        ensures few { length self.new ≤ most_threads }
         ensures count { length timer.new ≡ length timer.old }
         ensures others { (y : ℕ) → woke self.new y ≡ false → slice_index_or timer.new y None ≡ slice_index_or timer.old y None }
     {
@@ -108,7 +110,7 @@ impl Machine {
     /// The sleepers whose moment has come go on. One whose next operation is a sleep is in the timer again.
     #[inline(never)]
     fn wake_all(&mut self, scenario: &Scenario, now: Nanos, timer: &mut Timer, woken: &mut Woken)
-        requires now { now ≤ 10000000000000 }
+        requires now { now ≤ last_moment }
         requires room { HasRoomToWake last_place stamps_before self.old }
         requires timed { timer.old ≡ sleepers_of self.old }
         ensures same { self.new ≡ wake_all scenario.now now self.old }
@@ -157,15 +159,15 @@ impl Machine {
         tick: u64,
     ) -> bool
         requires tick { tick ≡ now / self.old.shape.tick }
-        requires few { tick ≤ 1000000 }
+        requires few { tick ≤ most_ticks }
         requires valid { IsScenario scenario.now }
         requires pending { IsPending scenario.now self.old.shape.tick entries.now ctl.old }
         requires rising { IsRising entries.now }
         requires counts { Counts self.old.shape entries.now (now / self.old.shape.tick) window.old }
-        requires now { now ≤ 10000000000000 }
+        requires now { now ≤ last_moment }
         requires room { HasRoomToWake last_place stamps_before self.old }
         requires timed { timer.old ≡ sleepers_of self.old }
-        requires replies { length (tick_work scenario.now self.old entries.now now).replies ≤ 1024 }
+        requires replies { length (tick_work scenario.now self.old entries.now now).replies ≤ most_commands }
         requires changes { length (tick_work scenario.now self.old entries.now now).changes ≤ changes_of_a_run }
         ensures same { self.new ≡ tick_work scenario.now self.old entries.now now }
         ensures timed { timer.new ≡ sleepers_of self.new }

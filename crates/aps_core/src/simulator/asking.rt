@@ -1,6 +1,7 @@
 //! How the partitions of a core stand after its entries, and which of them have a candidate.
 ghost use Rattle.std.specs.Prelude.{◌≡◌, ℕ, ◌/◌, ◌<◌, length, slice_index_or, false};
 ghost use Rattle.aps_model.specs.Budget.{all_parts};
+ghost use Rattle.aps_model.specs.Limits.{most_partitions};
 ghost use Rattle.aps_model.specs.Pick.{contenders};
 ghost use Rattle.aps_laws.specs.Moments.{moment};
 ghost use Rattle.aps_core.specs.Run.{state_of};
@@ -24,7 +25,7 @@ impl Core {
     /// Which partitions have a candidate among the threads that are ready after the entries so far, where the partitions
     /// stand so.
     pub fn candidates(&self, parts: &[PartFacts]) -> [bool; 32]
-        ensures { (p : ℕ) → p < 32 → slice_index_or result p false ≡ has_candidate parts.now p (contenders (state_of self.now)) }
+        ensures { (p : ℕ) → p < most_partitions → slice_index_or result p false ≡ has_candidate parts.now p (contenders (state_of self.now)) }
     {
         self.machine.candidates(parts)
     }

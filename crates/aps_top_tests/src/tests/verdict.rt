@@ -1,7 +1,7 @@
 //! Verdicts on the journal of a small generated load, and on other short ones. Spoiled journals are judged beside these, as calls of
 //! the whole program (`aps_worked`).
 ghost use Rattle.std.specs.Prelude.{◌≤◌};
-ghost use Rattle.aps_model.specs.Limits.{most_entries};
+ghost use Rattle.aps_model.specs.Limits.{IsIn, most_entries};
 
 use aps_check::text::print_verdict;
 use aps_check::{Rule, Verdict, check, check_text};
@@ -28,7 +28,7 @@ fn journal(rt: &impl Abort, alloc: Global) -> Vec<Entry> {
 
 /// What is said of a journal of the load, in this order and up to this limit, and of its text.
 fn judge(rt: &impl Abort, alloc: Global, order: Order, limit: u32, journal: &[Entry]) -> Verdict
-    requires { (1 ≤ limit) × (limit ≤ most_entries) }
+    requires { IsIn 1 most_entries limit }
 {
     let load = load(rt, alloc);
     let verdict = check(alloc, &load, order, limit, journal).expect(rt, "memory");

@@ -4,7 +4,7 @@ use Rattle.aps_model.specs.Pick.{missing}
 use Rattle.aps_levels.specs.Bits.{has}
 use Rattle.aps_ready.specs.Ready.{members}
 use Rattle.aps_ready.proofs.Starved.{groups_occupied, starved_found, none_starved, not_past}
-use Rattle.aps_ready.proofs.ready.Ready.missing_by.Goals.{in_default-via-in-Some+else-p-lt-PARTITIONS, in_default-via-in_default}
+use Rattle.aps_ready.proofs.ready.Ready.missing_by.Goals.{in_default-via-in-Some+else-p-lt-MOST_PARTITIONS, in_default-via-in_default}
 use Rattle.aps_ready.proofs.ready.Ready.missing_by.Goals as goal
 
 clash : (t : Bool) → t ≡ true → t ≡ false → ⊥
@@ -23,17 +23,17 @@ returns-in-Some c parts are few =
       held = c.join-2.ensures;
       starved = c.minus-starved.ensures;
     })
-    c.if-p-lt-PARTITIONS.true c.in-Some.ensures.some.here c.in-Some.ensures.some.earlier in
+    c.if-p-lt-MOST_PARTITIONS.true c.in-Some.ensures.some.here c.in-Some.ensures.some.earlier in
     sym (ap (λ (seats : List (Option Contender)). missing parts (members seats)) (sym c.self.view_is)
     ∙ found ∙ ap (λ (p : ℕ). Some p) (sym c.at.ensures))
 
 pub returns-in_default : goal.returns-in_default
 returns-in_default c parts are few =
     let none : (k : ℕ) → k < 32 → has c.minus-starved.result k ≡ false = elim c.in_default.branch [
-      | in_default-via-in-Some+else-p-lt-PARTITIONS w ↦ λ k below.
+      | in_default-via-in-Some+else-p-lt-MOST_PARTITIONS w ↦ λ k below.
           absurd (clash (has c.minus-starved.result w.in-Some.p) w.in-Some.ensures.some.here
           (not_past parts c.args.gates c.join-2.result c.minus-starved.result w.in-Some.p are w.in-Some.ensures.some.below
-          w.if-p-lt-PARTITIONS.false c.minus-starved.ensures))
+          w.if-p-lt-MOST_PARTITIONS.false c.minus-starved.ensures))
       | in_default-via-in_default w ↦ λ k below. w.in_default.ensures.none k
     ] in
     sym (ap (λ (seats : List (Option Contender)). missing parts (members seats)) (sym c.self.view_is)
