@@ -1,5 +1,5 @@
 //! The types of the simulated scheduler, and in `specs/` the definitions that every contract cites
-//! (`docs/DEFINITIONS.md` has them in words). Every other crate but `aps_io` stands on it.
+//! (`docs/DEFINITIONS.md` has them in words). Every other crate but `aps_io`, `aps_levels` and `aps_ticks` stands on it.
 #![tactic(auto)]
 
 pub mod audit;
