@@ -10,9 +10,9 @@ first_start_folder=$root/.start
 
 # How many seconds a first build takes on four free cores, by which the rest is guessed.
 declare -A usual_seconds=(
-    [aps_model]=125 [aps_io]=30 [aps_laws]=40 [aps_bound_laws]=20 [aps_load_laws]=60 [aps_bound]=45 [aps_merit]=15 [aps_ticks]=15
-    [aps_levels]=30 [aps_channel]=80 [aps_inherit]=80 [aps_ready]=150 [aps_window]=40 [aps_critical]=20 [aps_timer]=40 [aps_tasks]=45 [aps_tree]=60 [aps_ctl]=60 [aps_core]=300 [aps_lock]=140 [aps_cpu]=115 [aps_words]=130 [aps_scenario]=450 [aps_text]=190
-    [aps_report]=150 [aps_hints]=120 [aps_samples]=200 [aps_latency]=170 [aps_explain]=240 [aps_view_words]=130 [aps_gen]=35 [aps_admit]=40 [aps_check]=60 [aps_steps]=30 [aps_lives]=170 [aps_shares]=130 [aps_bars]=100 [aps_svg]=100 [aps_pictures]=150 [aps_timeline]=150 [aps_traces]=190 [aps_waves]=400 [aps_view]=200 [apsview]=40 [aps_top]=330 [apsim]=180
+    [aps_model]=130 [aps_io]=90 [aps_laws]=35 [aps_bound_laws]=25 [aps_load_laws]=35 [aps_bound]=110 [aps_merit]=20 [aps_ticks]=30
+    [aps_levels]=60 [aps_channel]=130 [aps_inherit]=145 [aps_ready]=145 [aps_window]=75 [aps_critical]=25 [aps_timer]=105 [aps_tasks]=110 [aps_tree]=85 [aps_ctl]=65 [aps_core]=400 [aps_lock]=225 [aps_cpu]=130 [aps_words]=260 [aps_scenario]=505 [aps_text]=195
+    [aps_report]=255 [aps_hints]=135 [aps_samples]=200 [aps_latency]=170 [aps_explain]=240 [aps_view_words]=130 [aps_gen]=60 [aps_admit]=60 [aps_check]=175 [aps_steps]=30 [aps_lives]=170 [aps_shares]=130 [aps_bars]=100 [aps_svg]=100 [aps_pictures]=150 [aps_timeline]=150 [aps_traces]=190 [aps_waves]=400 [aps_view]=200 [apsview]=40 [aps_top]=230 [apsim]=260
 )
 declare -A crates_below=() chain_seconds=() build_of=() begun_at=()
 
