@@ -45,11 +45,14 @@ pub const MOST_SCENARIO_BYTES: usize = 1_048_576;
 /// The most bytes that a journal is read to.
 pub const MOST_JOURNAL_BYTES: usize = 310_000_000;
 
-/// The greatest number of a processor, of a thread, of a partition and of a channel: they count from 0.
+/// The greatest number of a processor. Processors, threads, partitions and channels are counted from 0.
 pub const LAST_CPU: u64 = 15;
 
+/// The greatest number of a thread.
 pub const LAST_THREAD: u64 = 1023;
 
+/// The greatest number of a partition.
 pub const LAST_PARTITION: u64 = 31;
 
+/// The greatest number of a channel.
 pub const LAST_CHANNEL: u64 = 255;
