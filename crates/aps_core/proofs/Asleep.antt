@@ -1,5 +1,5 @@
 -- Who sleeps in the timer, and who should.
-use Rattle.std.proofs.Common.{◌≡◌, ◌≢◌, inl, inr, ℕ, ◌+◌, ◌<◌, ◌≤◌, ◌++◌, Bool, true, false, ◌||◌, nat_eq, List, [], ◌∷◌, drop, length, get_or, set, Option, None, refl, sym, ◌∙◌, ap, subst, arith, length-set, get_or-set_same, get_or-set_other, Some}
+use Rattle.std.proofs.Common.{◌≡◌, ◌≢◌, inl, inr, ℕ, ◌+◌, ◌<◌, ◌≤◌, Bool, true, false, ◌||◌, nat_eq, List, [], ◌∷◌, drop, length, get_or, set, Option, None, refl, sym, ◌∙◌, ap, subst, arith, length-set, get_or-set_same, get_or-set_other, Some}
 use Rattle.aps_model.specs.declared.state.State.TheVariants.{Running}
 use Rattle.aps_model.specs.declared.state.Pick.{Pick}
 use Rattle.std.specs.Option.{option_map}

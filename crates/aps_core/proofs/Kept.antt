@@ -3,7 +3,6 @@ use Rattle.std.proofs.Common.{◌≡◌, ◌≢◌, ◌⊎◌, ℕ, zero, suc, �
 use Rattle.std.specs.List.{list_all, range_with_len}
 use Rattle.std.proofs.lemmas.List.{length-append}
 use Rattle.std.proofs.lemmas.Bool.Decides.{nat_tests}
-use Rattle.aps_model.specs.declared.command.CommandRow.{CommandRow}
 use Rattle.aps_model.specs.declared.entry.End.{End}
 use Rattle.aps_model.specs.declared.entry.End.TheVariants.{Limit}
 use Rattle.aps_model.specs.declared.entry.Entry.{Entry}
@@ -30,7 +29,6 @@ use Rattle.aps_laws.proofs.Turns.{any_turn, one_turn}
 use Rattle.aps_laws.proofs.WaitFacts.{test_eq, test_ne}
 use Rattle.aps_laws.specs.Runs.{EndsNoSooner}
 use Rattle.aps_core.specs.Core.{IsCore, IsSetup, IsUnderWay}
-use Rattle.aps_core.specs.Pending.{IsPending}
 use Rattle.aps_core.specs.CanRecord.{CanRecord, HasTold}
 use Rattle.aps_core.specs.Kept.{IsKept}
 use Rattle.aps_core.specs.Run.{Run, Setup, end_of_run, history_of, rooms_of, state_of, with_last}
@@ -304,9 +302,3 @@ core_kept run kept state c e kept' left core goes_on turn m =
 pub tick_of_core : (run : Run) (kept : History) (state : SchedulerState) → IsCore run kept state → state.shape.tick ≡ run.setup.scenario.shape.tick
 tick_of_core run kept state core =
     ap (λ (t : SchedulerState). t.shape.tick) core.machine ∙ (counts_law run.setup.scenario run.setup.order run.entries core.keeps.setup.valid core.keeps.legal).sizes.tick
-
-pub pending_read : (scenario scenario' : Scenario) (tick : ℕ) (h h' : List Entry) (pending : List (ℕ × CommandRow)) → scenario' ≡ scenario → tick ≡ scenario.shape.tick → h' ≡ h
-    → IsPending scenario tick h pending → IsPending scenario' scenario'.shape.tick h' pending
-pending_read scenario scenario' tick h h' pending e1 e2 e3 p =
-    subst (λ (s : Scenario). IsPending s s.shape.tick h' pending) (sym e1)
-    (subst (λ l. IsPending scenario scenario.shape.tick l pending) (sym e3) (subst (λ t. IsPending scenario t h pending) e2 p))

@@ -77,6 +77,12 @@ room_to_bill scenario s h c now from tick running s1 s2 e w r b early sized fits
     can_bill s2.shape h (now / s1.shape.tick) w e counts sized fits whole (sym (same_tick scenario s h c now from tick running s1 s2 e r b s2 refl)) (omega (arith, early, at))
     (λ p k. subst (λ n. used n (h ++ e ∷ []) p k (k + 1) ≤ 160000000) (sym kept) (subst (λ (x : Entry). used s.shape.tick (h ++ x ∷ []) p k (k + 1) ≤ 160000000) (sym same) (r.bills_fit p k)))
 
+-- what adding an entry makes of the counts by a shape that was read
+pub counted_as : (shape read : Shape) (h : List Entry) (j : ℕ) (w w' : Window) (e : Entry) → read ≡ shape
+    → ((g : List Entry) (k : ℕ) → Counts read g k w → Counts read (g ++ e ∷ []) k w') → Counts shape h j w → Counts shape (h ++ e ∷ []) j w'
+counted_as shape read h j w w' e same adds before =
+    subst (λ (x : Shape). Counts x (h ++ e ∷ []) j w') same (adds h j (subst (λ (x : Shape). Counts x h j w) (sym same) before))
+
 pub entry_of : (scenario : Scenario) (s : SchedulerState) (h : List Entry) (c now from tick : ℕ) (running : Option Pick) (s1 s2 : SchedulerState) (e : Entry) → IsReady scenario s h c
     → IsBilling scenario s h c now from tick running s1 s2 e → IsEntry e
 entry_of scenario s h c now from tick running s1 s2 e r b =

@@ -1,7 +1,7 @@
 -- The sleepers that wake at a moment, taken out of the timer and woken one after the other.
-use Rattle.std.proofs.Common.{◌≡◌, length-set, set, ℕ, ◌+◌, ◌<◌, ◌≤◌, ◌++◌, List, [], ◌∷◌, length, take, refl, ◌∙◌, ap, Option, Some, None, Bool, true, false, cond, get_or, arith}
+use Rattle.std.proofs.Common.{◌≡◌, length-set, set, ℕ, ◌+◌, ◌<◌, ◌≤◌, List, [], ◌∷◌, length, take, refl, ◌∙◌, ap, Option, Some, None, Bool, true, false, cond, get_or, arith}
 use Rattle.std.specs.List.{cons_option, filter_map, fold, range_with_len}
-use Rattle.std.proofs.lemmas.List.{append_assoc, length-append, length-map, take_more}
+use Rattle.std.proofs.lemmas.List.{take_more}
 use Rattle.std.proofs.lemmas.List.FromFn.{length-range_with_len}
 use Rattle.std.proofs.lemmas.List.Sums.{fold-append}
 use Rattle.aps_model.specs.Operation.{go_on}

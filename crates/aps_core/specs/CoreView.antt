@@ -10,4 +10,4 @@ run_of core = record {
 }
 
 abbrev pub keeps : Inside → Type 0
-keeps core = IsCoreWith (run_of core) core.history core.machine core.standing core.ready core.timer core.ctl core.ends core.dues core.posts core.window
+keeps core = IsCoreWith (run_of core) core.history core.scheduler

@@ -21,6 +21,7 @@ pub mod Machine
 pub mod MachineView
 pub mod Run
 pub mod Turn
+pub mod Scheduler
 pub mod Core
 pub mod CoreView
 pub mod Rising

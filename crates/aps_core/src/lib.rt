@@ -12,6 +12,7 @@ mod merit;
 mod posts;
 mod recording;
 mod rooms;
+mod scheduler;
 mod simulator;
 mod standing;
 mod turn;

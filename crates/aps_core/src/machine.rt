@@ -1,28 +1,21 @@
-ghost use Rattle.std.specs.Prelude.{◌≡◌, ◌≢◌, ◌⊎◌, ◌-◌, ◌<◌, ◌≤◌, ◌/◌, ◌++◌, [], ◌∷◌, length, slice_index, is_some, All, IfSome, None, true, false};
+ghost use Rattle.std.specs.Prelude.{◌≡◌, ◌≢◌, ◌⊎◌, ◌<◌, ◌≤◌, ◌/◌, ◌++◌, [], ◌∷◌, length, slice_index, is_some, All, IfSome, None, true, false};
 ghost use Rattle.std.specs.Option.{option_map};
 ghost use Rattle.aps_model.specs.After.{is_at_horizon};
 ghost use Rattle.aps_model.specs.Budget.{all_parts};
 ghost use Rattle.aps_model.specs.Due.{due, first_due, last_to};
 ghost use Rattle.aps_model.specs.History.{IsEntry};
 ghost use Rattle.aps_model.specs.Limits.{last_moment, most_ticks};
-ghost use Rattle.aps_model.specs.Shape.{horizon};
-ghost use Rattle.aps_model.specs.Step.{pick, step};
-ghost use Rattle.aps_model.specs.Valid.{IsScenario};
-ghost use Rattle.aps_laws.specs.Moments.{moment};
-ghost use Rattle.aps_core.specs.Counts.{Counts, parts_in};
+ghost use Rattle.aps_model.specs.Shape.{IsShape, horizon};
+ghost use Rattle.aps_model.specs.Step.{pick};
 ghost use Rattle.aps_core.specs.LastEnds.{AreEnds, IsLast};
 ghost use Rattle.aps_core.specs.Kept.{IsKept};
 ghost use Rattle.aps_core.specs.NextDues.{AreDues, AreOthersDues, AreSpare};
-ghost use Rattle.aps_core.specs.Pending.{IsPending};
 ghost use Rattle.aps_core.specs.Posts.{AreOthersPosts, ArePosts};
-ghost use Rattle.aps_core.specs.Ready.{IsReady};
-ghost use Rattle.aps_core.specs.Rising.{IsRising};
 ghost use Rattle.aps_core.specs.Seats.{seats_of};
-ghost use Rattle.aps_core.specs.Sleepers.{sleepers_of};
 
 mod asking;
 mod bankruptcy;
-mod bill;
+pub mod bill;
 mod commands;
 mod effect;
 mod flag;
@@ -40,25 +33,21 @@ mod tick;
 mod timer;
 pub mod wake;
 
+use crate::due;
 use crate::dues::Dues;
 use crate::ends::Ends;
 use crate::posts::Posts;
 use crate::standing::Standing;
-use crate::{due, usage};
 use aps_channel::Channels;
-use aps_ctl::Ctl;
 use aps_inherit::Inherit;
 use aps_model::{
-    Change, Contender, CpuId, CpuNow, Entry, Facts, Nanos, PartitionId, PartitionRow, Reply,
-    Scenario, Shape, ThreadId,
+    Change, Contender, CpuId, CpuNow, Entry, Facts, Nanos, PartitionId, PartitionRow, Reply, Shape,
+    ThreadId,
 };
 use aps_ready::Ready;
 use aps_tasks::TaskTable;
-use aps_timer::Timer;
 use aps_tree::Tree;
-use aps_window::Window;
 use std::marker::Model;
-use wake::Woken;
 
 /// Everything that stands between two steps, beside the history. Contracts see it as the scheduler state of the
 /// definitions, and each method is the part of the definitions' step that its clause names.
@@ -173,7 +162,7 @@ impl Machine {
     }
 
     /// The pick of the processor after this entry, which has its operation, and then the flag. The entry has both then.
-    fn pick(
+    pub fn pick(
         &mut self,
         entries: &[Entry],
         dues: &Dues,
@@ -216,7 +205,7 @@ impl Machine {
     }
 
     /// The tick of a moment. The tick at hand is best that of the moment.
-    fn tick_of(&self, moment: Nanos, at_hand: u32) -> u64
+    pub fn tick_of(&self, moment: Nanos, at_hand: u32) -> u64
         requires moment { moment ≤ horizon self.now.shape }
         requires at_hand { at_hand ≤ 100000000 }
         ensures same { result ≡ moment / self.now.shape.tick }
@@ -235,7 +224,7 @@ impl Machine {
 
     /// Whether a step at this moment ends with its bill: by a reboot for the partition, or at the horizon.
     #[inline(always)]
-    fn is_over(&self, reboot: &Option<PartitionId>, now: Nanos) -> bool
+    pub fn is_over(&self, reboot: &Option<PartitionId>, now: Nanos) -> bool
         ensures over { result ≡ true → (is_some reboot.now ≡ true) ⊎ ((reboot.now ≡ None) × (now ≡ horizon self.now.shape)) }
         ensures on { result ≡ false → (reboot.now ≡ None) × (now ≢ horizon self.now.shape) }
     {
@@ -245,87 +234,9 @@ impl Machine {
         }
     }
 
-    /// One step of the processor, at its due moment, by its parts.
-    #[inline(always)]
-    pub fn step(
-        &mut self,
-        scenario: &Scenario,
-        entries: &[Entry],
-        ends: &Ends,
-        dues: &Dues,
-        posts: &mut Posts,
-        window: &mut Window,
-        standing: &mut Standing,
-        ready: &mut Ready,
-        timer: &mut Timer,
-        woken: &mut Woken,
-        ctl: &mut Ctl,
-        cpu: CpuId,
-    ) -> Stepped
-        requires valid { IsScenario scenario.now }
-        requires ready { IsReady scenario.now self.old entries.now cpu }
-        requires pending { IsPending scenario.now self.old.shape.tick entries.now ctl.old }
-        requires stands { standing.old ≡ parts_in self.old.shape self.old.rows window.old }
-        requires seats { ready.old ≡ seats_of self.old }
-        requires timed { timer.old ≡ sleepers_of self.old }
-        requires entries { All IsEntry entries.now }
-        requires ends { AreEnds entries.now ends.now }
-        requires dues { AreDues self.old entries.now dues.now }
-        requires spare { AreSpare self.old dues.now }
-        requires posts { ArePosts self.old posts.old }
-        requires rising { IsRising entries.now }
-        requires counts { Counts self.old.shape entries.now (moment entries.now / self.old.shape.tick) window.old }
-        ensures same { step scenario.now self.old entries.now cpu
-            ≡ record { entry = result.entry; state = self.new; reboot = result.reboot } }
-        ensures pending { IsPending scenario.now self.old.shape.tick (entries.now ++ result.entry ∷ []) ctl.new }
-        ensures counts { Counts self.new.shape (entries.now ++ result.entry ∷ []) (result.entry.to / self.new.shape.tick) window.new }
-        ensures stands { standing.new ≡ parts_in self.new.shape self.new.rows window.new }
-        ensures kept { result.is_changed ≡ false → IsKept self.old self.new }
-        ensures seats { ready.new ≡ seats_of self.new }
-        ensures timed { timer.new ≡ sleepers_of self.new }
-        ensures posts { ArePosts self.new posts.new }
-        ensures flagged { IfSome result.entry.flagged (λ d. d < length self.new.cpus) }
-    {
-        let now = dues.of(cpu);
-        let from = ends.last_end(entries, cpu);
-        let tick = self.tick_of(now, window.tick());
-        let is_later = usage::go_on(window, tick);
-        let running = self.begin(cpu);
-        let commanded = self.begin_tick(
-            scenario, entries, window, timer, woken, ctl, now, tick, is_later,
-        );
-        let e = bill::bill_of(cpu, from, now, &running);
-        usage::add_time(window, &self.shape, &e);
-        self.bill(&e, &running);
-        let changes = self.change_count();
-        let reboot = self.test(entries, window, &e);
-        let is_changed = commanded | (changes < self.change_count());
-        self.stand_by(window, standing, is_later | is_changed, &e.billed);
-        if self.is_over(&reboot, now) {
-            self.sync_all(ready);
-            self.post_all(posts);
-            return Stepped {
-                entry: e,
-                reboot,
-                is_changed,
-            };
-        }
-        let done = self.settle(scenario, now, &running);
-        self.sync(ready, commanded, woken, &e.ran, &done);
-        self.time_done(timer, &e.ran, &done);
-        self.post_others(posts, cpu, commanded, &done);
-        let mut entry = Entry { done, ..e };
-        self.pick(entries, dues, posts, standing, ready, cpu, &mut entry);
-        Stepped {
-            entry,
-            reboot: None,
-            is_changed,
-        }
-    }
-
     /// How many changes there are so far.
     #[inline(always)]
-    fn change_count(&self) -> usize
+    pub fn change_count(&self) -> usize
         ensures { result ≡ length self.now.changes }
     {
         self.changes.len()
@@ -354,19 +265,11 @@ impl Machine {
 
     /// The shape as it stands.
     pub fn shape(&self) -> &Shape
-        ensures { result.now ≡ self.now.shape }
+        ensures same { result.now ≡ self.now.shape }
+        ensures valid { IsShape self.now.shape }
     {
         &self.shape
     }
-}
-
-/// What a step made: its entry, the partition for which it ends the run by a reboot, and whether rows, parameters, replies
-/// or changes may be others than before.
-#[derive(Clone, Copy, Debug, PartialEq, Eq)]
-pub struct Stepped {
-    pub entry: Entry,
-    pub reboot: Option<PartitionId>,
-    pub is_changed: bool,
 }
 
 /// The thread of a contender.

@@ -11,7 +11,8 @@ ghost use Rattle.aps_core.specs.LastEnds.{AreEnds, IsLast};
 ghost use Rattle.aps_core.specs.Run.{with_last};
 
 use crate::ends::Ends;
-use crate::machine::{Machine, Stepped};
+use crate::machine::Machine;
+use crate::scheduler::Stepped;
 use aps_model::{Change, End, Entry, History, PartitionId, PartitionRow, Reply};
 
 /// The history has the entry of a step that left this machine, all that the machine has recorded, and the end of the

@@ -3,8 +3,6 @@ ghost use Rattle.aps_model.specs.declared.entry.End.{End};
 ghost use Rattle.aps_model.specs.declared.entry.Order.TheVariants.{Fixed};
 ghost use Rattle.aps_model.specs.Due.{HasTurn, due, first_due};
 ghost use Rattle.aps_model.specs.Legal.{IsLegal, fixed_run};
-ghost use Rattle.aps_model.specs.After.{is_at_horizon, or_limit, over_by};
-ghost use Rattle.aps_model.specs.History.{IsEntry};
 ghost use Rattle.aps_model.specs.Tiled.{IsTiled, IsBilledAsInherited};
 ghost use Rattle.aps_model.specs.Valid.{IsScenario};
 ghost use Rattle.aps_model.specs.Bound.{KeepsWindowBound, KeepsCriticalBound};
@@ -13,28 +11,17 @@ ghost use Rattle.aps_laws.specs.Choices.{EachPickIsGreatest};
 ghost use Rattle.aps_laws.specs.Runs.{EndsNoSooner};
 ghost use Rattle.aps_core.specs.declared.turn.Turn.TheVariants.{Took};
 ghost use Rattle.aps_core.specs.Core.{IsUnderWay};
-ghost use Rattle.aps_core.specs.Run.{IsLater, end_of_run, finished_run, history_of, most_changes, rooms_of, state_of, with_last};
+ghost use Rattle.aps_core.specs.Run.{IsLater, end_of_run, finished_run, history_of, most_changes, rooms_of, state_of};
 ghost use Rattle.aps_core.specs.Turn.{HasTurnIn, IsFed, IsOwn, IsTaken, IsTurn, after_turn, with_entry};
 
 mod asking;
 mod reading;
-mod starting;
 
-use crate::dues::Dues;
-use crate::ends::Ends;
-use crate::machine::Machine;
-use crate::machine::wake::Woken;
-use crate::posts::Posts;
 use crate::recording;
 use crate::rooms::Room;
-use crate::standing::Standing;
+use crate::scheduler::Scheduler;
 use crate::turn::Turn;
-use aps_ctl::Ctl;
 use aps_model::{CpuId, End, Entry, History, Nanos, NoMemory, Order, Scenario};
-use aps_ready::Ready;
-use aps_timer::Timer;
-use aps_window::Window;
-use starting::{start_queues, start_window};
 use std::alloc::Global;
 use std::marker::Model;
 
@@ -44,16 +31,7 @@ pub struct Core {
     history: History,
     order: Order,
     limit: u32,
-    machine: Machine,
-    ends: Ends,
-    dues: Dues,
-    posts: Posts,
-    window: Window,
-    standing: Standing,
-    ready: Ready,
-    timer: Timer,
-    woken: Woken,
-    ctl: Ctl,
+    scheduler: Scheduler,
 }
 
 // Written out, so that it is proved here alone: a derived drop is proved again in each crate that lets a value go.
@@ -63,16 +41,7 @@ impl Drop for Core {
             history: _,
             order: _,
             limit: _,
-            machine: _,
-            ends: _,
-            dues: _,
-            posts: _,
-            window: _,
-            standing: _,
-            ready: _,
-            timer: _,
-            woken: _,
-            ctl: _,
+            scheduler: _,
         } = self;
     }
 }
@@ -105,27 +74,13 @@ impl Core {
     {
         let replies = scenario.commands().len() as u16;
         let changes = most_changes(&scenario);
-        let machine = Machine::boot(alloc, &scenario)?;
-        let (window, standing) = start_window(alloc, &machine, &scenario)?;
-        let (ready, timer, woken, ctl) = start_queues(alloc, &machine, &scenario)?;
+        let scheduler = Scheduler::boot(alloc, &scenario)?;
         let history = History::begin(alloc, scenario, limit, replies, changes)?;
-        let ends = Ends::new();
-        let dues = Dues::new();
-        let posts = machine.start_posts();
         Ok(Core {
             history,
             order,
             limit,
-            machine,
-            ends,
-            dues,
-            posts,
-            window,
-            standing,
-            ready,
-            timer,
-            woken,
-            ctl,
+            scheduler,
         })
     }
 
@@ -134,7 +89,7 @@ impl Core {
         requires { cpu < self.now.setup.scenario.shape.cpus }
         ensures { result ≡ due (state_of self.now) self.now.entries cpu }
     {
-        self.dues.of(cpu)
+        self.scheduler.dues.of(cpu)
     }
 
     /// The order of turns.
@@ -187,16 +142,7 @@ impl Core {
             history,
             order: _,
             limit: _,
-            machine: _,
-            ends: _,
-            dues: _,
-            posts: _,
-            window: _,
-            standing: _,
-            ready: _,
-            timer: _,
-            woken: _,
-            ctl: _,
+            scheduler: _,
         } = self;
         history
     }
@@ -266,7 +212,9 @@ impl Core {
         ensures exists { result < self.now.setup.scenario.shape.cpus }
         ensures keeps { IsUnderWay self.now }
     {
-        self.machine.first_due(self.history.entries(), &self.dues)
+        self.scheduler
+            .machine
+            .first_due(self.history.entries(), &self.scheduler.dues)
     }
 
     /// Whether the processor has the turn, where this is the lowest that has it.
@@ -294,34 +242,18 @@ impl Core {
         ensures fed { IsFed self.old (Took result) }
         ensures room { length self.old.entries < self.old.setup.limit }
     {
-        let made = self.machine.step(
-            self.history.scenario(),
-            self.history.entries(),
-            &self.ends,
-            &self.dues,
-            &mut self.posts,
-            &mut self.window,
-            &mut self.standing,
-            &mut self.ready,
-            &mut self.timer,
-            &mut self.woken,
-            &mut self.ctl,
-            cpu,
-        );
+        let made = self
+            .scheduler
+            .step(self.history.scenario(), self.history.entries(), cpu);
         let e = made.entry;
-        self.ends.add(&e);
         recording::record(
             &mut self.history,
             made,
-            &self.machine,
-            &self.ends,
+            &self.scheduler.machine,
+            &self.scheduler.ends,
             self.limit,
         );
-        let tick = self.window.tick();
-        let due = self
-            .machine
-            .due(self.history.entries(), &self.ends, tick, cpu);
-        self.dues.go_on(&e, due);
+        self.scheduler.set_due(self.history.entries(), &e);
         e
     }
 }

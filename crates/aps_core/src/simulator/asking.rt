@@ -19,7 +19,7 @@ impl Core {
         ensures { parts.new ≡ all_parts (state_of self.now).shape (state_of self.now).rows self.now.entries
             (moment self.now.entries / (state_of self.now).shape.tick) }
     {
-        self.machine.stand(&self.window, parts);
+        self.scheduler.machine.stand(&self.scheduler.window, parts);
     }
 
     /// Which partitions have a candidate among the threads that are ready after the entries so far, where the partitions
@@ -27,6 +27,6 @@ impl Core {
     pub fn candidates(&self, parts: &[PartFacts]) -> [bool; 32]
         ensures { (p : ℕ) → p < most_partitions → slice_index_or result p false ≡ has_candidate parts.now p (contenders (state_of self.now)) }
     {
-        self.machine.candidates(parts)
+        self.scheduler.machine.candidates(parts)
     }
 }

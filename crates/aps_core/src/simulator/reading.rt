@@ -11,13 +11,13 @@ impl Core {
     pub fn thread(&self, x: ThreadId) -> ThreadNow
         ensures { result ≡ thread_at (state_of self.now) x }
     {
-        self.machine.thread(x)
+        self.scheduler.machine.thread(x)
     }
 
     /// The processor as it stands after the entries so far; where the scenario has no such processor, an idle one.
     pub fn cpu(&self, c: CpuId) -> CpuNow
         ensures { result ≡ cpu_at (state_of self.now) c }
     {
-        self.machine.cpu(c)
+        self.scheduler.machine.cpu(c)
     }
 }

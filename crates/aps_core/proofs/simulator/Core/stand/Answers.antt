@@ -8,9 +8,9 @@ use Rattle.aps_core.proofs.simulator.Core.stand.Goals as goal
 
 pub returns : goal.returns
 returns c =
-    let s = c.self.inside.machine in
+    let s = c.self.inside.scheduler.machine in
     let h = c.self.inside.history.entries in
     c.stand.ensures.same
-    ∙ parts_are s.shape s.rows h (moment h / s.shape.tick) c.self.inside.window c.self.invariant.counts c.stand.ensures.few
+    ∙ parts_are s.shape s.rows h (moment h / s.shape.tick) c.self.inside.scheduler.window c.self.invariant.after.counts c.stand.ensures.few
     ∙ ap (λ (m : SchedulerState). all_parts m.shape m.rows h (moment h / m.shape.tick)) c.self.invariant.core.machine
     ∙ ap (λ (r : Run). all_parts (state_of r).shape (state_of r).rows r.entries (moment r.entries / (state_of r).shape.tick)) c.self.view_is

@@ -1,4 +1,4 @@
-//! What a run has at its start beside the state of its scenario: its window, and its queues.
+//! What stands beside a machine at its start: its window, and its queues.
 ghost use Rattle.std.specs.Prelude.{◌≡◌, IfOk};
 ghost use Rattle.std.specs.List.{enumerate_from};
 ghost use Rattle.aps_window.specs.Window.{opened};

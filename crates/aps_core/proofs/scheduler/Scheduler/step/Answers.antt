@@ -3,20 +3,21 @@ use Rattle.std.proofs.lemmas.Bool.Decides.{nat_tests}
 use Rattle.std.specs.Option.{option_map}
 use Rattle.aps_model.specs.declared.entry.Entry.{Entry}
 use Rattle.aps_model.specs.declared.merit.Contender.{Contender}
+use Rattle.aps_model.specs.declared.shape.Shape.{Shape}
 use Rattle.aps_model.specs.declared.state.Pick.{Pick}
 use Rattle.aps_model.specs.Bill.{bill_of}
 use Rattle.aps_model.specs.Due.{due}
 use Rattle.aps_model.specs.Messages.{Effect}
 use Rattle.aps_model.specs.SchedulerState.{SchedulerState, cpu_at, thread_at}
+use Rattle.aps_model.specs.Shape.{IsShape}
 use Rattle.aps_model.specs.Step.{Step}
 use Rattle.aps_model.specs.TickWork.{has_tick_work}
 use Rattle.aps_laws.specs.Moments.{moment}
 use Rattle.aps_laws.specs.Servers.{IsNobodysClient}
 use Rattle.aps_laws.specs.Stamps.{IsStamped}
 use Rattle.aps_window.specs.Window.{Window, total_of}
-use Rattle.aps_core.specs.Counts.{Counts, parts_in}
+use Rattle.aps_core.specs.Counts.{CanBill, Counts, parts_in}
 use Rattle.aps_core.specs.Kept.{IsKept}
-use Rattle.aps_core.specs.MachineView.{state_of}
 use Rattle.aps_core.specs.Pending.{IsPending}
 use Rattle.aps_core.specs.Room.{HasRoomToWake}
 use Rattle.aps_core.specs.Seats.{who_at}
@@ -32,25 +33,25 @@ use Rattle.aps_core.proofs.SeatsStay.{running_out, step_seat}
 use Rattle.aps_core.proofs.Asleep.{running_awake, sleepers_count}
 use Rattle.aps_core.proofs.SleepersStay.{picked_sleepers, settled_timer, tested_timer}
 use Rattle.aps_core.proofs.StandsStay.{calm_kept, neither, others_stand}
-use Rattle.aps_core.proofs.StepCounts.{IsBilling, counts_begun, counts_left, done_bill, entry_of, own_bill, picked_bill, room_to_bill, settled_shape, spent_shape, tested_shape}
+use Rattle.aps_core.proofs.StepCounts.{IsBilling, counted_as, counts_begun, counts_left, done_bill, entry_of, own_bill, picked_bill, room_to_bill, settled_shape, spent_shape, tested_shape}
 use Rattle.aps_core.proofs.StepParts.{billed_by, room_after, settled_by, settled_is, step_at_horizon, step_below, step_over, tested_by, ticked_by}
 use Rattle.aps_core.proofs.TickDone.{work_done}
-use Rattle.aps_core.proofs.machine.Machine.step.Goals as goal
+use Rattle.aps_core.proofs.scheduler.Scheduler.step.Goals as goal
 
 -- ---- the work of the tick
 
 pub begin_tick-commanded-requires-clause-now : goal.begin_tick-commanded-requires-clause-now
-begin_tick-commanded-requires-clause-now c = rw (c.of-now.ensures ∙ c.requires.dues c.args.cpu c.requires.ready.exists) c.requires.ready.early
+begin_tick-commanded-requires-clause-now c = rw (c.of-now.ensures ∙ c.requires.after.nexts c.args.cpu c.requires.ready.exists) c.requires.ready.early
 
 pub begin_tick-commanded-requires-clause-tick : goal.begin_tick-commanded-requires-clause-tick
 begin_tick-commanded-requires-clause-tick c = c.tick_of-tick.ensures.same ∙ ap (λ (s : SchedulerState). c.of-now.result / s.shape.tick) (sym c.begin-running.ensures.same)
 
 pub begin_tick-commanded-requires-clause-done : goal.begin_tick-commanded-requires-clause-done
 begin_tick-commanded-requires-clause-done c calm nonempty =
-    let s = c.args.self.now in
+    let s = c.args.self.now.machine in
     let h = c.args.entries.now in
-    let at : c.of-now.result / s.shape.tick ≡ moment h / s.shape.tick = sym c.tick_of-tick.ensures.same ∙ c.go_on-is_later.ensures.at_hand calm ∙ c.requires.counts.tick in
-    let rises : moment h ≤ c.of-now.result = omega (arith, c.requires.ready.rises, (c.of-now.ensures ∙ c.requires.dues c.args.cpu c.requires.ready.exists)) in
+    let at : c.of-now.result / s.shape.tick ≡ moment h / s.shape.tick = sym c.tick_of-tick.ensures.same ∙ c.go_on-is_later.ensures.at_hand calm ∙ c.requires.after.counts.tick in
+    let rises : moment h ≤ c.of-now.result = omega (arith, c.requires.ready.rises, (c.of-now.ensures ∙ c.requires.after.nexts c.args.cpu c.requires.ready.exists)) in
     subst (λ (u : SchedulerState). has_tick_work u h c.of-now.result ≡ false) (sym c.begin-running.ensures.same) (work_done s h c.of-now.result nonempty rises at)
 
 pub begin_tick-commanded-requires-clause-room : goal.begin_tick-commanded-requires-clause-room
@@ -61,29 +62,29 @@ begin_tick-commanded-requires-clause-room c =
 pub begin_tick-commanded-requires-clause-replies : goal.begin_tick-commanded-requires-clause-replies
 begin_tick-commanded-requires-clause-replies c =
     subst (λ (s : SchedulerState). length s.replies ≤ 1024)
-    (sym (ticked_by c.args.scenario.now c.args.self.now c.args.entries.now c.args.cpu _ _ _ (c.of-now.ensures ∙ c.requires.dues c.args.cpu c.requires.ready.exists) c.begin-running.ensures.same refl)) c.requires.ready.replies
+    (sym (ticked_by c.args.scenario.now c.args.self.now.machine c.args.entries.now c.args.cpu _ _ _ (c.of-now.ensures ∙ c.requires.after.nexts c.args.cpu c.requires.ready.exists) c.begin-running.ensures.same refl)) c.requires.ready.replies
 
 pub begin_tick-commanded-requires-clause-changes : goal.begin_tick-commanded-requires-clause-changes
 begin_tick-commanded-requires-clause-changes c =
     subst (λ (s : SchedulerState). length s.changes ≤ 2079)
-    (sym (ticked_by c.args.scenario.now c.args.self.now c.args.entries.now c.args.cpu _ _ _ (c.of-now.ensures ∙ c.requires.dues c.args.cpu c.requires.ready.exists) c.begin-running.ensures.same refl)) c.requires.ready.changes_ticked
+    (sym (ticked_by c.args.scenario.now c.args.self.now.machine c.args.entries.now c.args.cpu _ _ _ (c.of-now.ensures ∙ c.requires.after.nexts c.args.cpu c.requires.ready.exists) c.begin-running.ensures.same refl)) c.requires.ready.changes_ticked
 
 pub begin_tick-commanded-requires-clause-pending : goal.begin_tick-commanded-requires-clause-pending
 begin_tick-commanded-requires-clause-pending c =
-    subst (λ (s : SchedulerState). IsPending c.args.scenario.now s.shape.tick c.args.entries.now c.args.ctl.now) (sym c.begin-running.ensures.same) c.requires.pending
+    subst (λ (s : SchedulerState). IsPending c.args.scenario.now s.shape.tick c.args.entries.now c.args.self.now.ctl) (sym c.begin-running.ensures.same) c.requires.after.pending
 
 -- ---- the bill
 
 pub bill-requires-clause-to : goal.bill-requires-clause-to
-bill-requires-clause-to c = rw (c.bill_of-e.ensures.to, (c.of-now.ensures ∙ c.requires.dues c.args.cpu c.requires.ready.exists)) c.requires.ready.early
+bill-requires-clause-to c = rw (c.bill_of-e.ensures.to, (c.of-now.ensures ∙ c.requires.after.nexts c.args.cpu c.requires.ready.exists)) c.requires.ready.early
 
 pub bill-requires-clause-forward : goal.bill-requires-clause-forward
-bill-requires-clause-forward c = rw (c.bill_of-e.ensures.from, c.bill_of-e.ensures.to, (c.of-now.ensures ∙ c.requires.dues c.args.cpu c.requires.ready.exists), c.last_end-from.ensures.same) c.requires.ready.forward
+bill-requires-clause-forward c = rw (c.bill_of-e.ensures.from, c.bill_of-e.ensures.to, (c.of-now.ensures ∙ c.requires.after.nexts c.args.cpu c.requires.ready.exists), c.last_end-from.ensures.same) c.requires.ready.forward
 
 pub bill-requires-clause-since : goal.bill-requires-clause-since
 bill-requires-clause-since c =
     subst (λ (s : SchedulerState). (x : ℕ) → (thread_at s x).since ≤ 10000000000000)
-    (sym (ticked_by c.args.scenario.now c.args.self.now c.args.entries.now c.args.cpu _ _ _ (c.of-now.ensures ∙ c.requires.dues c.args.cpu c.requires.ready.exists) c.begin-running.ensures.same c.begin_tick-commanded.ensures.same))
+    (sym (ticked_by c.args.scenario.now c.args.self.now.machine c.args.entries.now c.args.cpu _ _ _ (c.of-now.ensures ∙ c.requires.after.nexts c.args.cpu c.requires.ready.exists) c.begin-running.ensures.same c.begin_tick-commanded.ensures.same))
     c.requires.ready.since
 
 -- ---- the whole
@@ -91,9 +92,9 @@ bill-requires-clause-since c =
 pub returns-clause-same : goal.returns-clause-same
 returns-clause-same c =
     let b =
-    tested_by c.args.scenario.now c.args.self.now c.args.entries.now c.args.cpu _ _ _ _ _ _ _ _ _
-    (c.of-now.ensures ∙ c.requires.dues c.args.cpu c.requires.ready.exists) c.last_end-from.ensures.same c.begin-running.ensures.running c.begin-running.ensures.same c.begin_tick-commanded.ensures.same c.bill_of-e.ensures.same c.bill.ensures c.test-reboot.ensures in
-    step_below c.args.scenario.now c.args.self.now c.args.entries.now c.args.cpu _ _ _ _ _ _ _ b
+    tested_by c.args.scenario.now c.args.self.now.machine c.args.entries.now c.args.cpu _ _ _ _ _ _ _ _ _
+    (c.of-now.ensures ∙ c.requires.after.nexts c.args.cpu c.requires.ready.exists) c.last_end-from.ensures.same c.begin-running.ensures.running c.begin-running.ensures.same c.begin_tick-commanded.ensures.same c.bill_of-e.ensures.same c.bill.ensures c.test-reboot.ensures in
+    step_below c.args.scenario.now c.args.self.now.machine c.args.entries.now c.args.cpu _ _ _ _ _ _ _ b
     (c.is_over.ensures.on c.if-is_over.false).0
     (c.is_over.ensures.on c.if-is_over.false).1 c.settle-done.ensures c.bill_of-e.ensures.to c.pick.ensures.same
 
@@ -101,69 +102,75 @@ returns-clause-same c =
 
 pub begin_tick-commanded-requires-clause-counts : goal.begin_tick-commanded-requires-clause-counts
 begin_tick-commanded-requires-clause-counts c =
-    counts_begun c.args.self.now c.begin-running.new.self c.args.entries.now c.args.cpu c.of-now.result c.tick_of-tick.result c.args.window.now c.go_on-is_later.new.window c.requires.counts
-    (omega (arith, c.requires.ready.rises, (c.of-now.ensures ∙ c.requires.dues c.args.cpu c.requires.ready.exists))) c.tick_of-tick.ensures.same c.go_on-is_later.ensures.same c.begin-running.ensures.same
+    counts_begun c.args.self.now.machine c.begin-running.new.self c.args.entries.now c.args.cpu c.of-now.result c.tick_of-tick.result c.args.self.now.window c.go_on-is_later.new.window c.requires.after.counts
+    (omega (arith, c.requires.ready.rises, (c.of-now.ensures ∙ c.requires.after.nexts c.args.cpu c.requires.ready.exists))) c.tick_of-tick.ensures.same c.go_on-is_later.ensures.same c.begin-running.ensures.same
+
+pub add_time-requires-clause-shape : goal.add_time-requires-clause-shape
+add_time-requires-clause-shape c = subst IsShape (sym c.shape.ensures.same) c.shape.ensures.valid
 
 pub add_time-requires-clause-entry : goal.add_time-requires-clause-entry
 add_time-requires-clause-entry c =
-    let s2 = state_of c.self.inside in
+    let s2 = c.begin_tick-commanded.new.self in
     let e = c.bill_of-e.result in
-    let b : IsBilling c.args.scenario.now c.args.self.now c.args.entries.now c.args.cpu c.of-now.result c.last_end-from.result c.tick_of-tick.result c.begin-running.result c.begin-running.new.self s2 e =
+    let b : IsBilling c.args.scenario.now c.args.self.now.machine c.args.entries.now c.args.cpu c.of-now.result c.last_end-from.result c.tick_of-tick.result c.begin-running.result c.begin-running.new.self s2 e =
     record {
-      at_due = (c.of-now.ensures ∙ c.requires.dues c.args.cpu c.requires.ready.exists);
+      at_due = (c.of-now.ensures ∙ c.requires.after.nexts c.args.cpu c.requires.ready.exists);
       from_end = c.last_end-from.ensures.same;
       ran = c.begin-running.ensures.running;
       begun = c.begin-running.ensures.same;
-      ticked = c.self.view_is ∙ c.begin_tick-commanded.ensures.same;
+      ticked = c.begin_tick-commanded.ensures.same;
       entry = c.bill_of-e.ensures.same;
       begins = c.bill_of-e.ensures.from;
       ends = c.bill_of-e.ensures.to;
       at_tick = c.tick_of-tick.ensures.same;
     } in
-    entry_of c.args.scenario.now c.args.self.now c.args.entries.now c.args.cpu c.of-now.result c.last_end-from.result c.tick_of-tick.result c.begin-running.result c.begin-running.new.self s2 e c.requires.ready b
+    entry_of c.args.scenario.now c.args.self.now.machine c.args.entries.now c.args.cpu c.of-now.result c.last_end-from.result c.tick_of-tick.result c.begin-running.result c.begin-running.new.self s2 e c.requires.ready b
 
 pub add_time-requires-clause-room : goal.add_time-requires-clause-room
 add_time-requires-clause-room c =
-    let s2 = state_of c.self.inside in
+    let s2 = c.begin_tick-commanded.new.self in
     let e = c.bill_of-e.result in
-    let b : IsBilling c.args.scenario.now c.args.self.now c.args.entries.now c.args.cpu c.of-now.result c.last_end-from.result c.tick_of-tick.result c.begin-running.result c.begin-running.new.self s2 e =
+    let b : IsBilling c.args.scenario.now c.args.self.now.machine c.args.entries.now c.args.cpu c.of-now.result c.last_end-from.result c.tick_of-tick.result c.begin-running.result c.begin-running.new.self s2 e =
     record {
-      at_due = (c.of-now.ensures ∙ c.requires.dues c.args.cpu c.requires.ready.exists);
+      at_due = (c.of-now.ensures ∙ c.requires.after.nexts c.args.cpu c.requires.ready.exists);
       from_end = c.last_end-from.ensures.same;
       ran = c.begin-running.ensures.running;
       begun = c.begin-running.ensures.same;
-      ticked = c.self.view_is ∙ c.begin_tick-commanded.ensures.same;
+      ticked = c.begin_tick-commanded.ensures.same;
       entry = c.bill_of-e.ensures.same;
       begins = c.bill_of-e.ensures.from;
       ends = c.bill_of-e.ensures.to;
       at_tick = c.tick_of-tick.ensures.same;
     } in
-    let before = subst (λ (u : SchedulerState). Counts u.shape c.args.entries.now (c.of-now.result / c.begin-running.new.self.shape.tick) c.begin_tick-commanded.new.window) (sym c.self.view_is) c.begin_tick-commanded.ensures.counts in
-    room_to_bill c.args.scenario.now c.args.self.now c.args.entries.now c.args.cpu c.of-now.result c.last_end-from.result c.tick_of-tick.result c.begin-running.result c.begin-running.new.self s2 e c.begin_tick-commanded.new.window
-    c.requires.ready b c.tick_of-tick.ensures.few c.self.invariant.shape
-    (entry_of c.args.scenario.now c.args.self.now c.args.entries.now c.args.cpu c.of-now.result c.last_end-from.result c.tick_of-tick.result c.begin-running.result c.begin-running.new.self s2 e c.requires.ready b)
-    before
+    let before = c.begin_tick-commanded.ensures.counts in
+    subst (λ (x : Shape). CanBill x.tick c.begin_tick-commanded.new.window e) (sym c.shape.ensures.same)
+    (room_to_bill c.args.scenario.now c.args.self.now.machine c.args.entries.now c.args.cpu c.of-now.result c.last_end-from.result c.tick_of-tick.result c.begin-running.result c.begin-running.new.self s2 e c.begin_tick-commanded.new.window
+    c.requires.ready b c.tick_of-tick.ensures.few c.shape.ensures.valid
+    (entry_of c.args.scenario.now c.args.self.now.machine c.args.entries.now c.args.cpu c.of-now.result c.last_end-from.result c.tick_of-tick.result c.begin-running.result c.begin-running.new.self s2 e c.requires.ready b)
+    before)
 
 pub test-reboot-requires-clause-counts : goal.test-reboot-requires-clause-counts
 test-reboot-requires-clause-counts c =
-    let s2 = state_of c.self.inside in
+    let s2 = c.begin_tick-commanded.new.self in
     let e = c.bill_of-e.result in
-    let b : IsBilling c.args.scenario.now c.args.self.now c.args.entries.now c.args.cpu c.of-now.result c.last_end-from.result c.tick_of-tick.result c.begin-running.result c.begin-running.new.self s2 e =
+    let b : IsBilling c.args.scenario.now c.args.self.now.machine c.args.entries.now c.args.cpu c.of-now.result c.last_end-from.result c.tick_of-tick.result c.begin-running.result c.begin-running.new.self s2 e =
     record {
-      at_due = (c.of-now.ensures ∙ c.requires.dues c.args.cpu c.requires.ready.exists);
+      at_due = (c.of-now.ensures ∙ c.requires.after.nexts c.args.cpu c.requires.ready.exists);
       from_end = c.last_end-from.ensures.same;
       ran = c.begin-running.ensures.running;
       begun = c.begin-running.ensures.same;
-      ticked = c.self.view_is ∙ c.begin_tick-commanded.ensures.same;
+      ticked = c.begin_tick-commanded.ensures.same;
       entry = c.bill_of-e.ensures.same;
       begins = c.bill_of-e.ensures.from;
       ends = c.bill_of-e.ensures.to;
       at_tick = c.tick_of-tick.ensures.same;
     } in
-    let before = subst (λ (u : SchedulerState). Counts u.shape c.args.entries.now (c.of-now.result / c.begin-running.new.self.shape.tick) c.begin_tick-commanded.new.window) (sym c.self.view_is) c.begin_tick-commanded.ensures.counts in
-    let with_bill = c.add_time.ensures.counts c.args.entries.now (c.of-now.result / c.begin-running.new.self.shape.tick) before in
-    let spent : c.bill.new.self.shape ≡ s2.shape = spent_shape c.begin_tick-commanded.new.self e c.begin-running.result c.bill.new.self c.bill.ensures ∙ ap (λ (u : SchedulerState). u.shape) (sym c.self.view_is) in
-    counts_left c.args.scenario.now c.args.self.now c.args.entries.now c.args.cpu c.of-now.result c.last_end-from.result c.tick_of-tick.result c.begin-running.result c.begin-running.new.self s2 e c.add_time.new.window
+    let before = c.begin_tick-commanded.ensures.counts in
+    let with_bill =
+    counted_as s2.shape c.shape.result.now c.args.entries.now (c.of-now.result / c.begin-running.new.self.shape.tick) c.begin_tick-commanded.new.window c.add_time.new.window e c.shape.ensures.same
+    c.add_time.ensures.counts before in
+    let spent : c.bill.new.self.shape ≡ s2.shape = spent_shape c.begin_tick-commanded.new.self e c.begin-running.result c.bill.new.self c.bill.ensures in
+    counts_left c.args.scenario.now c.args.self.now.machine c.args.entries.now c.args.cpu c.of-now.result c.last_end-from.result c.tick_of-tick.result c.begin-running.result c.begin-running.new.self s2 e c.add_time.new.window
     c.requires.ready b with_bill c.bill.new.self e (spent) (own_bill e)
 
 pub returns-then-is_over-clause-pending : goal.returns-then-is_over-clause-pending
@@ -173,60 +180,64 @@ returns-then-is_over-clause-pending c =
 
 pub returns-then-is_over-clause-counts : goal.returns-then-is_over-clause-counts
 returns-then-is_over-clause-counts c =
-    let s2 = state_of c.self.inside in
+    let s2 = c.begin_tick-commanded.new.self in
     let e = c.bill_of-e.result in
-    let b : IsBilling c.args.scenario.now c.args.self.now c.args.entries.now c.args.cpu c.of-now.result c.last_end-from.result c.tick_of-tick.result c.begin-running.result c.begin-running.new.self s2 e =
+    let b : IsBilling c.args.scenario.now c.args.self.now.machine c.args.entries.now c.args.cpu c.of-now.result c.last_end-from.result c.tick_of-tick.result c.begin-running.result c.begin-running.new.self s2 e =
     record {
-      at_due = (c.of-now.ensures ∙ c.requires.dues c.args.cpu c.requires.ready.exists);
+      at_due = (c.of-now.ensures ∙ c.requires.after.nexts c.args.cpu c.requires.ready.exists);
       from_end = c.last_end-from.ensures.same;
       ran = c.begin-running.ensures.running;
       begun = c.begin-running.ensures.same;
-      ticked = c.self.view_is ∙ c.begin_tick-commanded.ensures.same;
+      ticked = c.begin_tick-commanded.ensures.same;
       entry = c.bill_of-e.ensures.same;
       begins = c.bill_of-e.ensures.from;
       ends = c.bill_of-e.ensures.to;
       at_tick = c.tick_of-tick.ensures.same;
     } in
-    let before = subst (λ (u : SchedulerState). Counts u.shape c.args.entries.now (c.of-now.result / c.begin-running.new.self.shape.tick) c.begin_tick-commanded.new.window) (sym c.self.view_is) c.begin_tick-commanded.ensures.counts in
-    let with_bill = c.add_time.ensures.counts c.args.entries.now (c.of-now.result / c.begin-running.new.self.shape.tick) before in
-    let spent : c.bill.new.self.shape ≡ s2.shape = spent_shape c.begin_tick-commanded.new.self e c.begin-running.result c.bill.new.self c.bill.ensures ∙ ap (λ (u : SchedulerState). u.shape) (sym c.self.view_is) in
+    let before = c.begin_tick-commanded.ensures.counts in
+    let with_bill =
+    counted_as s2.shape c.shape.result.now c.args.entries.now (c.of-now.result / c.begin-running.new.self.shape.tick) c.begin_tick-commanded.new.window c.add_time.new.window e c.shape.ensures.same
+    c.add_time.ensures.counts before in
+    let spent : c.bill.new.self.shape ≡ s2.shape = spent_shape c.begin_tick-commanded.new.self e c.begin-running.result c.bill.new.self c.bill.ensures in
     let tested = tested_shape c.bill.new.self c.args.entries.now e c.test-reboot.new.self c.test-reboot.result c.test-reboot.ensures in
-    counts_left c.args.scenario.now c.args.self.now c.args.entries.now c.args.cpu c.of-now.result c.last_end-from.result c.tick_of-tick.result c.begin-running.result c.begin-running.new.self s2 e c.add_time.new.window
+    counts_left c.args.scenario.now c.args.self.now.machine c.args.entries.now c.args.cpu c.of-now.result c.last_end-from.result c.tick_of-tick.result c.begin-running.result c.begin-running.new.self s2 e c.add_time.new.window
     c.requires.ready b with_bill c.test-reboot.new.self e (tested ∙ spent) (own_bill e)
 
 pub settle-done-requires-clause-room : goal.settle-done-requires-clause-room
 settle-done-requires-clause-room c =
-    room_after c.args.scenario.now c.args.self.now c.args.entries.now c.args.cpu c.of-now.result c.begin-running.result c.bill_of-e.result c.test-reboot.new.self c.test-reboot.result
-    (tested_by c.args.scenario.now c.args.self.now c.args.entries.now c.args.cpu _ _ _ _ _ _ _ _ _
-    (c.of-now.ensures ∙ c.requires.dues c.args.cpu c.requires.ready.exists) c.last_end-from.ensures.same c.begin-running.ensures.running c.begin-running.ensures.same c.begin_tick-commanded.ensures.same c.bill_of-e.ensures.same c.bill.ensures c.test-reboot.ensures)
+    room_after c.args.scenario.now c.args.self.now.machine c.args.entries.now c.args.cpu c.of-now.result c.begin-running.result c.bill_of-e.result c.test-reboot.new.self c.test-reboot.result
+    (tested_by c.args.scenario.now c.args.self.now.machine c.args.entries.now c.args.cpu _ _ _ _ _ _ _ _ _
+    (c.of-now.ensures ∙ c.requires.after.nexts c.args.cpu c.requires.ready.exists) c.last_end-from.ensures.same c.begin-running.ensures.running c.begin-running.ensures.same c.begin_tick-commanded.ensures.same c.bill_of-e.ensures.same c.bill.ensures c.test-reboot.ensures)
     c.requires.ready.room
 
 pub pick-requires-clause-stands : goal.pick-requires-clause-stands
 pick-requires-clause-stands c =
-    let s2 = state_of c.self.inside in
+    let s2 = c.begin_tick-commanded.new.self in
     let e = c.bill_of-e.result in
-    let b : IsBilling c.args.scenario.now c.args.self.now c.args.entries.now c.args.cpu c.of-now.result c.last_end-from.result c.tick_of-tick.result c.begin-running.result c.begin-running.new.self s2 e =
+    let b : IsBilling c.args.scenario.now c.args.self.now.machine c.args.entries.now c.args.cpu c.of-now.result c.last_end-from.result c.tick_of-tick.result c.begin-running.result c.begin-running.new.self s2 e =
     record {
-      at_due = (c.of-now.ensures ∙ c.requires.dues c.args.cpu c.requires.ready.exists);
+      at_due = (c.of-now.ensures ∙ c.requires.after.nexts c.args.cpu c.requires.ready.exists);
       from_end = c.last_end-from.ensures.same;
       ran = c.begin-running.ensures.running;
       begun = c.begin-running.ensures.same;
-      ticked = c.self.view_is ∙ c.begin_tick-commanded.ensures.same;
+      ticked = c.begin_tick-commanded.ensures.same;
       entry = c.bill_of-e.ensures.same;
       begins = c.bill_of-e.ensures.from;
       ends = c.bill_of-e.ensures.to;
       at_tick = c.tick_of-tick.ensures.same;
     } in
-    let before = subst (λ (u : SchedulerState). Counts u.shape c.args.entries.now (c.of-now.result / c.begin-running.new.self.shape.tick) c.begin_tick-commanded.new.window) (sym c.self.view_is) c.begin_tick-commanded.ensures.counts in
-    let with_bill = c.add_time.ensures.counts c.args.entries.now (c.of-now.result / c.begin-running.new.self.shape.tick) before in
-    let spent : c.bill.new.self.shape ≡ s2.shape = spent_shape c.begin_tick-commanded.new.self e c.begin-running.result c.bill.new.self c.bill.ensures ∙ ap (λ (u : SchedulerState). u.shape) (sym c.self.view_is) in
+    let before = c.begin_tick-commanded.ensures.counts in
+    let with_bill =
+    counted_as s2.shape c.shape.result.now c.args.entries.now (c.of-now.result / c.begin-running.new.self.shape.tick) c.begin_tick-commanded.new.window c.add_time.new.window e c.shape.ensures.same
+    c.add_time.ensures.counts before in
+    let spent : c.bill.new.self.shape ≡ s2.shape = spent_shape c.begin_tick-commanded.new.self e c.begin-running.result c.bill.new.self c.bill.ensures in
     let tested = tested_shape c.bill.new.self c.args.entries.now e c.test-reboot.new.self c.test-reboot.result c.test-reboot.ensures in
     let settled = settled_shape c.args.scenario.now c.test-reboot.new.self c.of-now.result c.begin-running.result _ c.settle-done.ensures in
     let e' = record e { done = c.settle-done.result } in
     let s4 = c.settle-done.new.self in
     let left = settled_kept c.args.scenario.now c.test-reboot.new.self c.of-now.result c.begin-running.result in
     let counts : Counts s4.shape (c.args.entries.now ++ e' ∷ []) (e'.to / s4.shape.tick) c.add_time.new.window =
-    counts_left c.args.scenario.now c.args.self.now c.args.entries.now c.args.cpu c.of-now.result c.last_end-from.result c.tick_of-tick.result c.begin-running.result c.begin-running.new.self s2 e c.add_time.new.window
+    counts_left c.args.scenario.now c.args.self.now.machine c.args.entries.now c.args.cpu c.of-now.result c.last_end-from.result c.tick_of-tick.result c.begin-running.result c.begin-running.new.self s2 e c.add_time.new.window
     c.requires.ready b with_bill c.settle-done.new.self (record e { done = c.settle-done.result }) (settled ∙ tested ∙ spent) (done_bill e c.settle-done.result) in
     let rows : s4.rows ≡ c.test-reboot.new.self.rows = sym (ap (λ (x : Effect). x.state.rows) c.settle-done.ensures) ∙ left.rows in
     c.stand_by.ensures.same
@@ -241,52 +252,54 @@ returns-clause-pending c =
 
 pub returns-clause-counts : goal.returns-clause-counts
 returns-clause-counts c =
-    let s2 = state_of c.self.inside in
+    let s2 = c.begin_tick-commanded.new.self in
     let e = c.bill_of-e.result in
-    let b : IsBilling c.args.scenario.now c.args.self.now c.args.entries.now c.args.cpu c.of-now.result c.last_end-from.result c.tick_of-tick.result c.begin-running.result c.begin-running.new.self s2 e =
+    let b : IsBilling c.args.scenario.now c.args.self.now.machine c.args.entries.now c.args.cpu c.of-now.result c.last_end-from.result c.tick_of-tick.result c.begin-running.result c.begin-running.new.self s2 e =
     record {
-      at_due = (c.of-now.ensures ∙ c.requires.dues c.args.cpu c.requires.ready.exists);
+      at_due = (c.of-now.ensures ∙ c.requires.after.nexts c.args.cpu c.requires.ready.exists);
       from_end = c.last_end-from.ensures.same;
       ran = c.begin-running.ensures.running;
       begun = c.begin-running.ensures.same;
-      ticked = c.self.view_is ∙ c.begin_tick-commanded.ensures.same;
+      ticked = c.begin_tick-commanded.ensures.same;
       entry = c.bill_of-e.ensures.same;
       begins = c.bill_of-e.ensures.from;
       ends = c.bill_of-e.ensures.to;
       at_tick = c.tick_of-tick.ensures.same;
     } in
-    let before = subst (λ (u : SchedulerState). Counts u.shape c.args.entries.now (c.of-now.result / c.begin-running.new.self.shape.tick) c.begin_tick-commanded.new.window) (sym c.self.view_is) c.begin_tick-commanded.ensures.counts in
-    let with_bill = c.add_time.ensures.counts c.args.entries.now (c.of-now.result / c.begin-running.new.self.shape.tick) before in
-    let spent : c.bill.new.self.shape ≡ s2.shape = spent_shape c.begin_tick-commanded.new.self e c.begin-running.result c.bill.new.self c.bill.ensures ∙ ap (λ (u : SchedulerState). u.shape) (sym c.self.view_is) in
+    let before = c.begin_tick-commanded.ensures.counts in
+    let with_bill =
+    counted_as s2.shape c.shape.result.now c.args.entries.now (c.of-now.result / c.begin-running.new.self.shape.tick) c.begin_tick-commanded.new.window c.add_time.new.window e c.shape.ensures.same
+    c.add_time.ensures.counts before in
+    let spent : c.bill.new.self.shape ≡ s2.shape = spent_shape c.begin_tick-commanded.new.self e c.begin-running.result c.bill.new.self c.bill.ensures in
     let tested = tested_shape c.bill.new.self c.args.entries.now e c.test-reboot.new.self c.test-reboot.result c.test-reboot.ensures in
     let settled = settled_shape c.args.scenario.now c.test-reboot.new.self c.of-now.result c.begin-running.result _ c.settle-done.ensures in
-    counts_left c.args.scenario.now c.args.self.now c.args.entries.now c.args.cpu c.of-now.result c.last_end-from.result c.tick_of-tick.result c.begin-running.result c.begin-running.new.self s2 e c.add_time.new.window
+    counts_left c.args.scenario.now c.args.self.now.machine c.args.entries.now c.args.cpu c.of-now.result c.last_end-from.result c.tick_of-tick.result c.begin-running.result c.begin-running.new.self s2 e c.add_time.new.window
     c.requires.ready b with_bill c.pick.new.self c.pick.new.e (c.pick.ensures.kept.shape ∙ settled ∙ tested ∙ spent) (picked_bill c.settle-done.new.self c.args.entries.now c.args.cpu c.bill_of-e.result.to c.bill_of-e.result c.settle-done.result _ c.pick.ensures.same)
 
 pub pick-requires-clause-dues : goal.pick-requires-clause-dues
 pick-requires-clause-dues c =
-    let s = c.args.self.now in
+    let s = c.args.self.now.machine in
     let h = c.args.entries.now in
     let before =
     settled_is c.args.scenario.now s h c.args.cpu c.of-now.result c.begin-running.result c.bill_of-e.result c.test-reboot.new.self c.test-reboot.result _
     (tested_by c.args.scenario.now s h c.args.cpu _ _ _ _ _ _ _ _ _
-    (c.of-now.ensures ∙ c.requires.dues c.args.cpu c.requires.ready.exists) c.last_end-from.ensures.same c.begin-running.ensures.running c.begin-running.ensures.same c.begin_tick-commanded.ensures.same c.bill_of-e.ensures.same c.bill.ensures c.test-reboot.ensures)
+    (c.of-now.ensures ∙ c.requires.after.nexts c.args.cpu c.requires.ready.exists) c.last_end-from.ensures.same c.begin-running.ensures.running c.begin-running.ensures.same c.begin_tick-commanded.ensures.same c.bill_of-e.ensures.same c.bill.ensures c.test-reboot.ensures)
     c.settle-done.ensures in
     λ d inside ne.
     let there = ap (λ (u : SchedulerState). length u.cpus) before in
-    c.requires.dues d (omega (arith, inside, there, c.requires.ready.counted)) ∙ sym (c.requires.ready.others d ne) ∙ ap (λ (u : SchedulerState). due u h d) (sym before)
+    c.requires.after.nexts d (omega (arith, inside, there, c.requires.ready.counted)) ∙ sym (c.requires.ready.others d ne) ∙ ap (λ (u : SchedulerState). due u h d) (sym before)
 
 pub pick-requires-clause-spare : goal.pick-requires-clause-spare
 pick-requires-clause-spare c d past =
-    let s = c.args.self.now in
+    let s = c.args.self.now.machine in
     let h = c.args.entries.now in
     let before =
     settled_is c.args.scenario.now s h c.args.cpu c.of-now.result c.begin-running.result c.bill_of-e.result c.test-reboot.new.self c.test-reboot.result _
     (tested_by c.args.scenario.now s h c.args.cpu _ _ _ _ _ _ _ _ _
-    (c.of-now.ensures ∙ c.requires.dues c.args.cpu c.requires.ready.exists) c.last_end-from.ensures.same c.begin-running.ensures.running c.begin-running.ensures.same c.begin_tick-commanded.ensures.same c.bill_of-e.ensures.same c.bill.ensures c.test-reboot.ensures)
+    (c.of-now.ensures ∙ c.requires.after.nexts c.args.cpu c.requires.ready.exists) c.last_end-from.ensures.same c.begin-running.ensures.running c.begin-running.ensures.same c.begin_tick-commanded.ensures.same c.bill_of-e.ensures.same c.bill.ensures c.test-reboot.ensures)
     c.settle-done.ensures in
     let there = ap (λ (u : SchedulerState). length u.cpus) before in
-    c.requires.spare d (omega (arith, past, there, c.requires.ready.counted))
+    c.requires.after.spare d (omega (arith, past, there, c.requires.ready.counted))
 
 pub returns-then-is_over-clause-flagged : goal.returns-then-is_over-clause-flagged
 returns-then-is_over-clause-flagged c =
@@ -299,19 +312,19 @@ returns-then-is_over-clause-flagged c =
 pub sync_all-requires-clause-count : goal.sync_all-requires-clause-count
 sync_all-requires-clause-count c =
     let b =
-    tested_by c.args.scenario.now c.args.self.now c.args.entries.now c.args.cpu _ _ _ _ _ _ _ _ _
-    (c.of-now.ensures ∙ c.requires.dues c.args.cpu c.requires.ready.exists) c.last_end-from.ensures.same c.begin-running.ensures.running c.begin-running.ensures.same c.begin_tick-commanded.ensures.same c.bill_of-e.ensures.same c.bill.ensures c.test-reboot.ensures in
-    ap length c.requires.seats ∙ seats_count c.args.self.now ∙ sym c.requires.ready.count_billed
-    ∙ ap (λ (s : SchedulerState). length s.threads) (sym (billed_by c.args.scenario.now c.args.self.now c.args.entries.now c.args.cpu _ _ _ _ _ b))
+    tested_by c.args.scenario.now c.args.self.now.machine c.args.entries.now c.args.cpu _ _ _ _ _ _ _ _ _
+    (c.of-now.ensures ∙ c.requires.after.nexts c.args.cpu c.requires.ready.exists) c.last_end-from.ensures.same c.begin-running.ensures.running c.begin-running.ensures.same c.begin_tick-commanded.ensures.same c.bill_of-e.ensures.same c.bill.ensures c.test-reboot.ensures in
+    ap length c.requires.after.seats ∙ seats_count c.args.self.now.machine ∙ sym c.requires.ready.count_billed
+    ∙ ap (λ (s : SchedulerState). length s.threads) (sym (billed_by c.args.scenario.now c.args.self.now.machine c.args.entries.now c.args.cpu _ _ _ _ _ b))
 
 pub sync-requires-clause-count : goal.sync-requires-clause-count
 sync-requires-clause-count c =
     let b =
-    tested_by c.args.scenario.now c.args.self.now c.args.entries.now c.args.cpu _ _ _ _ _ _ _ _ _
-    (c.of-now.ensures ∙ c.requires.dues c.args.cpu c.requires.ready.exists) c.last_end-from.ensures.same c.begin-running.ensures.running c.begin-running.ensures.same c.begin_tick-commanded.ensures.same c.bill_of-e.ensures.same c.bill.ensures c.test-reboot.ensures in
-    ap length c.requires.seats ∙ seats_count c.args.self.now ∙ sym c.requires.ready.count_settled
+    tested_by c.args.scenario.now c.args.self.now.machine c.args.entries.now c.args.cpu _ _ _ _ _ _ _ _ _
+    (c.of-now.ensures ∙ c.requires.after.nexts c.args.cpu c.requires.ready.exists) c.last_end-from.ensures.same c.begin-running.ensures.running c.begin-running.ensures.same c.begin_tick-commanded.ensures.same c.bill_of-e.ensures.same c.bill.ensures c.test-reboot.ensures in
+    ap length c.requires.after.seats ∙ seats_count c.args.self.now.machine ∙ sym c.requires.ready.count_settled
     ∙ ap (λ (s : SchedulerState). length s.threads)
-    (sym (settled_by c.args.scenario.now c.args.self.now c.args.entries.now c.args.cpu _ _ _ _ _ _ b c.settle-done.ensures))
+    (sym (settled_by c.args.scenario.now c.args.self.now.machine c.args.entries.now c.args.cpu _ _ _ _ _ _ b c.settle-done.ensures))
 
 -- who ran is told by the entry
 ran : (c from now : ℕ) (running : Option Pick) → (bill_of c from now running).ran ≡ option_map (λ (p : Pick). p.thread) running
@@ -321,13 +334,13 @@ ran c from now (Some p) = refl
 pub sync-requires-clause-tied : goal.sync-requires-clause-tied
 sync-requires-clause-tied c idle calm y apart =
     let b =
-    tested_by c.args.scenario.now c.args.self.now c.args.entries.now c.args.cpu _ _ _ _ _ _ _ _ _
-    (c.of-now.ensures ∙ c.requires.dues c.args.cpu c.requires.ready.exists) c.last_end-from.ensures.same c.begin-running.ensures.running c.begin-running.ensures.same c.begin_tick-commanded.ensures.same c.bill_of-e.ensures.same c.bill.ensures c.test-reboot.ensures in
-    let billed = billed_by c.args.scenario.now c.args.self.now c.args.entries.now c.args.cpu _ _ _ _ _ b in
+    tested_by c.args.scenario.now c.args.self.now.machine c.args.entries.now c.args.cpu _ _ _ _ _ _ _ _ _
+    (c.of-now.ensures ∙ c.requires.after.nexts c.args.cpu c.requires.ready.exists) c.last_end-from.ensures.same c.begin-running.ensures.running c.begin-running.ensures.same c.begin_tick-commanded.ensures.same c.bill_of-e.ensures.same c.bill.ensures c.test-reboot.ensures in
+    let billed = billed_by c.args.scenario.now c.args.self.now.machine c.args.entries.now c.args.cpu _ _ _ _ _ b in
     let own : c.bill_of-e.result.ran ≡ option_map (λ (p : Pick). p.thread) c.begin-running.result =
     ap (λ (e : Entry). e.ran) c.bill_of-e.ensures.same ∙ ran c.args.cpu c.last_end-from.result c.of-now.result c.begin-running.result in
-    ap (λ (l : List (Option Contender)). who_at l y) c.requires.seats ∙ who_seats c.args.self.now y
-    ∙ sym (step_seat c.args.scenario.now c.args.self.now c.args.entries.now c.args.cpu c.of-now.result y _ c.begin-running.result c.bill_of-e.result _ _ _ _ c.test-reboot.result
+    ap (λ (l : List (Option Contender)). who_at l y) c.requires.after.seats ∙ who_seats c.args.self.now.machine y
+    ∙ sym (step_seat c.args.scenario.now c.args.self.now.machine c.args.entries.now c.args.cpu c.of-now.result y _ c.begin-running.result c.bill_of-e.result _ _ _ _ c.test-reboot.result
     (record { state = c.settle-done.new.self; done = c.settle-done.result }) c.begin_tick-commanded.new.woken
     c.begin-running.ensures.same (c.begin_tick-commanded.ensures.idle idle y) c.bill.ensures c.test-reboot.ensures c.settle-done.ensures
     (λ p runs. subst (λ (s : SchedulerState). IsNobodysClient s.triples p.thread) (sym billed) (c.requires.ready.free_billed p (sym c.begin-running.ensures.running ∙ runs)))
@@ -338,9 +351,9 @@ pub sync-requires-clause-out : goal.sync-requires-clause-out
 sync-requires-clause-out c y own =
     let who : c.bill_of-e.result.ran ≡ option_map (λ (p : Pick). p.thread) c.begin-running.result =
     ap (λ (e : Entry). e.ran) c.bill_of-e.ensures.same ∙ ran c.args.cpu c.last_end-from.result c.of-now.result c.begin-running.result in
-    ap (λ (l : List (Option Contender)). who_at l y) c.requires.seats
-    ∙ who_seats c.args.self.now y
-    ∙ running_out c.args.self.now c.args.cpu y c.begin-running.result c.requires.ready.runs (sym c.begin-running.ensures.running) (sym who ∙ own)
+    ap (λ (l : List (Option Contender)). who_at l y) c.requires.after.seats
+    ∙ who_seats c.args.self.now.machine y
+    ∙ running_out c.args.self.now.machine c.args.cpu y c.begin-running.result c.requires.ready.runs (sym c.begin-running.ensures.running) (sym who ∙ own)
 
 -- ---- how the partitions stand, and what a calm step leaves
 
@@ -351,17 +364,17 @@ pub stand_by-requires : goal.stand_by-requires
 stand_by-requires c still =
     let calm = neither c.go_on-is_later.result (c.begin_tick-commanded.result || nat_lt c.change_count-changes.result c.change_count.result) still in
     let both = neither c.begin_tick-commanded.result (nat_lt c.change_count-changes.result c.change_count.result) calm.1 in
-    let kept = calm_kept c.args.self.now c.args.entries.now c.args.cpu c.begin-running.result c.begin-running.new.self c.begin_tick-commanded.new.self c.bill.new.self c.test-reboot.new.self c.bill_of-e.result c.test-reboot.result
+    let kept = calm_kept c.args.self.now.machine c.args.entries.now c.args.cpu c.begin-running.result c.begin-running.new.self c.begin_tick-commanded.new.self c.bill.new.self c.test-reboot.new.self c.bill_of-e.result c.test-reboot.result
     c.begin-running.ensures.same (c.begin_tick-commanded.ensures.kept both.0) c.bill.ensures c.test-reboot.ensures
     (none_recorded c.change_count-changes.result c.change_count.result c.bill.new.self c.test-reboot.new.self c.change_count-changes.ensures c.change_count.ensures both.1) in
-    others_stand c.bill_of-e.result.billed c.args.self.now.shape c.test-reboot.new.self.shape c.args.self.now.rows c.test-reboot.new.self.rows c.args.window.now c.add_time.new.window c.args.standing.now
-    c.requires.stands kept.shape kept.rows
+    others_stand c.bill_of-e.result.billed c.args.self.now.machine.shape c.test-reboot.new.self.shape c.args.self.now.machine.rows c.test-reboot.new.self.rows c.args.self.now.window c.add_time.new.window c.args.self.now.standing
+    c.requires.after.stands kept.shape kept.rows
     (λ p apart. c.add_time.ensures.others p apart ∙ ap (λ (w : Window). total_of w p) (c.begin_tick-commanded.ensures.window both.0 ∙ c.go_on-is_later.ensures.stays calm.0))
 
 pub returns-then-is_over-clause-kept : goal.returns-then-is_over-clause-kept
 returns-then-is_over-clause-kept c calm =
     let both = neither c.begin_tick-commanded.result (nat_lt c.change_count-changes.result c.change_count.result) calm in
-    calm_kept c.args.self.now c.args.entries.now c.args.cpu c.begin-running.result c.begin-running.new.self c.begin_tick-commanded.new.self c.bill.new.self c.test-reboot.new.self c.bill_of-e.result c.test-reboot.result
+    calm_kept c.args.self.now.machine c.args.entries.now c.args.cpu c.begin-running.result c.begin-running.new.self c.begin_tick-commanded.new.self c.bill.new.self c.test-reboot.new.self c.bill_of-e.result c.test-reboot.result
     c.begin-running.ensures.same (c.begin_tick-commanded.ensures.kept both.0) c.bill.ensures c.test-reboot.ensures
     (none_recorded c.change_count-changes.result c.change_count.result c.bill.new.self c.test-reboot.new.self c.change_count-changes.ensures c.change_count.ensures both.1)
 
@@ -371,7 +384,7 @@ returns-clause-kept c calm =
     let settled : IsKept c.test-reboot.new.self c.settle-done.new.self =
     subst (λ (x : Effect). IsKept c.test-reboot.new.self x.state) c.settle-done.ensures (settled_kept c.args.scenario.now c.test-reboot.new.self c.of-now.result c.begin-running.result) in
     kept_then
-    (calm_kept c.args.self.now c.args.entries.now c.args.cpu c.begin-running.result c.begin-running.new.self c.begin_tick-commanded.new.self c.bill.new.self c.test-reboot.new.self c.bill_of-e.result c.test-reboot.result
+    (calm_kept c.args.self.now.machine c.args.entries.now c.args.cpu c.begin-running.result c.begin-running.new.self c.begin_tick-commanded.new.self c.bill.new.self c.test-reboot.new.self c.bill_of-e.result c.test-reboot.result
     c.begin-running.ensures.same (c.begin_tick-commanded.ensures.kept both.0) c.bill.ensures c.test-reboot.ensures
     (none_recorded c.change_count-changes.result c.change_count.result c.bill.new.self c.test-reboot.new.self c.change_count-changes.ensures c.change_count.ensures both.1))
     (kept_then settled c.pick.ensures.kept)
@@ -386,47 +399,47 @@ returns-clause-stands c =
 pub returns-then-is_over-clause-same : goal.returns-then-is_over-clause-same
 returns-then-is_over-clause-same c =
     let b =
-    tested_by c.args.scenario.now c.args.self.now c.args.entries.now c.args.cpu _ _ _ _ _ _ _ _ _
-    (c.of-now.ensures ∙ c.requires.dues c.args.cpu c.requires.ready.exists) c.last_end-from.ensures.same c.begin-running.ensures.running c.begin-running.ensures.same c.begin_tick-commanded.ensures.same c.bill_of-e.ensures.same c.bill.ensures c.test-reboot.ensures in
+    tested_by c.args.scenario.now c.args.self.now.machine c.args.entries.now c.args.cpu _ _ _ _ _ _ _ _ _
+    (c.of-now.ensures ∙ c.requires.after.nexts c.args.cpu c.requires.ready.exists) c.last_end-from.ensures.same c.begin-running.ensures.running c.begin-running.ensures.same c.begin_tick-commanded.ensures.same c.bill_of-e.ensures.same c.bill.ensures c.test-reboot.ensures in
     elim (c.is_over.ensures.over c.if-is_over.true) [
-      | inl rebooted ↦ step_over c.args.scenario.now c.args.self.now c.args.entries.now c.args.cpu _ _ _ _ c.test-reboot.result b rebooted
+      | inl rebooted ↦ step_over c.args.scenario.now c.args.self.now.machine c.args.entries.now c.args.cpu _ _ _ _ c.test-reboot.result b rebooted
       | inr end ↦
-          step_at_horizon c.args.scenario.now c.args.self.now c.args.entries.now c.args.cpu _ _ _ _ c.test-reboot.result b end.0 end.1
+          step_at_horizon c.args.scenario.now c.args.self.now.machine c.args.entries.now c.args.cpu _ _ _ _ c.test-reboot.result b end.0 end.1
           ∙ ap (λ (o : Option ℕ). record { entry = c.bill_of-e.result; state = c.test-reboot.new.self; reboot = o }) (sym end.0)
     ]
 
 pub settle-done-requires-clause-now : goal.settle-done-requires-clause-now
-settle-done-requires-clause-now c = rw (c.of-now.ensures ∙ c.requires.dues c.args.cpu c.requires.ready.exists) c.requires.ready.early
+settle-done-requires-clause-now c = rw (c.of-now.ensures ∙ c.requires.after.nexts c.args.cpu c.requires.ready.exists) c.requires.ready.early
 
 pub pick-requires-clause-cpu : goal.pick-requires-clause-cpu
 pick-requires-clause-cpu c =
     let b =
-    tested_by c.args.scenario.now c.args.self.now c.args.entries.now c.args.cpu _ _ _ _ _ _ _ _ _
-    (c.of-now.ensures ∙ c.requires.dues c.args.cpu c.requires.ready.exists) c.last_end-from.ensures.same c.begin-running.ensures.running c.begin-running.ensures.same c.begin_tick-commanded.ensures.same c.bill_of-e.ensures.same c.bill.ensures c.test-reboot.ensures in
-    let before = settled_by c.args.scenario.now c.args.self.now c.args.entries.now c.args.cpu _ _ _ _ _ _ b c.settle-done.ensures in
+    tested_by c.args.scenario.now c.args.self.now.machine c.args.entries.now c.args.cpu _ _ _ _ _ _ _ _ _
+    (c.of-now.ensures ∙ c.requires.after.nexts c.args.cpu c.requires.ready.exists) c.last_end-from.ensures.same c.begin-running.ensures.running c.begin-running.ensures.same c.begin_tick-commanded.ensures.same c.bill_of-e.ensures.same c.bill.ensures c.test-reboot.ensures in
+    let before = settled_by c.args.scenario.now c.args.self.now.machine c.args.entries.now c.args.cpu _ _ _ _ _ _ b c.settle-done.ensures in
     let there = c.requires.ready.exists_settled in
     omega (arith, there, ap (λ (s : SchedulerState). length s.cpus) before)
 
 pub sync_all-requires-clause-stamped : goal.sync_all-requires-clause-stamped
 sync_all-requires-clause-stamped c =
     let b =
-    tested_by c.args.scenario.now c.args.self.now c.args.entries.now c.args.cpu _ _ _ _ _ _ _ _ _
-    (c.of-now.ensures ∙ c.requires.dues c.args.cpu c.requires.ready.exists) c.last_end-from.ensures.same c.begin-running.ensures.running c.begin-running.ensures.same c.begin_tick-commanded.ensures.same c.bill_of-e.ensures.same c.bill.ensures c.test-reboot.ensures in
+    tested_by c.args.scenario.now c.args.self.now.machine c.args.entries.now c.args.cpu _ _ _ _ _ _ _ _ _
+    (c.of-now.ensures ∙ c.requires.after.nexts c.args.cpu c.requires.ready.exists) c.last_end-from.ensures.same c.begin-running.ensures.running c.begin-running.ensures.same c.begin_tick-commanded.ensures.same c.bill_of-e.ensures.same c.bill.ensures c.test-reboot.ensures in
     subst (λ (s : SchedulerState). IsStamped s.threads s.stamps)
-    (sym (billed_by c.args.scenario.now c.args.self.now c.args.entries.now c.args.cpu _ _ _ _ _ b)) c.requires.ready.stamped_billed
+    (sym (billed_by c.args.scenario.now c.args.self.now.machine c.args.entries.now c.args.cpu _ _ _ _ _ b)) c.requires.ready.stamped_billed
 
 pub sync-requires-clause-stamped : goal.sync-requires-clause-stamped
 sync-requires-clause-stamped c =
     let b =
-    tested_by c.args.scenario.now c.args.self.now c.args.entries.now c.args.cpu _ _ _ _ _ _ _ _ _
-    (c.of-now.ensures ∙ c.requires.dues c.args.cpu c.requires.ready.exists) c.last_end-from.ensures.same c.begin-running.ensures.running c.begin-running.ensures.same c.begin_tick-commanded.ensures.same c.bill_of-e.ensures.same c.bill.ensures c.test-reboot.ensures in
+    tested_by c.args.scenario.now c.args.self.now.machine c.args.entries.now c.args.cpu _ _ _ _ _ _ _ _ _
+    (c.of-now.ensures ∙ c.requires.after.nexts c.args.cpu c.requires.ready.exists) c.last_end-from.ensures.same c.begin-running.ensures.running c.begin-running.ensures.same c.begin_tick-commanded.ensures.same c.bill_of-e.ensures.same c.bill.ensures c.test-reboot.ensures in
     subst (λ (s : SchedulerState). IsStamped s.threads s.stamps)
-    (sym (settled_by c.args.scenario.now c.args.self.now c.args.entries.now c.args.cpu _ _ _ _ _ _ b c.settle-done.ensures)) c.requires.ready.stamped_settled
+    (sym (settled_by c.args.scenario.now c.args.self.now.machine c.args.entries.now c.args.cpu _ _ _ _ _ _ b c.settle-done.ensures)) c.requires.ready.stamped_settled
 
 -- ---- the timer
 
 pub begin_tick-commanded-requires-clause-timed : goal.begin_tick-commanded-requires-clause-timed
-begin_tick-commanded-requires-clause-timed c = c.requires.timed ∙ ap sleepers_of (sym c.begin-running.ensures.same)
+begin_tick-commanded-requires-clause-timed c = c.requires.after.timed ∙ ap sleepers_of (sym c.begin-running.ensures.same)
 
 pub returns-then-is_over-clause-timed : goal.returns-then-is_over-clause-timed
 returns-then-is_over-clause-timed c =
@@ -445,9 +458,9 @@ time_done-requires-clause-count c =
 pub time_done-requires-clause-out : goal.time_done-requires-clause-out
 time_done-requires-clause-out c y own =
     let b =
-    tested_by c.args.scenario.now c.args.self.now c.args.entries.now c.args.cpu _ _ _ _ _ _ _ _ _
-    (c.of-now.ensures ∙ c.requires.dues c.args.cpu c.requires.ready.exists) c.last_end-from.ensures.same c.begin-running.ensures.running c.begin-running.ensures.same c.begin_tick-commanded.ensures.same c.bill_of-e.ensures.same c.bill.ensures c.test-reboot.ensures in
-    let billed = billed_by c.args.scenario.now c.args.self.now c.args.entries.now c.args.cpu _ _ _ _ _ b in
+    tested_by c.args.scenario.now c.args.self.now.machine c.args.entries.now c.args.cpu _ _ _ _ _ _ _ _ _
+    (c.of-now.ensures ∙ c.requires.after.nexts c.args.cpu c.requires.ready.exists) c.last_end-from.ensures.same c.begin-running.ensures.running c.begin-running.ensures.same c.begin_tick-commanded.ensures.same c.bill_of-e.ensures.same c.bill.ensures c.test-reboot.ensures in
+    let billed = billed_by c.args.scenario.now c.args.self.now.machine c.args.entries.now c.args.cpu _ _ _ _ _ b in
     let who : c.bill_of-e.result.ran ≡ option_map (λ (p : Pick). p.thread) c.begin-running.result =
     ap (λ (e : Entry). e.ran) c.bill_of-e.ensures.same ∙ ran c.args.cpu c.last_end-from.result c.of-now.result c.begin-running.result in
     let timed =
@@ -475,14 +488,14 @@ returns-clause-timed c =
 
 pub post_others-requires : goal.post_others-requires
 post_others-requires c idle alone =
-    let s = c.args.self.now in
+    let s = c.args.self.now.machine in
     let h = c.args.entries.now in
     let b =
     tested_by c.args.scenario.now s h c.args.cpu _ _ _ _ _ _ _ _ _
-    (c.of-now.ensures ∙ c.requires.dues c.args.cpu c.requires.ready.exists) c.last_end-from.ensures.same c.begin-running.ensures.running c.begin-running.ensures.same c.begin_tick-commanded.ensures.same c.bill_of-e.ensures.same c.bill.ensures c.test-reboot.ensures in
+    (c.of-now.ensures ∙ c.requires.after.nexts c.args.cpu c.requires.ready.exists) c.last_end-from.ensures.same c.begin-running.ensures.running c.begin-running.ensures.same c.begin_tick-commanded.ensures.same c.bill_of-e.ensures.same c.bill.ensures c.test-reboot.ensures in
     let billed = billed_by c.args.scenario.now s h c.args.cpu _ _ _ _ _ b in
     let before = settled_is c.args.scenario.now s h c.args.cpu c.of-now.result c.begin-running.result c.bill_of-e.result c.test-reboot.new.self c.test-reboot.result _ b c.settle-done.ensures in
-    posts_stay s c.settle-done.new.self c.args.cpu c.args.posts.now
+    posts_stay s c.settle-done.new.self c.args.cpu c.args.self.now.posts
     (ap (λ (u : SchedulerState). length u.cpus) before ∙ c.requires.ready.counted)
     (λ d ne. ap (λ (u : SchedulerState). cpu_at u d) before ∙ c.requires.ready.same_cpu d ne)
     (λ d q ne other.
@@ -492,4 +505,4 @@ post_others-requires c idle alone =
     (λ p runs. subst (λ (u : SchedulerState). IsNobodysClient u.triples p.thread) (sym billed) (c.requires.ready.free_billed p (sym c.begin-running.ensures.running ∙ runs)))
     (λ p runs. runs_apart s c.args.cpu d p q c.requires.ready.runs ne (sym c.begin-running.ensures.running ∙ runs) other)
     alone)
-    (λ d inside ne. c.requires.posts d inside)
+    (λ d inside ne. c.requires.after.posted d inside)

@@ -1,0 +1,28 @@
+-- What stands in a scheduler from step to step.
+use Rattle.std.specs.Prelude.{◌≡◌, ◌/◌, List}
+use Rattle.aps_model.specs.declared.entry.Entry.{Entry}
+use Rattle.aps_model.specs.Scenario.{Scenario}
+use Rattle.aps_laws.specs.Moments.{moment}
+use Rattle.aps_core.specs.declared.scheduler.Scheduler.{Scheduler}
+use Rattle.aps_core.specs.Counts.{Counts, parts_in}
+use Rattle.aps_core.specs.LastEnds.{AreEnds}
+use Rattle.aps_core.specs.NextDues.{AreDues, AreSpare}
+use Rattle.aps_core.specs.Pending.{IsPending}
+use Rattle.aps_core.specs.Posts.{ArePosts}
+use Rattle.aps_core.specs.Seats.{seats_of}
+use Rattle.aps_core.specs.Sleepers.{sleepers_of}
+
+-- what stands beside the machine goes by its state and these entries: the commands are still to come whose ticks no entry has
+-- begun, in the queues are the ready threads and in the timer the sleeping ones, what each processor runs is kept, the ends and
+-- the dues that it keeps are those of the entries, its window has counted these up to the tick of the last one's end, and its
+-- partitions stand by their rows and that window
+pub record IsSchedulerAfter (scenario : Scenario) (h : List Entry) (s : Scheduler) : Type 0 where
+  pub pending : IsPending scenario s.machine.shape.tick h s.ctl
+  pub seats : s.ready ≡ seats_of s.machine
+  pub timed : s.timer ≡ sleepers_of s.machine
+  pub lasts : AreEnds h s.ends
+  pub counts : Counts s.machine.shape h (moment h / s.machine.shape.tick) s.window
+  pub nexts : AreDues s.machine h s.dues
+  pub spare : AreSpare s.machine s.dues
+  pub posted : ArePosts s.machine s.posts
+  pub stands : s.standing ≡ parts_in s.machine.shape s.machine.rows s.window
