@@ -8,13 +8,15 @@
 
 first_start_folder=$root/.start
 
-# How many seconds a first build takes on four free cores, by which the rest is guessed.
+# How many seconds a first build takes on four free cores of a slow machine. The rest is guessed by these, and by how long what is
+# built so far took beside them.
 declare -A usual_seconds=(
     [aps_model]=130 [aps_io]=90 [aps_laws]=35 [aps_bound_laws]=25 [aps_load_laws]=35 [aps_bound]=110 [aps_merit]=20 [aps_ticks]=30
     [aps_levels]=60 [aps_channel]=130 [aps_inherit]=145 [aps_ready]=145 [aps_window]=75 [aps_critical]=25 [aps_timer]=105 [aps_tasks]=110 [aps_tree]=85 [aps_ctl]=65 [aps_core]=400 [aps_lock]=225 [aps_cpu]=130 [aps_words]=260 [aps_scenario]=505 [aps_text]=195
     [aps_report]=255 [aps_hints]=135 [aps_samples]=200 [aps_latency]=170 [aps_explain]=240 [aps_view_words]=130 [aps_gen]=60 [aps_admit]=60 [aps_check]=175 [aps_steps]=30 [aps_lives]=170 [aps_shares]=130 [aps_bars]=100 [aps_svg]=100 [aps_pictures]=150 [aps_timeline]=150 [aps_traces]=190 [aps_waves]=400 [aps_view]=200 [apsview]=40 [aps_top]=230 [apsim]=260
 )
 declare -A crates_below=() chain_seconds=() build_of=() begun_at=()
+usual_so_far=0 taken_so_far=0
 
 say() { printf '%s: %s\n' "$first_start_program" "$*" >&2; }
 
@@ -184,16 +186,30 @@ in_minutes() {
     if (($1 < 60)); then printf '%d s' "$1"; else printf '%d min %02d s' $(($1 / 60)) $(($1 % 60)); fi
 }
 
+# Takes note of how long a finished build took, and how long it takes usually. One that an earlier start had done, or nearly, tells
+# nothing of the machine.
+note_time() {
+    local usual=${usual_seconds[$1]:-60} taken=$((SECONDS - begun_at[$1]))
+    ((taken * 6 >= usual)) || return 0
+    usual_so_far=$((usual_so_far + usual))
+    taken_so_far=$((taken_so_far + taken))
+}
+
+# The seconds that this machine takes for so many usual ones, once two minutes of these are done.
+by_this_machine() {
+    if ((usual_so_far < 120)); then echo "$1"; else echo $(($1 * taken_so_far / usual_so_far)); fi
+}
+
 # About how long the rest takes: no less than its longest chain, and than all of it on as many builds.
 seconds_left() {
     local name spent rest=0 longest=0 one chain
     for name in "${left[@]}" "${!build_of[@]}"; do
         spent=0
         [ -n "${begun_at[$name]+begun}" ] && spent=$((SECONDS - begun_at[$name]))
-        one=$((${usual_seconds[$name]:-60} - spent))
+        one=$(($(by_this_machine "${usual_seconds[$name]:-60}") - spent))
         ((one >= 5)) || one=5
         rest=$((rest + one))
-        chain=$((chain_seconds[$name] - spent))
+        chain=$(($(by_this_machine "${chain_seconds[$name]}") - spent))
         ((chain <= longest)) || longest=$chain
     done
     rest=$((rest * 2 / (builds + 1)))
@@ -227,6 +243,7 @@ gather() {
                 say "the build of $name failed"
                 stop_builds
             fi
+            note_time "$name"
             touch "$first_start_folder/$name.done"
             finished=$((finished + 1))
         fi

@@ -5,6 +5,7 @@ use Rattle.aps_model.specs.declared.state.Pick.{Pick}
 use Rattle.std.specs.Option.{option_map}
 use Rattle.std.proofs.lemmas.Bool.{cases_eq, cases_lt}
 use Rattle.std.proofs.lemmas.List.{drop_more, ext_get_or, get_or_past, length-map, map-set, set-get_or}
+use Rattle.std.proofs.lemmas.Option.{none-some}
 use Rattle.std.proofs.Math.ListN.{get_or-map}
 use Rattle.aps_model.specs.declared.state.ThreadNow.{ThreadNow}
 use Rattle.aps_model.specs.Operation.{go_on}
@@ -18,7 +19,7 @@ use Rattle.aps_timer.specs.Waking.{sleeps_until}
 use Rattle.aps_timer.proofs.Wakes.{wakes}
 use Rattle.aps_core.specs.Sleepers.{IsTimed, numbers_of, sleepers_of, until_at}
 use Rattle.aps_core.specs.Touched.{woke}
-use Rattle.aps_core.proofs.Touched.{none_some, some_number}
+use Rattle.aps_core.proofs.Touched.{some_number}
 
 -- ---- the sleepers of a state
 
@@ -100,6 +101,6 @@ others_sleep scenario s timer x now y other right = right ∙ ap (λ (t : Thread
 -- whoever a processor runs doesn't sleep
 pub running_awake : (s : SchedulerState) (c y : ℕ) (timer : List (Option ℕ)) (o : Option Pick) → timer ≡ sleepers_of s → ((p : Pick) → o ≡ Some p → (thread_at s p.thread).state ≡ Running c)
     → option_map (λ (p : Pick). p.thread) o ≡ Some y → get_or timer y None ≡ None
-running_awake s c y timer None are runs own = absurd (none_some y own)
+running_awake s c y timer None are runs own = absurd (none-some y own)
 running_awake s c y timer (Some p) are runs own =
     timed_each s timer are y ∙ ap sleeps_until (ap (λ x. (thread_at s x).state) (sym (some_number p.thread y own)) ∙ runs p refl)

@@ -3,6 +3,7 @@ use Rattle.std.proofs.Common.{◌≡◌, ◌≢◌, ℕ, zero, suc, max, List, [
 use Rattle.std.specs.List.{fold}
 use Rattle.std.specs.Option.{option_map}
 use Rattle.std.proofs.lemmas.List.{map-set}
+use Rattle.std.proofs.lemmas.Option.{none-some}
 use Rattle.aps_model.specs.declared.entry.Done.{Done}
 use Rattle.aps_model.specs.declared.entry.Entry.{Entry}
 use Rattle.aps_model.specs.declared.program.Op.{Op}
@@ -35,7 +36,7 @@ use Rattle.aps_core.specs.Seats.{seat_at}
 use Rattle.aps_core.specs.Sleepers.{numbers_of}
 use Rattle.aps_core.specs.Touched.{IsTouched, is_at_channel, is_exit, peer_of, woke}
 use Rattle.aps_core.proofs.Seats.{seat_stays}
-use Rattle.aps_core.proofs.Touched.{none_some, some_number}
+use Rattle.aps_core.proofs.Touched.{some_number}
 
 -- the seat of a thread with these values
 abbrev seat_from : ℕ → Facts → ThreadNow → Option Contender
@@ -324,6 +325,6 @@ step_seat scenario s h c now y cpu running e s1 s2 t0 t reboot did woken e1 e2 e
 -- whoever a processor runs isn't in the queues
 pub running_out : (s : SchedulerState) (c y : ℕ) (o : Option Pick) → ((d : ℕ) (p : Pick) → (cpu_at s d).running ≡ Some p → (thread_at s p.thread).state ≡ Running d)
     → (cpu_at s c).running ≡ o → option_map (λ (p : Pick). p.thread) o ≡ Some y → seat_at s y ≡ None
-running_out s c y None runs is own = absurd (none_some y own)
+running_out s c y None runs is own = absurd (none-some y own)
 running_out s c y (Some p) runs is own =
     ap (λ (st : State). cond (is_ready st) (Some (contender_of s y)) None) (ap (λ x. (thread_at s x).state) (sym (some_number p.thread y own)) ∙ runs c p is)

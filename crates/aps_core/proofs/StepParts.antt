@@ -1,5 +1,6 @@
 -- The parts of a step, as the code makes them.
 use Rattle.std.proofs.Common.{◌≡◌, ◌≢◌, ℕ, List, refl, sym, subst, ◌∙◌, ap, false, true, Option, Some, None}
+use Rattle.std.proofs.lemmas.Bool.{false≢true}
 use Rattle.std.specs.Prelude.{is_some}
 use Rattle.std.specs.Option.{IfSome, IsSome}
 use Rattle.aps_model.specs.declared.entry.Entry.{Entry}
@@ -35,11 +36,17 @@ tested_by scenario s h c now from running s1 s2 e t0 t reboot e1 e2 e3 e4 e5 e6 
   test = sym (ap (λ m. tested m h e) (e7 ∙ ap (λ m. billed m e running) (e5 ∙ ap (λ m. tick_work scenario m h now) e4))) ∙ e8;
 }
 
+-- the entry is the bill
+is_bill : (scenario : Scenario) (s : SchedulerState) (h : List Entry) (c now : ℕ) (running : Option Pick) (e : Entry) (t : SchedulerState) (reboot : Option ℕ)
+    → IsTested scenario s h c now running e t reboot → e ≡ bill_in s h c
+is_bill scenario s h c now running e t reboot b = b.entry ∙ (λ i. bill_of c (last_end h c) (b.at_due i) (b.ran i))
+
 step_goes_on : (scenario : Scenario) (s : SchedulerState) (h : List Entry) (c now : ℕ) (running : Option Pick) (e : Entry) (t : SchedulerState) (reboot : Option ℕ)
     → IsTested scenario s h c now running e t reboot → step scenario s h c ≡ unless_rebooted scenario (record { state = t; reboot = reboot }) h c now e running reboot
 step_goes_on scenario s h c now running e t reboot b =
+    let entry : e ≡ bill_in s h c = is_bill scenario s h c now running e t reboot b in
     let starts : step scenario s h c ≡ unless_rebooted scenario (tested (billed (begun scenario s h c now) e running) h e) h c now e running (tested (billed (begun scenario s h c now) e running) h e).reboot =
-    rw (b.entry, b.ran, b.at_due) refl in
+    sym (λ i. (λ (test : Tested). unless_rebooted scenario test h c (b.at_due i) (entry i) (b.ran i) test.reboot) (tested (billed (begun scenario s h c (b.at_due i)) (entry i) (b.ran i)) h (entry i))) in
     starts ∙ ap (λ (test : Tested). unless_rebooted scenario test h c now e running test.reboot) b.test
 
 below : Scenario → SchedulerState → List Entry → ℕ → ℕ → Entry → Option Pick → Step
@@ -61,7 +68,7 @@ step_below scenario s h c now running e t reboot did out b goes_on early did_is 
 -- a reboot ends it
 pub step_over : (scenario : Scenario) (s : SchedulerState) (h : List Entry) (c now : ℕ) (running : Option Pick) (e : Entry) (t : SchedulerState) (reboot : Option ℕ)
     → IsTested scenario s h c now running e t reboot → is_some reboot ≡ true → step scenario s h c ≡ record { entry = e; state = t; reboot = reboot }
-step_over scenario s h c now running e t None b some = absurd cc
+step_over scenario s h c now running e t None b some = absurd (false≢true some)
 step_over scenario s h c now running e t (Some p) b some = step_goes_on scenario s h c now running e t (Some p) b
 
 -- and so does the horizon
@@ -83,40 +90,25 @@ ticked_by scenario s h c now s1 s2 e1 e2 e3 =
 pub billed_by : (scenario : Scenario) (s : SchedulerState) (h : List Entry) (c now : ℕ) (running : Option Pick) (e : Entry) (t : SchedulerState) (reboot : Option ℕ)
     → IsTested scenario s h c now running e t reboot → t ≡ after_bill scenario s h c
 billed_by scenario s h c now running e t reboot b =
-    ap (λ (z : Tested). z.state) (sym b.test) ∙ rw (b.entry, b.ran, b.at_due) refl
+    let entry : e ≡ bill_in s h c = is_bill scenario s h c now running e t reboot b in
+    sym (ap (λ (test : Tested). test.state) b.test)
+    ∙ (λ i. (tested (billed (begun scenario s h c (b.at_due i)) (entry i) (b.ran i)) h (entry i)).state)
 
 -- and the one that the operation leaves
 pub settled_by : (scenario : Scenario) (s : SchedulerState) (h : List Entry) (c now : ℕ) (running : Option Pick) (e : Entry) (t : SchedulerState) (reboot : Option ℕ) (did : Effect)
     → IsTested scenario s h c now running e t reboot → settled scenario t now running ≡ did → did.state ≡ before_pick scenario s h c
 settled_by scenario s h c now running e t reboot did b did_is =
-    ap (λ (z : Effect). z.state) (sym did_is)
-    ∙ ap (λ (u : SchedulerState). (settled scenario u now running).state) (billed_by scenario s h c now running e t reboot b)
-    ∙ rw (b.ran, b.at_due) refl
+    let there = billed_by scenario s h c now running e t reboot b in
+    sym (ap (λ (x : Effect). x.state) did_is) ∙ (λ i. (settled scenario (there i) (b.at_due i) (b.ran i)).state)
 
 -- what holds where the processor keeps a pick
 pub where_it_runs : (running kept : Option Pick) (R : Type 0) → running ≡ kept → ((p : Pick) → kept ≡ Some p → R) → IsSome running → R
 where_it_runs None kept R same holds some = absurd cc
 where_it_runs (Some p) kept R same holds some = holds p (sym same)
 
--- what they leave is the state after the bill
-tested_is : (scenario : Scenario) (s : SchedulerState) (h : List Entry) (c now : ℕ) (running : Option Pick) (e : Entry) (t : SchedulerState) (reboot : Option ℕ)
-    → IsTested scenario s h c now running e t reboot → t ≡ after_bill scenario s h c
-tested_is scenario s h c now running e t reboot b =
-    let entry : e ≡ bill_in s h c = b.entry ∙ (λ i. bill_of c (last_end h c) (b.at_due i) (b.ran i)) in
-    let same : (tested (billed (begun scenario s h c now) e running) h e).state ≡ after_bill scenario s h c =
-    λ i. (tested (billed (begun scenario s h c (b.at_due i)) (entry i) (b.ran i)) h (entry i)).state in
-    sym (ap (λ (test : Tested). test.state) b.test) ∙ same
-
--- and after the operation it is the state before the pick
-pub settled_is : (scenario : Scenario) (s : SchedulerState) (h : List Entry) (c now : ℕ) (running : Option Pick) (e : Entry) (t : SchedulerState) (reboot : Option ℕ) (did : Effect)
-    → IsTested scenario s h c now running e t reboot → settled scenario t now running ≡ did → did.state ≡ before_pick scenario s h c
-settled_is scenario s h c now running e t reboot did b is =
-    let there = tested_is scenario s h c now running e t reboot b in
-    sym (ap (λ (x : Effect). x.state) is) ∙ (λ i. (settled scenario (there i) (b.at_due i) (b.ran i)).state)
-
 -- the thread that ran can end its operation
 pub room_after : (scenario : Scenario) (s : SchedulerState) (h : List Entry) (c now : ℕ) (running : Option Pick) (e : Entry) (t : SchedulerState) (reboot : Option ℕ)
     → IsTested scenario s h c now running e t reboot → ((p : Pick) → (cpu_at s c).running ≡ Some p → CanFinish scenario (after_bill scenario s h c) p.thread) → IfSome running (λ (p : Pick). CanFinish scenario t p.thread)
 room_after scenario s h c now None e t reboot b room = tt
 room_after scenario s h c now (Some p) e t reboot b room =
-    subst (λ (u : SchedulerState). CanFinish scenario u p.thread) (sym (tested_is scenario s h c now (Some p) e t reboot b)) (room p (sym b.ran))
+    subst (λ (u : SchedulerState). CanFinish scenario u p.thread) (sym (billed_by scenario s h c now (Some p) e t reboot b)) (room p (sym b.ran))

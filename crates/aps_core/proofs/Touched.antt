@@ -8,9 +8,6 @@ use Rattle.aps_core.specs.Touched.{IsTouched, woke}
 pub some_number : (a b : ℕ) → Some a ≡ Some b → a ≡ b
 some_number a b e = cc
 
-pub none_some : (b : ℕ) → None ≡ Some b → ⊥
-none_some b e = cc
-
 pub is_or_not : (o : Option ℕ) (x : ℕ) → (o ≡ Some x) ⊎ (o ≡ Some x → ⊥)
 is_or_not None x = inr (λ e. cc)
 is_or_not (Some y) x = elim (cases_eq y x) [

@@ -1,5 +1,5 @@
 -- Who may be flagged.
-use Rattle.std.specs.Prelude.{◌≡◌, ℕ, ◌+◌, ◌-◌, ◌*◌, ◌<◌, ◌≤◌, ◌&&◌, not, nat_eq, nat_lt, min, length, ⊤, List, Bool, false, if◌then◌else◌, Option, Some, None}
+use Rattle.std.specs.Prelude.{◌≡◌, ℕ, ◌+◌, ◌-◌, ◌*◌, ◌<◌, ◌≤◌, ◌&&◌, not, nat_eq, nat_lt, min, length, slice_index, ⊤, List, Bool, false, if◌then◌else◌, Option, Some, None}
 use Rattle.std.specs.List.{fold, range_with_len}
 use Rattle.aps_model.specs.declared.entry.Entry.{Entry}
 use Rattle.aps_model.specs.declared.merit.Contender.{Contender}
@@ -14,6 +14,11 @@ use Rattle.aps_model.specs.Flag.{lower_ranked, merit_now}
 use Rattle.aps_model.specs.Merit.{is_greater}
 use Rattle.aps_model.specs.Pick.{greatest, merit_among}
 use Rattle.aps_model.specs.SchedulerState.{SchedulerState, cpu_at}
+use Rattle.aps_core.specs.declared.classes.Classes.{Classes}
+use Rattle.aps_core.specs.declared.posts.Post.{Post}
+use Rattle.aps_core.specs.Classes.{AreClasses}
+use Rattle.aps_core.specs.NextDues.{AreOthersDues, AreSpare}
+use Rattle.aps_core.specs.Posts.{AreHigh, ArePosts}
 
 -- the rank of a processor that runs this, for whomever it may be flagged
 abbrev pub rank_now : SchedulerState → List PartFacts → Option Pick → Rank
@@ -24,6 +29,16 @@ rank_now s parts (Some pick) = Running (merit_now s parts pick.thread).class (me
 abbrev pub ranked_at : SchedulerState → List Entry → List PartFacts → ℕ → ℕ → ℕ → Option Rank
 ranked_at s h parts c now d =
     if not (nat_eq d c) && nat_lt now (due s h d) then Some (rank_now s parts (cpu_at s d).running) else None
+
+-- what a look at the other processors rests on: what is kept of what they run goes by the state, its keys and the classes by how the
+-- partitions stand, and the dues by these entries
+pub record CanLook (s : SchedulerState) (h : List Entry) (parts : List PartFacts) (c now : ℕ) (kept : List Post) (by : Classes) (row : List ℕ) : Type 0 where
+  pub posts : ArePosts s kept
+  pub classes : AreClasses parts by
+  pub high : AreHigh by kept
+  pub dues : AreOthersDues s h c row
+  pub spare : AreSpare s row
+  pub own : slice_index row c ≤ now
 
 -- of the first processors the one of least rank, the later of equal ones
 abbrev pub lowest : SchedulerState → List Entry → List PartFacts → ℕ → ℕ → ℕ → Option (ℕ × Rank)

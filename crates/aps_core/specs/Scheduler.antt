@@ -1,7 +1,10 @@
 -- What stands in a scheduler from step to step.
-use Rattle.std.specs.Prelude.{◌≡◌, ◌/◌, List}
+use Rattle.std.specs.Prelude.{◌≡◌, ℕ, ◌/◌, ◌≤◌, List, length}
 use Rattle.aps_model.specs.declared.entry.Entry.{Entry}
+use Rattle.aps_model.specs.Limits.{last_moment, most_commands, most_ticks}
 use Rattle.aps_model.specs.Scenario.{Scenario}
+use Rattle.aps_model.specs.TickWork.{tick_work}
+use Rattle.aps_model.specs.Valid.{IsScenario}
 use Rattle.aps_laws.specs.Moments.{moment}
 use Rattle.aps_core.specs.declared.scheduler.Scheduler.{Scheduler}
 use Rattle.aps_core.specs.Counts.{Counts, parts_in}
@@ -9,6 +12,8 @@ use Rattle.aps_core.specs.LastEnds.{AreEnds}
 use Rattle.aps_core.specs.NextDues.{AreDues, AreSpare}
 use Rattle.aps_core.specs.Pending.{IsPending}
 use Rattle.aps_core.specs.Posts.{ArePosts}
+use Rattle.aps_core.specs.Rising.{IsRising}
+use Rattle.aps_core.specs.Room.{HasRoomToWake, changes_of_a_run, last_place, stamps_before}
 use Rattle.aps_core.specs.Seats.{seats_of}
 use Rattle.aps_core.specs.Sleepers.{sleepers_of}
 
@@ -26,3 +31,18 @@ pub record IsSchedulerAfter (scenario : Scenario) (h : List Entry) (s : Schedule
   pub spare : AreSpare s.machine s.dues
   pub posted : ArePosts s.machine s.posts
   pub stands : s.standing ≡ parts_in s.machine.shape s.machine.rows s.window
+
+-- what the work of this tick rests on, at this moment, which lies in it: the commands to come, the window and the timer go by the
+-- entries before, and what the commands and the wakes add has room
+pub record CanBeginTick (scenario : Scenario) (h : List Entry) (now tick : ℕ) (s : Scheduler) : Type 0 where
+  pub at_hand : tick ≡ now / s.machine.shape.tick
+  pub few : tick ≤ most_ticks
+  pub valid : IsScenario scenario
+  pub pending : IsPending scenario s.machine.shape.tick h s.ctl
+  pub rising : IsRising h
+  pub counts : Counts s.machine.shape h (now / s.machine.shape.tick) s.window
+  pub early : now ≤ last_moment
+  pub room : HasRoomToWake last_place stamps_before s.machine
+  pub timed : s.timer ≡ sleepers_of s.machine
+  pub replies : length (tick_work scenario s.machine h now).replies ≤ most_commands
+  pub changes : length (tick_work scenario s.machine h now).changes ≤ changes_of_a_run

@@ -1,17 +1,11 @@
-ghost use Rattle.std.specs.Prelude.{◌≡◌, ◌≢◌, ◌⊎◌, ◌<◌, ◌≤◌, ◌/◌, ◌++◌, [], ◌∷◌, length, slice_index, is_some, All, IfSome, None, true, false};
-ghost use Rattle.std.specs.Option.{option_map};
+ghost use Rattle.std.specs.Prelude.{◌≡◌, ◌≢◌, ◌⊎◌, ◌<◌, ◌≤◌, ◌/◌, length, is_some, All, IfSome, None, true, false};
 ghost use Rattle.aps_model.specs.After.{is_at_horizon};
-ghost use Rattle.aps_model.specs.Budget.{all_parts};
 ghost use Rattle.aps_model.specs.Due.{due, first_due, last_to};
 ghost use Rattle.aps_model.specs.History.{IsEntry};
 ghost use Rattle.aps_model.specs.Limits.{last_moment, most_ticks};
 ghost use Rattle.aps_model.specs.Shape.{IsShape, horizon};
-ghost use Rattle.aps_model.specs.Step.{pick};
 ghost use Rattle.aps_core.specs.LastEnds.{AreEnds, IsLast};
-ghost use Rattle.aps_core.specs.Kept.{IsKept};
-ghost use Rattle.aps_core.specs.NextDues.{AreDues, AreOthersDues, AreSpare};
-ghost use Rattle.aps_core.specs.Posts.{AreOthersPosts, ArePosts};
-ghost use Rattle.aps_core.specs.Seats.{seats_of};
+ghost use Rattle.aps_core.specs.NextDues.{AreDues};
 
 mod asking;
 mod bankruptcy;
@@ -29,22 +23,15 @@ mod settle;
 mod start;
 mod sync;
 mod threads;
-mod tick;
 mod timer;
 pub mod wake;
 
 use crate::due;
 use crate::dues::Dues;
 use crate::ends::Ends;
-use crate::posts::Posts;
-use crate::standing::Standing;
 use aps_channel::Channels;
 use aps_inherit::Inherit;
-use aps_model::{
-    Change, Contender, CpuId, CpuNow, Entry, Facts, Nanos, PartitionId, PartitionRow, Reply, Shape,
-    ThreadId,
-};
-use aps_ready::Ready;
+use aps_model::{Change, CpuId, CpuNow, Entry, Nanos, PartitionId, PartitionRow, Reply, Shape};
 use aps_tasks::TaskTable;
 use aps_tree::Tree;
 use std::marker::Model;
@@ -161,49 +148,6 @@ impl Machine {
         true
     }
 
-    /// The pick of the processor after this entry, which has its operation, and then the flag. The entry has both then.
-    pub fn pick(
-        &mut self,
-        entries: &[Entry],
-        dues: &Dues,
-        posts: &mut Posts,
-        standing: &Standing,
-        ready: &mut Ready,
-        cpu: CpuId,
-        e: &mut Entry,
-    )
-        requires stands { standing.now ≡ all_parts self.old.shape self.old.rows (entries.now ++ e.old ∷ []) (e.old.to / self.old.shape.tick) }
-        requires cpu { cpu < length self.old.cpus }
-        requires seats { ready.old ≡ seats_of self.old }
-        requires dues { AreOthersDues self.old entries.now cpu dues.now }
-        requires spare { AreSpare self.old dues.now }
-        requires own { slice_index dues.now cpu ≤ e.old.to }
-        requires posts { AreOthersPosts self.old cpu posts.old }
-        ensures same { pick self.old entries.now cpu e.old.to e.old ≡ record { entry = e.new; state = self.new; reboot = None } }
-        ensures kept { IsKept self.old self.new }
-        ensures seats { ready.new ≡ seats_of self.new }
-        ensures posts { ArePosts self.new posts.new }
-        ensures flagged { IfSome e.new.flagged (λ d. d < length self.new.cpus) }
-    {
-        let now = e.to;
-        let parts = standing.parts();
-        let gates = standing.gates();
-        let classes = standing.classes();
-        let starved = ready.missing_by(gates);
-        let best = ready.take_greatest(gates, parts, self.shape.free);
-        let picked = thread_of(&best);
-        self.choose(parts, cpu, best);
-        posts.set(cpu, facts_of(&best));
-        posts.go_by(classes);
-        let flagged = self.flag_after(
-            entries, dues, parts, posts, gates, classes, ready, cpu, now, &best,
-        );
-        self.flag(now, &flagged);
-        e.picked = picked;
-        e.starved = starved;
-        e.flagged = flagged;
-    }
-
     /// The tick of a moment. The tick at hand is best that of the moment.
     pub fn tick_of(&self, moment: Nanos, at_hand: u32) -> u64
         requires moment { moment ≤ horizon self.now.shape }
@@ -269,26 +213,5 @@ impl Machine {
         ensures valid { IsShape self.now.shape }
     {
         &self.shape
-    }
-}
-
-/// The thread of a contender.
-fn thread_of(best: &Option<Contender>) -> Option<ThreadId>
-    ensures { result ≡ option_map (λ b. b.thread) best.now }
-{
-    match best {
-        None => None,
-        Some(b) => Some(b.thread),
-    }
-}
-
-/// The inherited values of a contender.
-#[inline(always)]
-fn facts_of(best: &Option<Contender>) -> Option<Facts>
-    ensures { result ≡ option_map (λ b. b.facts) best.now }
-{
-    match best {
-        None => None,
-        Some(b) => Some(b.facts),
     }
 }

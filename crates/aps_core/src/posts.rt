@@ -1,5 +1,5 @@
 //! What each processor runs, as far as its rank goes by it, and the key by which it is looked at, kept from step to step.
-ghost use Rattle.std.specs.Prelude.{◌≡◌, ◌≢◌, ℕ, ◌+◌, ◌<◌, ◌≤◌, length, Option};
+ghost use Rattle.std.specs.Prelude.{◌≡◌, ◌≢◌, ℕ, ◌+◌, ◌<◌, ◌≤◌, length, Option, None};
 ghost use Rattle.aps_model.specs.Limits.{greatest_priority, most_cpus};
 ghost use Rattle.aps_model.specs.declared.state.Facts.{Facts as FactsOf};
 ghost use Rattle.aps_core.specs.Posts.{AreHigh, AreSmall, IsHigh, IsPost, IsPostOf, post_at};
@@ -92,7 +92,9 @@ impl Model for Posts {
 
 impl Posts {
     /// Nobody runs.
-    pub fn new() -> Self {
+    pub fn new() -> Self
+        ensures { (d : ℕ) → d < most_cpus → IsPost None (post_at result d) }
+    {
         let classes = Classes::none();
         Posts {
             row: stand([Post::IDLE; MOST_CPUS], classes),

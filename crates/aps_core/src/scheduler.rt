@@ -18,7 +18,9 @@ ghost use Rattle.aps_core.specs.Scheduler.{IsSchedulerAfter};
 ghost use Rattle.aps_core.specs.Seats.{seats_of};
 ghost use Rattle.aps_core.specs.Sleepers.{sleepers_of};
 
+mod pick;
 mod starting;
+mod tick;
 
 use crate::dues::Dues;
 use crate::ends::Ends;
@@ -123,29 +125,16 @@ impl Scheduler {
         let tick = self.machine.tick_of(now, self.window.tick());
         let is_later = usage::go_on(&mut self.window, tick);
         let running = self.machine.begin(cpu);
-        let commanded = self.machine.begin_tick(
-            scenario,
-            entries,
-            &mut self.window,
-            &mut self.timer,
-            &mut self.woken,
-            &mut self.ctl,
-            now,
-            tick,
-            is_later,
-        );
+        let commanded = self.begin_tick(scenario, entries, now, tick, is_later);
         let e = bill::bill_of(cpu, from, now, &running);
         usage::add_time(&mut self.window, self.machine.shape(), &e);
         self.machine.bill(&e, &running);
         let changes = self.machine.change_count();
         let reboot = self.machine.test(entries, &self.window, &e);
         let is_changed = commanded | (changes < self.machine.change_count());
-        self.machine.stand_by(
-            &self.window,
-            &mut self.standing,
-            is_later | is_changed,
-            &e.billed,
-        );
+        let is_any = is_later | is_changed;
+        self.machine
+            .stand_by(&self.window, &mut self.standing, is_any, &e.billed);
         if self.machine.is_over(&reboot, now) {
             self.machine.sync_all(&mut self.ready);
             self.machine.post_all(&mut self.posts);
@@ -163,15 +152,7 @@ impl Scheduler {
         self.machine
             .post_others(&mut self.posts, cpu, commanded, &done);
         let mut entry = Entry { done, ..e };
-        self.machine.pick(
-            entries,
-            &self.dues,
-            &mut self.posts,
-            &self.standing,
-            &mut self.ready,
-            cpu,
-            &mut entry,
-        );
+        self.pick(entries, cpu, &mut entry);
         self.ends.add(&entry);
         Stepped {
             entry,

@@ -1,5 +1,5 @@
 //! How the partitions stand in the window, and the gates of that, kept from step to step.
-ghost use Rattle.std.specs.Prelude.{◌≡◌, ◌<◌, ◌≤◌, ◌++◌, [], ◌∷◌, length, slice_set, All, IfOk, Some, true};
+ghost use Rattle.std.specs.Prelude.{◌≡◌, ◌<◌, ◌≤◌, ◌++◌, [], ◌∷◌, length, slice_set, All, IfOk, Some, true, false};
 ghost use Rattle.aps_model.specs.Limits.{most_partitions};
 ghost use Rattle.aps_model.specs.Partition.{IsRow};
 ghost use Rattle.aps_model.specs.Shape.{IsShape};
@@ -182,7 +182,8 @@ impl Standing {
 /// Whether the gates are the same for both.
 #[inline(always)]
 fn opens_alike(a: &PartFacts, b: &PartFacts) -> bool
-    ensures { result ≡ true → OpensAlike a.now b.now }
+    ensures yes { result ≡ true → OpensAlike a.now b.now }
+    ensures no { result ≡ false → OpensAlike a.now b.now → ⊥ }
 {
     a.funded == b.funded && a.standing == b.standing && a.shut == b.shut && a.budget == b.budget
 }

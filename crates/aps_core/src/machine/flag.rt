@@ -1,13 +1,11 @@
-ghost use Rattle.std.specs.Prelude.{◌≡◌, ◌<◌, ◌≤◌, if◌then◌else◌, length, slice_index, IfSome, Some};
+ghost use Rattle.std.specs.Prelude.{◌≡◌, ◌<◌, ◌≤◌, if◌then◌else◌, length, IfSome, Some};
 ghost use Rattle.aps_model.specs.Flag.{flag_for, with_flag};
 ghost use Rattle.aps_model.specs.Budget.{part_at};
 ghost use Rattle.aps_model.specs.Limits.{greatest_priority, most_cpus};
 ghost use Rattle.aps_model.specs.Pick.{contenders, greatest, merit_among};
 ghost use Rattle.aps_ready.specs.Gates.{AreGates, is_first};
 ghost use Rattle.aps_core.specs.Classes.{AreClasses};
-ghost use Rattle.aps_core.specs.Lowest.{IsKey, IsLeast, IsLeastOf, IsNoLess, IsRank, IsTold, height_of, limit, lowest, ranked_at};
-ghost use Rattle.aps_core.specs.NextDues.{AreOthersDues, AreSpare};
-ghost use Rattle.aps_core.specs.Posts.{AreHigh, ArePosts};
+ghost use Rattle.aps_core.specs.Lowest.{CanLook, IsKey, IsLeast, IsLeastOf, IsNoLess, IsRank, IsTold, height_of, limit, lowest, ranked_at};
 ghost use Rattle.aps_core.specs.Seats.{seats_of};
 
 use super::Machine;
@@ -47,12 +45,7 @@ impl Machine {
         now: Nanos,
         d: usize,
     ) -> u16
-        requires posts { ArePosts self.now posts.now }
-        requires classes { AreClasses parts.now classes }
-        requires high { AreHigh classes posts.now }
-        requires dues { AreOthersDues self.now entries.now c dues.now }
-        requires spare { AreSpare self.now dues.now }
-        requires own { slice_index dues.now c ≤ now }
+        requires look { CanLook self.now entries.now parts.now c now posts.now classes dues.now }
         requires d { d < most_cpus }
         ensures key { d < length self.now.cpus → IsKey (ranked_at self.now entries.now parts.now c now d) d result }
         ensures rank { d < length self.now.cpus → IsRank (ranked_at self.now entries.now parts.now c now d) }
@@ -77,12 +70,7 @@ impl Machine {
         from: usize,
         to: usize,
     ) -> u16
-        requires posts { ArePosts self.now posts.now }
-        requires classes { AreClasses parts.now classes }
-        requires high { AreHigh classes posts.now }
-        requires dues { AreOthersDues self.now entries.now c dues.now }
-        requires spare { AreSpare self.now dues.now }
-        requires own { slice_index dues.now c ≤ now }
+        requires look { CanLook self.now entries.now parts.now c now posts.now classes dues.now }
         requires forward { from ≤ to }
         requires few { to ≤ most_cpus }
         requires so_far { IsLeastOf self.now entries.now parts.now c now from least }
@@ -109,12 +97,7 @@ impl Machine {
         c: CpuId,
         now: Nanos,
     ) -> u16
-        requires posts { ArePosts self.now posts.now }
-        requires classes { AreClasses parts.now classes }
-        requires high { AreHigh classes posts.now }
-        requires dues { AreOthersDues self.now entries.now c dues.now }
-        requires spare { AreSpare self.now dues.now }
-        requires own { slice_index dues.now c ≤ now }
+        requires look { CanLook self.now entries.now parts.now c now posts.now classes dues.now }
         ensures least { IsLeast (lowest self.now entries.now parts.now c now self.now.shape.cpus) self.now.shape.cpus result }
         ensures few { self.now.shape.cpus ≤ most_cpus }
         ensures count { length self.now.cpus ≡ self.now.shape.cpus }
@@ -143,12 +126,7 @@ impl Machine {
         c: CpuId,
         now: Nanos,
     ) -> Lowest
-        requires posts { ArePosts self.now posts.now }
-        requires classes { AreClasses parts.now classes }
-        requires high { AreHigh classes posts.now }
-        requires dues { AreOthersDues self.now entries.now c dues.now }
-        requires spare { AreSpare self.now dues.now }
-        requires own { slice_index dues.now c ≤ now }
+        requires look { CanLook self.now entries.now parts.now c now posts.now classes dues.now }
         ensures same { IsTold (lowest self.now entries.now parts.now c now self.now.shape.cpus) result.cpu result.height }
         ensures within { result.height < 1000 → result.cpu < length self.now.cpus }
     {
@@ -175,13 +153,8 @@ impl Machine {
         now: Nanos,
         picked: &Option<Contender>,
     ) -> Option<CpuId>
-        requires posts { ArePosts self.now posts.now }
+        requires look { CanLook self.now entries.now parts.now c now posts.now classes dues.now }
         requires gates { AreGates parts.now gates }
-        requires classes { AreClasses parts.now classes }
-        requires high { AreHigh classes posts.now }
-        requires dues { AreOthersDues self.now entries.now c dues.now }
-        requires spare { AreSpare self.now dues.now }
-        requires own { slice_index dues.now c ≤ now }
         requires seats { ready.now ≡ seats_of self.now }
         requires picked { IsNoLess self.now.shape.free parts.now (contenders self.now) picked.now }
         ensures same { result

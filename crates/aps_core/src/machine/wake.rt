@@ -1,28 +1,18 @@
-ghost use Rattle.std.specs.Prelude.{◌≡◌, ℕ, ◌+◌, ◌/◌, ◌%◌, ◌<◌, ◌≤◌, ◌^◌, ◌++◌, [], ◌∷◌, length, slice_index_or, IfOk, vec_capacity, None, true, false};
+ghost use Rattle.std.specs.Prelude.{◌≡◌, ℕ, ◌/◌, ◌%◌, ◌<◌, ◌≤◌, [], length, slice_index_or, IfOk, vec_capacity, None, true, false};
 ghost use Rattle.std.specs.Prelude.{nat_eq};
-ghost use Rattle.std.specs.List.{list_any};
-ghost use Rattle.aps_model.specs.declared.entry.Entry.{Entry as EntryOf};
-ghost use Rattle.aps_model.specs.Inherit.{facts_of};
-ghost use Rattle.aps_model.specs.Limits.{last_moment, most_commands, most_threads, most_ticks};
-ghost use Rattle.aps_model.specs.Valid.{IsScenario};
-ghost use Rattle.aps_core.specs.Pending.{IsPending};
-ghost use Rattle.aps_model.specs.TickWork.{has_tick_work, tick_work, wake_all, waking};
+ghost use Rattle.aps_model.specs.Limits.{last_moment, most_threads};
+ghost use Rattle.aps_model.specs.TickWork.{has_tick_work, wake_all, waking};
 ghost use Rattle.aps_timer.specs.Sleepers.{all_due};
-ghost use Rattle.aps_core.specs.Counts.{Counts};
-ghost use Rattle.aps_core.specs.Kept.{IsKept};
 ghost use Rattle.aps_core.specs.Rising.{IsRising};
-ghost use Rattle.aps_core.specs.Room.{HasRoomToWake, changes_of_a_run, last_place, stamps_before};
-ghost use Rattle.aps_core.specs.Seats.{seat_at};
+ghost use Rattle.aps_core.specs.Room.{HasRoomToWake, last_place, stamps_before};
 ghost use Rattle.aps_core.specs.Sleepers.{numbers_of, sleepers_of};
 ghost use Rattle.aps_core.specs.Touched.{woke};
 
 use super::Machine;
 use crate::due;
-use aps_ctl::Ctl;
 use aps_model::limits::MOST_THREADS;
 use aps_model::{Entry, Nanos, NoMemory, Scenario, ThreadId};
 use aps_timer::Timer;
-use aps_window::Window;
 use std::alloc::Global;
 use std::marker::Model;
 
@@ -109,7 +99,7 @@ impl Woken {
 impl Machine {
     /// The sleepers whose moment has come go on. One whose next operation is a sleep is in the timer again.
     #[inline(never)]
-    fn wake_all(&mut self, scenario: &Scenario, now: Nanos, timer: &mut Timer, woken: &mut Woken)
+    pub fn wake_all(&mut self, scenario: &Scenario, now: Nanos, timer: &mut Timer, woken: &mut Woken)
         requires now { now ≤ last_moment }
         requires room { HasRoomToWake last_place stamps_before self.old }
         requires timed { timer.old ≡ sleepers_of self.old }
@@ -128,7 +118,7 @@ impl Machine {
     }
 
     /// Whether this is the first step at a boundary below the horizon. The moment lies in this tick.
-    fn has_tick_work(&self, entries: &[Entry], now: Nanos, tick: u64) -> bool
+    pub fn has_tick_work(&self, entries: &[Entry], now: Nanos, tick: u64) -> bool
         requires rising { IsRising entries.now }
         requires tick { tick ≡ now / self.now.shape.tick }
         ensures { result ≡ has_tick_work self.now entries.now now }
@@ -142,48 +132,5 @@ impl Machine {
         ensures { result ≡ nat_eq (now % self.now.shape.tick) 0 }
     {
         tick * self.shape.tick == now
-    }
-
-    /// The work of this tick, if it begins with this step: the commands of the tick, and then the wakes, from the timer,
-    /// which then has the sleepers that are left. The answer is whether there was a command; else no thread's seat changes
-    /// but of those who woke, who are told, and no thread inherits other values than before.
-    pub fn work_tick(
-        &mut self,
-        scenario: &Scenario,
-        entries: &[Entry],
-        window: &mut Window,
-        timer: &mut Timer,
-        woken: &mut Woken,
-        ctl: &mut Ctl,
-        now: Nanos,
-        tick: u64,
-    ) -> bool
-        requires tick { tick ≡ now / self.old.shape.tick }
-        requires few { tick ≤ most_ticks }
-        requires valid { IsScenario scenario.now }
-        requires pending { IsPending scenario.now self.old.shape.tick entries.now ctl.old }
-        requires rising { IsRising entries.now }
-        requires counts { Counts self.old.shape entries.now (now / self.old.shape.tick) window.old }
-        requires now { now ≤ last_moment }
-        requires room { HasRoomToWake last_place stamps_before self.old }
-        requires timed { timer.old ≡ sleepers_of self.old }
-        requires replies { length (tick_work scenario.now self.old entries.now now).replies ≤ most_commands }
-        requires changes { length (tick_work scenario.now self.old entries.now now).changes ≤ changes_of_a_run }
-        ensures same { self.new ≡ tick_work scenario.now self.old entries.now now }
-        ensures timed { timer.new ≡ sleepers_of self.new }
-        ensures idle { result ≡ false → (x : ℕ) → woke woken.new x ≡ false → seat_at self.new x ≡ seat_at self.old x }
-        ensures kept { result ≡ false → IsKept self.old self.new }
-        ensures facts { result ≡ false → (x : ℕ) → facts_of self.new x ≡ facts_of self.old x }
-        ensures window { result ≡ false → window.new ≡ window.old }
-        ensures counts { Counts self.new.shape entries.now (now / self.old.shape.tick) window.new }
-        ensures pending { (e : EntryOf) → e.to ≡ now → IsPending scenario.now self.old.shape.tick (entries.now ++ e ∷ []) ctl.new }
-    {
-        if self.has_tick_work(entries, now, tick) {
-            let commanded = self.do_commands(entries, window, ctl, tick);
-            self.wake_all(scenario, now, timer, woken);
-            return commanded;
-        }
-        woken.clear();
-        false
     }
 }

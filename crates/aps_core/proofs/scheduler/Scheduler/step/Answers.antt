@@ -1,4 +1,4 @@
-use Rattle.std.proofs.Common.{◌≡◌, ◌≢◌, ℕ, false, ◌<◌, IfSome, ◌/◌, ◌||◌, nat_lt, List, Option, Some, None, ◌≤◌, [], ◌∷◌, ◌++◌, sym, ◌∙◌, refl, subst, length, ap, arith, inl, inr}
+use Rattle.std.proofs.Common.{◌≡◌, ◌≢◌, ℕ, false, ◌<◌, IfSome, ◌/◌, ◌||◌, nat_lt, List, Option, Some, None, ◌≤◌, [], ◌∷◌, ◌++◌, sym, ◌∙◌, refl, subst, length, slice_index, ap, arith, inl, inr}
 use Rattle.std.proofs.lemmas.Bool.Decides.{nat_tests}
 use Rattle.std.specs.Option.{option_map}
 use Rattle.aps_model.specs.declared.entry.Entry.{Entry}
@@ -16,12 +16,16 @@ use Rattle.aps_laws.specs.Moments.{moment}
 use Rattle.aps_laws.specs.Servers.{IsNobodysClient}
 use Rattle.aps_laws.specs.Stamps.{IsStamped}
 use Rattle.aps_window.specs.Window.{Window, total_of}
+use Rattle.aps_core.specs.declared.scheduler.Scheduler.{Scheduler}
 use Rattle.aps_core.specs.Counts.{CanBill, Counts, parts_in}
 use Rattle.aps_core.specs.Kept.{IsKept}
+use Rattle.aps_core.specs.LastEnds.{AreEnds}
 use Rattle.aps_core.specs.Pending.{IsPending}
+use Rattle.aps_core.specs.Posts.{ArePosts}
 use Rattle.aps_core.specs.Room.{HasRoomToWake}
 use Rattle.aps_core.specs.Seats.{who_at}
 use Rattle.aps_core.specs.Sleepers.{sleepers_of}
+use Rattle.aps_core.specs.Standing.{DoOthersStand}
 use Rattle.aps_core.specs.Touched.{IsTouched, is_at_channel, peer_of}
 use Rattle.aps_core.proofs.Counting.{parts_are}
 use Rattle.aps_core.proofs.Frame.{kept_then, settled_kept}
@@ -34,17 +38,35 @@ use Rattle.aps_core.proofs.Asleep.{running_awake, sleepers_count}
 use Rattle.aps_core.proofs.SleepersStay.{picked_sleepers, settled_timer, tested_timer}
 use Rattle.aps_core.proofs.StandsStay.{calm_kept, neither, others_stand}
 use Rattle.aps_core.proofs.StepCounts.{IsBilling, counted_as, counts_begun, counts_left, done_bill, entry_of, own_bill, picked_bill, room_to_bill, settled_shape, spent_shape, tested_shape}
-use Rattle.aps_core.proofs.StepParts.{billed_by, room_after, settled_by, settled_is, step_at_horizon, step_below, step_over, tested_by, ticked_by}
+use Rattle.aps_core.proofs.StepParts.{billed_by, room_after, settled_by, step_at_horizon, step_below, step_over, tested_by, ticked_by}
 use Rattle.aps_core.proofs.TickDone.{work_done}
 use Rattle.aps_core.proofs.scheduler.Scheduler.step.Goals as goal
 
 -- ---- the work of the tick
 
-pub begin_tick-commanded-requires-clause-now : goal.begin_tick-commanded-requires-clause-now
-begin_tick-commanded-requires-clause-now c = rw (c.of-now.ensures ∙ c.requires.after.nexts c.args.cpu c.requires.ready.exists) c.requires.ready.early
-
-pub begin_tick-commanded-requires-clause-tick : goal.begin_tick-commanded-requires-clause-tick
-begin_tick-commanded-requires-clause-tick c = c.tick_of-tick.ensures.same ∙ ap (λ (s : SchedulerState). c.of-now.result / s.shape.tick) (sym c.begin-running.ensures.same)
+pub begin_tick-commanded-requires-clause-work : goal.begin_tick-commanded-requires-clause-work
+begin_tick-commanded-requires-clause-work c = record {
+  at_hand = c.tick_of-tick.ensures.same ∙ ap (λ (s : SchedulerState). c.of-now.result / s.shape.tick) (sym c.begin-running.ensures.same);
+  few = c.tick_of-tick.ensures.few;
+  valid = c.requires.valid;
+  pending =
+      subst (λ (s : SchedulerState). IsPending c.args.scenario.now s.shape.tick c.args.entries.now c.args.self.now.ctl) (sym c.begin-running.ensures.same) c.requires.after.pending;
+  rising = c.requires.rising;
+  counts =
+      counts_begun c.args.self.now.machine c.begin-running.new.self c.args.entries.now c.args.cpu c.of-now.result c.tick_of-tick.result c.args.self.now.window c.go_on-is_later.new.window c.requires.after.counts
+      (omega (arith, c.requires.ready.rises, (c.of-now.ensures ∙ c.requires.after.nexts c.args.cpu c.requires.ready.exists))) c.tick_of-tick.ensures.same c.go_on-is_later.ensures.same c.begin-running.ensures.same;
+  early = rw (c.of-now.ensures ∙ c.requires.after.nexts c.args.cpu c.requires.ready.exists) c.requires.ready.early;
+  room =
+      subst (HasRoomToWake 256 6000000000) (sym c.begin-running.ensures.same)
+      (record { places = c.requires.ready.wakes.places; stamps = c.requires.ready.wakes.stamps });
+  timed = c.requires.after.timed ∙ ap sleepers_of (sym c.begin-running.ensures.same);
+  replies =
+      subst (λ (s : SchedulerState). length s.replies ≤ 1024)
+      (sym (ticked_by c.args.scenario.now c.args.self.now.machine c.args.entries.now c.args.cpu _ _ _ (c.of-now.ensures ∙ c.requires.after.nexts c.args.cpu c.requires.ready.exists) c.begin-running.ensures.same refl)) c.requires.ready.replies;
+  changes =
+      subst (λ (s : SchedulerState). length s.changes ≤ 2079)
+      (sym (ticked_by c.args.scenario.now c.args.self.now.machine c.args.entries.now c.args.cpu _ _ _ (c.of-now.ensures ∙ c.requires.after.nexts c.args.cpu c.requires.ready.exists) c.begin-running.ensures.same refl)) c.requires.ready.changes_ticked;
+}
 
 pub begin_tick-commanded-requires-clause-done : goal.begin_tick-commanded-requires-clause-done
 begin_tick-commanded-requires-clause-done c calm nonempty =
@@ -53,25 +75,6 @@ begin_tick-commanded-requires-clause-done c calm nonempty =
     let at : c.of-now.result / s.shape.tick ≡ moment h / s.shape.tick = sym c.tick_of-tick.ensures.same ∙ c.go_on-is_later.ensures.at_hand calm ∙ c.requires.after.counts.tick in
     let rises : moment h ≤ c.of-now.result = omega (arith, c.requires.ready.rises, (c.of-now.ensures ∙ c.requires.after.nexts c.args.cpu c.requires.ready.exists)) in
     subst (λ (u : SchedulerState). has_tick_work u h c.of-now.result ≡ false) (sym c.begin-running.ensures.same) (work_done s h c.of-now.result nonempty rises at)
-
-pub begin_tick-commanded-requires-clause-room : goal.begin_tick-commanded-requires-clause-room
-begin_tick-commanded-requires-clause-room c =
-    subst (HasRoomToWake 256 6000000000) (sym c.begin-running.ensures.same)
-    (record { places = c.requires.ready.wakes.places; stamps = c.requires.ready.wakes.stamps })
-
-pub begin_tick-commanded-requires-clause-replies : goal.begin_tick-commanded-requires-clause-replies
-begin_tick-commanded-requires-clause-replies c =
-    subst (λ (s : SchedulerState). length s.replies ≤ 1024)
-    (sym (ticked_by c.args.scenario.now c.args.self.now.machine c.args.entries.now c.args.cpu _ _ _ (c.of-now.ensures ∙ c.requires.after.nexts c.args.cpu c.requires.ready.exists) c.begin-running.ensures.same refl)) c.requires.ready.replies
-
-pub begin_tick-commanded-requires-clause-changes : goal.begin_tick-commanded-requires-clause-changes
-begin_tick-commanded-requires-clause-changes c =
-    subst (λ (s : SchedulerState). length s.changes ≤ 2079)
-    (sym (ticked_by c.args.scenario.now c.args.self.now.machine c.args.entries.now c.args.cpu _ _ _ (c.of-now.ensures ∙ c.requires.after.nexts c.args.cpu c.requires.ready.exists) c.begin-running.ensures.same refl)) c.requires.ready.changes_ticked
-
-pub begin_tick-commanded-requires-clause-pending : goal.begin_tick-commanded-requires-clause-pending
-begin_tick-commanded-requires-clause-pending c =
-    subst (λ (s : SchedulerState). IsPending c.args.scenario.now s.shape.tick c.args.entries.now c.args.self.now.ctl) (sym c.begin-running.ensures.same) c.requires.after.pending
 
 -- ---- the bill
 
@@ -100,17 +103,12 @@ returns-clause-same c =
 
 -- ---- the window
 
-pub begin_tick-commanded-requires-clause-counts : goal.begin_tick-commanded-requires-clause-counts
-begin_tick-commanded-requires-clause-counts c =
-    counts_begun c.args.self.now.machine c.begin-running.new.self c.args.entries.now c.args.cpu c.of-now.result c.tick_of-tick.result c.args.self.now.window c.go_on-is_later.new.window c.requires.after.counts
-    (omega (arith, c.requires.ready.rises, (c.of-now.ensures ∙ c.requires.after.nexts c.args.cpu c.requires.ready.exists))) c.tick_of-tick.ensures.same c.go_on-is_later.ensures.same c.begin-running.ensures.same
-
 pub add_time-requires-clause-shape : goal.add_time-requires-clause-shape
 add_time-requires-clause-shape c = subst IsShape (sym c.shape.ensures.same) c.shape.ensures.valid
 
 pub add_time-requires-clause-entry : goal.add_time-requires-clause-entry
 add_time-requires-clause-entry c =
-    let s2 = c.begin_tick-commanded.new.self in
+    let s2 = c.begin_tick-commanded.new.self.machine in
     let e = c.bill_of-e.result in
     let b : IsBilling c.args.scenario.now c.args.self.now.machine c.args.entries.now c.args.cpu c.of-now.result c.last_end-from.result c.tick_of-tick.result c.begin-running.result c.begin-running.new.self s2 e =
     record {
@@ -128,7 +126,7 @@ add_time-requires-clause-entry c =
 
 pub add_time-requires-clause-room : goal.add_time-requires-clause-room
 add_time-requires-clause-room c =
-    let s2 = c.begin_tick-commanded.new.self in
+    let s2 = c.begin_tick-commanded.new.self.machine in
     let e = c.bill_of-e.result in
     let b : IsBilling c.args.scenario.now c.args.self.now.machine c.args.entries.now c.args.cpu c.of-now.result c.last_end-from.result c.tick_of-tick.result c.begin-running.result c.begin-running.new.self s2 e =
     record {
@@ -143,15 +141,15 @@ add_time-requires-clause-room c =
       at_tick = c.tick_of-tick.ensures.same;
     } in
     let before = c.begin_tick-commanded.ensures.counts in
-    subst (λ (x : Shape). CanBill x.tick c.begin_tick-commanded.new.window e) (sym c.shape.ensures.same)
-    (room_to_bill c.args.scenario.now c.args.self.now.machine c.args.entries.now c.args.cpu c.of-now.result c.last_end-from.result c.tick_of-tick.result c.begin-running.result c.begin-running.new.self s2 e c.begin_tick-commanded.new.window
+    subst (λ (x : Shape). CanBill x.tick c.begin_tick-commanded.new.self.window e) (sym c.shape.ensures.same)
+    (room_to_bill c.args.scenario.now c.args.self.now.machine c.args.entries.now c.args.cpu c.of-now.result c.last_end-from.result c.tick_of-tick.result c.begin-running.result c.begin-running.new.self s2 e c.begin_tick-commanded.new.self.window
     c.requires.ready b c.tick_of-tick.ensures.few c.shape.ensures.valid
     (entry_of c.args.scenario.now c.args.self.now.machine c.args.entries.now c.args.cpu c.of-now.result c.last_end-from.result c.tick_of-tick.result c.begin-running.result c.begin-running.new.self s2 e c.requires.ready b)
     before)
 
 pub test-reboot-requires-clause-counts : goal.test-reboot-requires-clause-counts
 test-reboot-requires-clause-counts c =
-    let s2 = c.begin_tick-commanded.new.self in
+    let s2 = c.begin_tick-commanded.new.self.machine in
     let e = c.bill_of-e.result in
     let b : IsBilling c.args.scenario.now c.args.self.now.machine c.args.entries.now c.args.cpu c.of-now.result c.last_end-from.result c.tick_of-tick.result c.begin-running.result c.begin-running.new.self s2 e =
     record {
@@ -167,20 +165,20 @@ test-reboot-requires-clause-counts c =
     } in
     let before = c.begin_tick-commanded.ensures.counts in
     let with_bill =
-    counted_as s2.shape c.shape.result.now c.args.entries.now (c.of-now.result / c.begin-running.new.self.shape.tick) c.begin_tick-commanded.new.window c.add_time.new.window e c.shape.ensures.same
+    counted_as s2.shape c.shape.result.now c.args.entries.now (c.of-now.result / c.begin-running.new.self.shape.tick) c.begin_tick-commanded.new.self.window c.add_time.new.window e c.shape.ensures.same
     c.add_time.ensures.counts before in
-    let spent : c.bill.new.self.shape ≡ s2.shape = spent_shape c.begin_tick-commanded.new.self e c.begin-running.result c.bill.new.self c.bill.ensures in
+    let spent : c.bill.new.self.shape ≡ s2.shape = spent_shape c.begin_tick-commanded.new.self.machine e c.begin-running.result c.bill.new.self c.bill.ensures in
     counts_left c.args.scenario.now c.args.self.now.machine c.args.entries.now c.args.cpu c.of-now.result c.last_end-from.result c.tick_of-tick.result c.begin-running.result c.begin-running.new.self s2 e c.add_time.new.window
     c.requires.ready b with_bill c.bill.new.self e (spent) (own_bill e)
 
 pub returns-then-is_over-clause-pending : goal.returns-then-is_over-clause-pending
 returns-then-is_over-clause-pending c =
-    subst (λ n. IsPending c.args.scenario.now n (c.args.entries.now ++ c.bill_of-e.result ∷ []) c.begin_tick-commanded.new.ctl) (ap (λ (u : SchedulerState). u.shape.tick) c.begin-running.ensures.same)
+    subst (λ n. IsPending c.args.scenario.now n (c.args.entries.now ++ c.bill_of-e.result ∷ []) c.begin_tick-commanded.new.self.ctl) (ap (λ (u : SchedulerState). u.shape.tick) c.begin-running.ensures.same)
     (c.begin_tick-commanded.ensures.pending c.bill_of-e.result (c.bill_of-e.ensures.to))
 
 pub returns-then-is_over-clause-counts : goal.returns-then-is_over-clause-counts
 returns-then-is_over-clause-counts c =
-    let s2 = c.begin_tick-commanded.new.self in
+    let s2 = c.begin_tick-commanded.new.self.machine in
     let e = c.bill_of-e.result in
     let b : IsBilling c.args.scenario.now c.args.self.now.machine c.args.entries.now c.args.cpu c.of-now.result c.last_end-from.result c.tick_of-tick.result c.begin-running.result c.begin-running.new.self s2 e =
     record {
@@ -196,9 +194,9 @@ returns-then-is_over-clause-counts c =
     } in
     let before = c.begin_tick-commanded.ensures.counts in
     let with_bill =
-    counted_as s2.shape c.shape.result.now c.args.entries.now (c.of-now.result / c.begin-running.new.self.shape.tick) c.begin_tick-commanded.new.window c.add_time.new.window e c.shape.ensures.same
+    counted_as s2.shape c.shape.result.now c.args.entries.now (c.of-now.result / c.begin-running.new.self.shape.tick) c.begin_tick-commanded.new.self.window c.add_time.new.window e c.shape.ensures.same
     c.add_time.ensures.counts before in
-    let spent : c.bill.new.self.shape ≡ s2.shape = spent_shape c.begin_tick-commanded.new.self e c.begin-running.result c.bill.new.self c.bill.ensures in
+    let spent : c.bill.new.self.shape ≡ s2.shape = spent_shape c.begin_tick-commanded.new.self.machine e c.begin-running.result c.bill.new.self c.bill.ensures in
     let tested = tested_shape c.bill.new.self c.args.entries.now e c.test-reboot.new.self c.test-reboot.result c.test-reboot.ensures in
     counts_left c.args.scenario.now c.args.self.now.machine c.args.entries.now c.args.cpu c.of-now.result c.last_end-from.result c.tick_of-tick.result c.begin-running.result c.begin-running.new.self s2 e c.add_time.new.window
     c.requires.ready b with_bill c.test-reboot.new.self e (tested ∙ spent) (own_bill e)
@@ -212,7 +210,7 @@ settle-done-requires-clause-room c =
 
 pub pick-requires-clause-stands : goal.pick-requires-clause-stands
 pick-requires-clause-stands c =
-    let s2 = c.begin_tick-commanded.new.self in
+    let s2 = c.begin_tick-commanded.new.self.machine in
     let e = c.bill_of-e.result in
     let b : IsBilling c.args.scenario.now c.args.self.now.machine c.args.entries.now c.args.cpu c.of-now.result c.last_end-from.result c.tick_of-tick.result c.begin-running.result c.begin-running.new.self s2 e =
     record {
@@ -228,9 +226,9 @@ pick-requires-clause-stands c =
     } in
     let before = c.begin_tick-commanded.ensures.counts in
     let with_bill =
-    counted_as s2.shape c.shape.result.now c.args.entries.now (c.of-now.result / c.begin-running.new.self.shape.tick) c.begin_tick-commanded.new.window c.add_time.new.window e c.shape.ensures.same
+    counted_as s2.shape c.shape.result.now c.args.entries.now (c.of-now.result / c.begin-running.new.self.shape.tick) c.begin_tick-commanded.new.self.window c.add_time.new.window e c.shape.ensures.same
     c.add_time.ensures.counts before in
-    let spent : c.bill.new.self.shape ≡ s2.shape = spent_shape c.begin_tick-commanded.new.self e c.begin-running.result c.bill.new.self c.bill.ensures in
+    let spent : c.bill.new.self.shape ≡ s2.shape = spent_shape c.begin_tick-commanded.new.self.machine e c.begin-running.result c.bill.new.self c.bill.ensures in
     let tested = tested_shape c.bill.new.self c.args.entries.now e c.test-reboot.new.self c.test-reboot.result c.test-reboot.ensures in
     let settled = settled_shape c.args.scenario.now c.test-reboot.new.self c.of-now.result c.begin-running.result _ c.settle-done.ensures in
     let e' = record e { done = c.settle-done.result } in
@@ -247,12 +245,13 @@ pick-requires-clause-stands c =
 
 pub returns-clause-pending : goal.returns-clause-pending
 returns-clause-pending c =
-    subst (λ n. IsPending c.args.scenario.now n (c.args.entries.now ++ c.pick.new.e ∷ []) c.begin_tick-commanded.new.ctl) (ap (λ (u : SchedulerState). u.shape.tick) c.begin-running.ensures.same)
-    (c.begin_tick-commanded.ensures.pending c.pick.new.e ((picked_bill c.settle-done.new.self c.args.entries.now c.args.cpu c.bill_of-e.result.to c.bill_of-e.result c.settle-done.result _ c.pick.ensures.same).to ∙ c.bill_of-e.ensures.to))
+    subst (λ (u : Scheduler). IsPending c.args.scenario.now c.args.self.now.machine.shape.tick (c.args.entries.now ++ c.pick.new.e ∷ []) u.ctl) (sym c.pick.ensures.others)
+    (subst (λ n. IsPending c.args.scenario.now n (c.args.entries.now ++ c.pick.new.e ∷ []) c.begin_tick-commanded.new.self.ctl) (ap (λ (u : SchedulerState). u.shape.tick) c.begin-running.ensures.same)
+    (c.begin_tick-commanded.ensures.pending c.pick.new.e ((picked_bill c.settle-done.new.self c.args.entries.now c.args.cpu c.bill_of-e.result.to c.bill_of-e.result c.settle-done.result _ c.pick.ensures.same).to ∙ c.bill_of-e.ensures.to)))
 
 pub returns-clause-counts : goal.returns-clause-counts
 returns-clause-counts c =
-    let s2 = c.begin_tick-commanded.new.self in
+    let s2 = c.begin_tick-commanded.new.self.machine in
     let e = c.bill_of-e.result in
     let b : IsBilling c.args.scenario.now c.args.self.now.machine c.args.entries.now c.args.cpu c.of-now.result c.last_end-from.result c.tick_of-tick.result c.begin-running.result c.begin-running.new.self s2 e =
     record {
@@ -268,38 +267,41 @@ returns-clause-counts c =
     } in
     let before = c.begin_tick-commanded.ensures.counts in
     let with_bill =
-    counted_as s2.shape c.shape.result.now c.args.entries.now (c.of-now.result / c.begin-running.new.self.shape.tick) c.begin_tick-commanded.new.window c.add_time.new.window e c.shape.ensures.same
+    counted_as s2.shape c.shape.result.now c.args.entries.now (c.of-now.result / c.begin-running.new.self.shape.tick) c.begin_tick-commanded.new.self.window c.add_time.new.window e c.shape.ensures.same
     c.add_time.ensures.counts before in
-    let spent : c.bill.new.self.shape ≡ s2.shape = spent_shape c.begin_tick-commanded.new.self e c.begin-running.result c.bill.new.self c.bill.ensures in
+    let spent : c.bill.new.self.shape ≡ s2.shape = spent_shape c.begin_tick-commanded.new.self.machine e c.begin-running.result c.bill.new.self c.bill.ensures in
     let tested = tested_shape c.bill.new.self c.args.entries.now e c.test-reboot.new.self c.test-reboot.result c.test-reboot.ensures in
     let settled = settled_shape c.args.scenario.now c.test-reboot.new.self c.of-now.result c.begin-running.result _ c.settle-done.ensures in
-    counts_left c.args.scenario.now c.args.self.now.machine c.args.entries.now c.args.cpu c.of-now.result c.last_end-from.result c.tick_of-tick.result c.begin-running.result c.begin-running.new.self s2 e c.add_time.new.window
-    c.requires.ready b with_bill c.pick.new.self c.pick.new.e (c.pick.ensures.kept.shape ∙ settled ∙ tested ∙ spent) (picked_bill c.settle-done.new.self c.args.entries.now c.args.cpu c.bill_of-e.result.to c.bill_of-e.result c.settle-done.result _ c.pick.ensures.same)
+    subst (λ (u : Scheduler). Counts c.pick.new.self.machine.shape (c.args.entries.now ++ c.pick.new.e ∷ []) (c.pick.new.e.to / c.pick.new.self.machine.shape.tick) u.window) (sym c.pick.ensures.others)
+    (counts_left c.args.scenario.now c.args.self.now.machine c.args.entries.now c.args.cpu c.of-now.result c.last_end-from.result c.tick_of-tick.result c.begin-running.result c.begin-running.new.self s2 e c.add_time.new.window
+    c.requires.ready b with_bill c.pick.new.self.machine c.pick.new.e (c.pick.ensures.kept.shape ∙ settled ∙ tested ∙ spent) (picked_bill c.settle-done.new.self c.args.entries.now c.args.cpu c.bill_of-e.result.to c.bill_of-e.result c.settle-done.result _ c.pick.ensures.same))
 
 pub pick-requires-clause-dues : goal.pick-requires-clause-dues
 pick-requires-clause-dues c =
     let s = c.args.self.now.machine in
     let h = c.args.entries.now in
     let before =
-    settled_is c.args.scenario.now s h c.args.cpu c.of-now.result c.begin-running.result c.bill_of-e.result c.test-reboot.new.self c.test-reboot.result _
+    settled_by c.args.scenario.now s h c.args.cpu c.of-now.result c.begin-running.result c.bill_of-e.result c.test-reboot.new.self c.test-reboot.result _
     (tested_by c.args.scenario.now s h c.args.cpu _ _ _ _ _ _ _ _ _
     (c.of-now.ensures ∙ c.requires.after.nexts c.args.cpu c.requires.ready.exists) c.last_end-from.ensures.same c.begin-running.ensures.running c.begin-running.ensures.same c.begin_tick-commanded.ensures.same c.bill_of-e.ensures.same c.bill.ensures c.test-reboot.ensures)
     c.settle-done.ensures in
     λ d inside ne.
     let there = ap (λ (u : SchedulerState). length u.cpus) before in
-    c.requires.after.nexts d (omega (arith, inside, there, c.requires.ready.counted)) ∙ sym (c.requires.ready.others d ne) ∙ ap (λ (u : SchedulerState). due u h d) (sym before)
+    ap (λ (u : Scheduler). slice_index u.dues d) c.begin_tick-commanded.ensures.others
+    ∙ c.requires.after.nexts d (omega (arith, inside, there, c.requires.ready.counted)) ∙ sym (c.requires.ready.others d ne) ∙ ap (λ (u : SchedulerState). due u h d) (sym before)
 
 pub pick-requires-clause-spare : goal.pick-requires-clause-spare
 pick-requires-clause-spare c d past =
     let s = c.args.self.now.machine in
     let h = c.args.entries.now in
     let before =
-    settled_is c.args.scenario.now s h c.args.cpu c.of-now.result c.begin-running.result c.bill_of-e.result c.test-reboot.new.self c.test-reboot.result _
+    settled_by c.args.scenario.now s h c.args.cpu c.of-now.result c.begin-running.result c.bill_of-e.result c.test-reboot.new.self c.test-reboot.result _
     (tested_by c.args.scenario.now s h c.args.cpu _ _ _ _ _ _ _ _ _
     (c.of-now.ensures ∙ c.requires.after.nexts c.args.cpu c.requires.ready.exists) c.last_end-from.ensures.same c.begin-running.ensures.running c.begin-running.ensures.same c.begin_tick-commanded.ensures.same c.bill_of-e.ensures.same c.bill.ensures c.test-reboot.ensures)
     c.settle-done.ensures in
     let there = ap (λ (u : SchedulerState). length u.cpus) before in
-    c.requires.after.spare d (omega (arith, past, there, c.requires.ready.counted))
+    ap (λ (u : Scheduler). slice_index u.dues d) c.begin_tick-commanded.ensures.others
+    ∙ c.requires.after.spare d (omega (arith, past, there, c.requires.ready.counted))
 
 pub returns-then-is_over-clause-flagged : goal.returns-then-is_over-clause-flagged
 returns-then-is_over-clause-flagged c =
@@ -314,7 +316,7 @@ sync_all-requires-clause-count c =
     let b =
     tested_by c.args.scenario.now c.args.self.now.machine c.args.entries.now c.args.cpu _ _ _ _ _ _ _ _ _
     (c.of-now.ensures ∙ c.requires.after.nexts c.args.cpu c.requires.ready.exists) c.last_end-from.ensures.same c.begin-running.ensures.running c.begin-running.ensures.same c.begin_tick-commanded.ensures.same c.bill_of-e.ensures.same c.bill.ensures c.test-reboot.ensures in
-    ap length c.requires.after.seats ∙ seats_count c.args.self.now.machine ∙ sym c.requires.ready.count_billed
+    ap (λ (u : Scheduler). length u.ready) c.begin_tick-commanded.ensures.others ∙ ap length c.requires.after.seats ∙ seats_count c.args.self.now.machine ∙ sym c.requires.ready.count_billed
     ∙ ap (λ (s : SchedulerState). length s.threads) (sym (billed_by c.args.scenario.now c.args.self.now.machine c.args.entries.now c.args.cpu _ _ _ _ _ b))
 
 pub sync-requires-clause-count : goal.sync-requires-clause-count
@@ -322,7 +324,7 @@ sync-requires-clause-count c =
     let b =
     tested_by c.args.scenario.now c.args.self.now.machine c.args.entries.now c.args.cpu _ _ _ _ _ _ _ _ _
     (c.of-now.ensures ∙ c.requires.after.nexts c.args.cpu c.requires.ready.exists) c.last_end-from.ensures.same c.begin-running.ensures.running c.begin-running.ensures.same c.begin_tick-commanded.ensures.same c.bill_of-e.ensures.same c.bill.ensures c.test-reboot.ensures in
-    ap length c.requires.after.seats ∙ seats_count c.args.self.now.machine ∙ sym c.requires.ready.count_settled
+    ap (λ (u : Scheduler). length u.ready) c.begin_tick-commanded.ensures.others ∙ ap length c.requires.after.seats ∙ seats_count c.args.self.now.machine ∙ sym c.requires.ready.count_settled
     ∙ ap (λ (s : SchedulerState). length s.threads)
     (sym (settled_by c.args.scenario.now c.args.self.now.machine c.args.entries.now c.args.cpu _ _ _ _ _ _ b c.settle-done.ensures))
 
@@ -339,19 +341,19 @@ sync-requires-clause-tied c idle calm y apart =
     let billed = billed_by c.args.scenario.now c.args.self.now.machine c.args.entries.now c.args.cpu _ _ _ _ _ b in
     let own : c.bill_of-e.result.ran ≡ option_map (λ (p : Pick). p.thread) c.begin-running.result =
     ap (λ (e : Entry). e.ran) c.bill_of-e.ensures.same ∙ ran c.args.cpu c.last_end-from.result c.of-now.result c.begin-running.result in
-    ap (λ (l : List (Option Contender)). who_at l y) c.requires.after.seats ∙ who_seats c.args.self.now.machine y
+    ap (λ (u : Scheduler). who_at u.ready y) c.begin_tick-commanded.ensures.others ∙ ap (λ (l : List (Option Contender)). who_at l y) c.requires.after.seats ∙ who_seats c.args.self.now.machine y
     ∙ sym (step_seat c.args.scenario.now c.args.self.now.machine c.args.entries.now c.args.cpu c.of-now.result y _ c.begin-running.result c.bill_of-e.result _ _ _ _ c.test-reboot.result
-    (record { state = c.settle-done.new.self; done = c.settle-done.result }) c.begin_tick-commanded.new.woken
+    (record { state = c.settle-done.new.self; done = c.settle-done.result }) c.begin_tick-commanded.new.self.woken
     c.begin-running.ensures.same (c.begin_tick-commanded.ensures.idle idle y) c.bill.ensures c.test-reboot.ensures c.settle-done.ensures
     (λ p runs. subst (λ (s : SchedulerState). IsNobodysClient s.triples p.thread) (sym billed) (c.requires.ready.free_billed p (sym c.begin-running.ensures.running ∙ runs)))
     calm
-    (subst (λ o. IsTouched c.begin_tick-commanded.new.woken o (peer_of c.settle-done.result) (is_at_channel c.settle-done.result) c.settle-done.new.self.triples y → ⊥) own apart))
+    (subst (λ o. IsTouched c.begin_tick-commanded.new.self.woken o (peer_of c.settle-done.result) (is_at_channel c.settle-done.result) c.settle-done.new.self.triples y → ⊥) own apart))
 
 pub sync-requires-clause-out : goal.sync-requires-clause-out
 sync-requires-clause-out c y own =
     let who : c.bill_of-e.result.ran ≡ option_map (λ (p : Pick). p.thread) c.begin-running.result =
     ap (λ (e : Entry). e.ran) c.bill_of-e.ensures.same ∙ ran c.args.cpu c.last_end-from.result c.of-now.result c.begin-running.result in
-    ap (λ (l : List (Option Contender)). who_at l y) c.requires.after.seats
+    ap (λ (u : Scheduler). who_at u.ready y) c.begin_tick-commanded.ensures.others ∙ ap (λ (l : List (Option Contender)). who_at l y) c.requires.after.seats
     ∙ who_seats c.args.self.now.machine y
     ∙ running_out c.args.self.now.machine c.args.cpu y c.begin-running.result c.requires.ready.runs (sym c.begin-running.ensures.running) (sym who ∙ own)
 
@@ -364,17 +366,18 @@ pub stand_by-requires : goal.stand_by-requires
 stand_by-requires c still =
     let calm = neither c.go_on-is_later.result (c.begin_tick-commanded.result || nat_lt c.change_count-changes.result c.change_count.result) still in
     let both = neither c.begin_tick-commanded.result (nat_lt c.change_count-changes.result c.change_count.result) calm.1 in
-    let kept = calm_kept c.args.self.now.machine c.args.entries.now c.args.cpu c.begin-running.result c.begin-running.new.self c.begin_tick-commanded.new.self c.bill.new.self c.test-reboot.new.self c.bill_of-e.result c.test-reboot.result
+    let kept = calm_kept c.args.self.now.machine c.args.entries.now c.args.cpu c.begin-running.result c.begin-running.new.self c.begin_tick-commanded.new.self.machine c.bill.new.self c.test-reboot.new.self c.bill_of-e.result c.test-reboot.result
     c.begin-running.ensures.same (c.begin_tick-commanded.ensures.kept both.0) c.bill.ensures c.test-reboot.ensures
     (none_recorded c.change_count-changes.result c.change_count.result c.bill.new.self c.test-reboot.new.self c.change_count-changes.ensures c.change_count.ensures both.1) in
-    others_stand c.bill_of-e.result.billed c.args.self.now.machine.shape c.test-reboot.new.self.shape c.args.self.now.machine.rows c.test-reboot.new.self.rows c.args.self.now.window c.add_time.new.window c.args.self.now.standing
+    subst (λ (u : Scheduler). DoOthersStand c.bill_of-e.result.billed c.test-reboot.new.self.shape c.test-reboot.new.self.rows c.add_time.new.window u.standing) (sym c.begin_tick-commanded.ensures.others)
+    (others_stand c.bill_of-e.result.billed c.args.self.now.machine.shape c.test-reboot.new.self.shape c.args.self.now.machine.rows c.test-reboot.new.self.rows c.args.self.now.window c.add_time.new.window c.args.self.now.standing
     c.requires.after.stands kept.shape kept.rows
-    (λ p apart. c.add_time.ensures.others p apart ∙ ap (λ (w : Window). total_of w p) (c.begin_tick-commanded.ensures.window both.0 ∙ c.go_on-is_later.ensures.stays calm.0))
+    (λ p apart. c.add_time.ensures.others p apart ∙ ap (λ (w : Window). total_of w p) (c.begin_tick-commanded.ensures.window both.0 ∙ c.go_on-is_later.ensures.stays calm.0)))
 
 pub returns-then-is_over-clause-kept : goal.returns-then-is_over-clause-kept
 returns-then-is_over-clause-kept c calm =
     let both = neither c.begin_tick-commanded.result (nat_lt c.change_count-changes.result c.change_count.result) calm in
-    calm_kept c.args.self.now.machine c.args.entries.now c.args.cpu c.begin-running.result c.begin-running.new.self c.begin_tick-commanded.new.self c.bill.new.self c.test-reboot.new.self c.bill_of-e.result c.test-reboot.result
+    calm_kept c.args.self.now.machine c.args.entries.now c.args.cpu c.begin-running.result c.begin-running.new.self c.begin_tick-commanded.new.self.machine c.bill.new.self c.test-reboot.new.self c.bill_of-e.result c.test-reboot.result
     c.begin-running.ensures.same (c.begin_tick-commanded.ensures.kept both.0) c.bill.ensures c.test-reboot.ensures
     (none_recorded c.change_count-changes.result c.change_count.result c.bill.new.self c.test-reboot.new.self c.change_count-changes.ensures c.change_count.ensures both.1)
 
@@ -384,7 +387,7 @@ returns-clause-kept c calm =
     let settled : IsKept c.test-reboot.new.self c.settle-done.new.self =
     subst (λ (x : Effect). IsKept c.test-reboot.new.self x.state) c.settle-done.ensures (settled_kept c.args.scenario.now c.test-reboot.new.self c.of-now.result c.begin-running.result) in
     kept_then
-    (calm_kept c.args.self.now.machine c.args.entries.now c.args.cpu c.begin-running.result c.begin-running.new.self c.begin_tick-commanded.new.self c.bill.new.self c.test-reboot.new.self c.bill_of-e.result c.test-reboot.result
+    (calm_kept c.args.self.now.machine c.args.entries.now c.args.cpu c.begin-running.result c.begin-running.new.self c.begin_tick-commanded.new.self.machine c.bill.new.self c.test-reboot.new.self c.bill_of-e.result c.test-reboot.result
     c.begin-running.ensures.same (c.begin_tick-commanded.ensures.kept both.0) c.bill.ensures c.test-reboot.ensures
     (none_recorded c.change_count-changes.result c.change_count.result c.bill.new.self c.test-reboot.new.self c.change_count-changes.ensures c.change_count.ensures both.1))
     (kept_then settled c.pick.ensures.kept)
@@ -394,7 +397,8 @@ returns-clause-stands c =
     let settled : IsKept c.test-reboot.new.self c.settle-done.new.self =
     subst (λ (x : Effect). IsKept c.test-reboot.new.self x.state) c.settle-done.ensures (settled_kept c.args.scenario.now c.test-reboot.new.self c.of-now.result c.begin-running.result) in
     let after = kept_then settled c.pick.ensures.kept in
-    c.stand_by.ensures.same ∙ (λ i. parts_in (sym after.shape i) (sym after.rows i) c.add_time.new.window)
+    subst (λ (u : Scheduler). u.standing ≡ parts_in c.pick.new.self.machine.shape c.pick.new.self.machine.rows u.window) (sym c.pick.ensures.others)
+    (c.stand_by.ensures.same ∙ (λ i. parts_in (sym after.shape i) (sym after.rows i) c.add_time.new.window))
 
 pub returns-then-is_over-clause-same : goal.returns-then-is_over-clause-same
 returns-then-is_over-clause-same c =
@@ -438,12 +442,9 @@ sync-requires-clause-stamped c =
 
 -- ---- the timer
 
-pub begin_tick-commanded-requires-clause-timed : goal.begin_tick-commanded-requires-clause-timed
-begin_tick-commanded-requires-clause-timed c = c.requires.after.timed ∙ ap sleepers_of (sym c.begin-running.ensures.same)
-
 pub returns-then-is_over-clause-timed : goal.returns-then-is_over-clause-timed
 returns-then-is_over-clause-timed c =
-    tested_timer c.begin_tick-commanded.new.self c.bill.new.self c.test-reboot.new.self c.args.entries.now c.bill_of-e.result c.begin-running.result c.test-reboot.result c.begin_tick-commanded.new.timer
+    tested_timer c.begin_tick-commanded.new.self.machine c.bill.new.self c.test-reboot.new.self c.args.entries.now c.bill_of-e.result c.begin-running.result c.test-reboot.result c.begin_tick-commanded.new.self.timer
     c.begin_tick-commanded.ensures.timed c.bill.ensures c.test-reboot.ensures
 
 pub time_done-requires-clause-count : goal.time_done-requires-clause-count
@@ -451,7 +452,7 @@ time_done-requires-clause-count c =
     let settled : IsKept c.test-reboot.new.self c.settle-done.new.self =
     subst (λ (x : Effect). IsKept c.test-reboot.new.self x.state) c.settle-done.ensures (settled_kept c.args.scenario.now c.test-reboot.new.self c.of-now.result c.begin-running.result) in
     let timed =
-    tested_timer c.begin_tick-commanded.new.self c.bill.new.self c.test-reboot.new.self c.args.entries.now c.bill_of-e.result c.begin-running.result c.test-reboot.result c.begin_tick-commanded.new.timer
+    tested_timer c.begin_tick-commanded.new.self.machine c.bill.new.self c.test-reboot.new.self c.args.entries.now c.bill_of-e.result c.begin-running.result c.test-reboot.result c.begin_tick-commanded.new.self.timer
     c.begin_tick-commanded.ensures.timed c.bill.ensures c.test-reboot.ensures in
     ap length timed ∙ sleepers_count c.test-reboot.new.self ∙ sym settled.threads
 
@@ -464,9 +465,9 @@ time_done-requires-clause-out c y own =
     let who : c.bill_of-e.result.ran ≡ option_map (λ (p : Pick). p.thread) c.begin-running.result =
     ap (λ (e : Entry). e.ran) c.bill_of-e.ensures.same ∙ ran c.args.cpu c.last_end-from.result c.of-now.result c.begin-running.result in
     let timed =
-    tested_timer c.begin_tick-commanded.new.self c.bill.new.self c.test-reboot.new.self c.args.entries.now c.bill_of-e.result c.begin-running.result c.test-reboot.result c.begin_tick-commanded.new.timer
+    tested_timer c.begin_tick-commanded.new.self.machine c.bill.new.self c.test-reboot.new.self c.args.entries.now c.bill_of-e.result c.begin-running.result c.test-reboot.result c.begin_tick-commanded.new.self.timer
     c.begin_tick-commanded.ensures.timed c.bill.ensures c.test-reboot.ensures in
-    running_awake c.test-reboot.new.self c.args.cpu y c.begin_tick-commanded.new.timer c.begin-running.result timed
+    running_awake c.test-reboot.new.self c.args.cpu y c.begin_tick-commanded.new.self.timer c.begin-running.result timed
     (λ p runs. ap (λ (s : SchedulerState). (thread_at s p.thread).state) billed ∙ c.requires.ready.runs_billed p (sym c.begin-running.ensures.running ∙ runs))
     (sym who ∙ own)
 
@@ -475,14 +476,14 @@ time_done-requires-clause-tied c calm y own peer =
     let who : c.bill_of-e.result.ran ≡ option_map (λ (p : Pick). p.thread) c.begin-running.result =
     ap (λ (e : Entry). e.ran) c.bill_of-e.ensures.same ∙ ran c.args.cpu c.last_end-from.result c.of-now.result c.begin-running.result in
     let timed =
-    tested_timer c.begin_tick-commanded.new.self c.bill.new.self c.test-reboot.new.self c.args.entries.now c.bill_of-e.result c.begin-running.result c.test-reboot.result c.begin_tick-commanded.new.timer
+    tested_timer c.begin_tick-commanded.new.self.machine c.bill.new.self c.test-reboot.new.self c.args.entries.now c.bill_of-e.result c.begin-running.result c.test-reboot.result c.begin_tick-commanded.new.self.timer
     c.begin_tick-commanded.ensures.timed c.bill.ensures c.test-reboot.ensures in
-    settled_timer c.args.scenario.now c.test-reboot.new.self c.of-now.result y c.begin-running.result (record { state = c.settle-done.new.self; done = c.settle-done.result }) c.begin_tick-commanded.new.timer
+    settled_timer c.args.scenario.now c.test-reboot.new.self c.of-now.result y c.begin-running.result (record { state = c.settle-done.new.self; done = c.settle-done.result }) c.begin_tick-commanded.new.self.timer
     timed c.settle-done.ensures calm (subst (λ o. o ≢ Some y) who own) peer
 
 pub returns-clause-timed : goal.returns-clause-timed
 returns-clause-timed c =
-    c.time_done.ensures ∙ sym (picked_sleepers c.settle-done.new.self c.args.entries.now c.args.cpu _ _) ∙ ap (λ (out : Step). sleepers_of out.state) c.pick.ensures.same
+    ap (λ (u : Scheduler). u.timer) c.pick.ensures.others ∙ c.time_done.ensures ∙ sym (picked_sleepers c.settle-done.new.self c.args.entries.now c.args.cpu _ _) ∙ ap (λ (out : Step). sleepers_of out.state) c.pick.ensures.same
 
 -- ---- what each processor runs
 
@@ -494,8 +495,9 @@ post_others-requires c idle alone =
     tested_by c.args.scenario.now s h c.args.cpu _ _ _ _ _ _ _ _ _
     (c.of-now.ensures ∙ c.requires.after.nexts c.args.cpu c.requires.ready.exists) c.last_end-from.ensures.same c.begin-running.ensures.running c.begin-running.ensures.same c.begin_tick-commanded.ensures.same c.bill_of-e.ensures.same c.bill.ensures c.test-reboot.ensures in
     let billed = billed_by c.args.scenario.now s h c.args.cpu _ _ _ _ _ b in
-    let before = settled_is c.args.scenario.now s h c.args.cpu c.of-now.result c.begin-running.result c.bill_of-e.result c.test-reboot.new.self c.test-reboot.result _ b c.settle-done.ensures in
-    posts_stay s c.settle-done.new.self c.args.cpu c.args.self.now.posts
+    let before = settled_by c.args.scenario.now s h c.args.cpu c.of-now.result c.begin-running.result c.bill_of-e.result c.test-reboot.new.self c.test-reboot.result _ b c.settle-done.ensures in
+    let posted = subst (λ (u : Scheduler). ArePosts s u.posts) (sym c.begin_tick-commanded.ensures.others) c.requires.after.posted in
+    posts_stay s c.settle-done.new.self c.args.cpu c.begin_tick-commanded.new.self.posts
     (ap (λ (u : SchedulerState). length u.cpus) before ∙ c.requires.ready.counted)
     (λ d ne. ap (λ (u : SchedulerState). cpu_at u d) before ∙ c.requires.ready.same_cpu d ne)
     (λ d q ne other.
@@ -505,4 +507,26 @@ post_others-requires c idle alone =
     (λ p runs. subst (λ (u : SchedulerState). IsNobodysClient u.triples p.thread) (sym billed) (c.requires.ready.free_billed p (sym c.begin-running.ensures.running ∙ runs)))
     (λ p runs. runs_apart s c.args.cpu d p q c.requires.ready.runs ne (sym c.begin-running.ensures.running ∙ runs) other)
     alone)
-    (λ d inside ne. c.requires.after.posted d inside)
+    (λ d inside ne. posted d inside)
+
+-- ---- the ends and the dues
+
+pub pick-requires-clause-own : goal.pick-requires-clause-own
+pick-requires-clause-own c =
+    omega (arith, ap (λ (u : Scheduler). slice_index u.dues c.args.cpu) c.begin_tick-commanded.ensures.others, c.of-now.ensures, c.bill_of-e.ensures.to)
+
+pub returns-then-is_over-clause-ends : goal.returns-then-is_over-clause-ends
+returns-then-is_over-clause-ends c =
+    c.add.ensures c.args.entries.now (subst (λ (u : Scheduler). AreEnds c.args.entries.now u.ends) (sym c.begin_tick-commanded.ensures.others) c.requires.after.lasts)
+
+pub returns-clause-ends : goal.returns-clause-ends
+returns-clause-ends c =
+    c.add-2.ensures c.args.entries.now
+    (subst (λ (u : Scheduler). AreEnds c.args.entries.now u.ends) (sym c.pick.ensures.others)
+    (subst (λ (u : Scheduler). AreEnds c.args.entries.now u.ends) (sym c.begin_tick-commanded.ensures.others) c.requires.after.lasts))
+
+pub returns-then-is_over-clause-dues : goal.returns-then-is_over-clause-dues
+returns-then-is_over-clause-dues c = ap (λ (u : Scheduler). u.dues) c.begin_tick-commanded.ensures.others
+
+pub returns-clause-dues : goal.returns-clause-dues
+returns-clause-dues c = ap (λ (u : Scheduler). u.dues) c.pick.ensures.others ∙ ap (λ (u : Scheduler). u.dues) c.begin_tick-commanded.ensures.others
