@@ -1,6 +1,5 @@
 -- Each outcome has the status that is due to its cause, and no other is due.
 use Rattle.std.proofs.Common.{◌≡◌, ℕ, ◌+◌, ◌≤◌, List, length, Option, Some, None, Result, Ok, Err, inl, inr, refl, sym, ap, subst, ◌∙◌, arith}
-use Rattle.std.proofs.lemmas.Option.{none-some}
 use Rattle.std.specs.Result.{result_err}
 use Rattle.aps_admit.specs.Admission.{admission}
 use Rattle.aps_admit.specs.declared.admission.Admission.{Admission}
@@ -50,7 +49,7 @@ refused_by : (command : Command) (bytes : List ℕ) (h : Option History) (refusa
     → refusal_by command bytes ≡ Some refusal → IsDueTo command bytes h InputRefused
 refused_by (Solo report limit) bytes h refusal is = refused_read (λ _. run_status h) (reads bytes) refusal is
 refused_by (Run order report limit) bytes h refusal is = refused_read (λ _. run_status h) (reads bytes) refusal is
-refused_by (Gen seed cpus partitions ticks) bytes h refusal is = absurd (none-some refusal is)
+refused_by (Gen seed cpus partitions ticks) bytes h refusal is = absurd cc
 refused_by Upgrade bytes h refusal is = refused_read (λ _. Some Done) (reads bytes) refusal is
 refused_by (Check order limit) bytes h refusal is = refused_check order limit (reads_check bytes) refusal is
 refused_by Admit bytes h refusal is =
@@ -58,7 +57,7 @@ refused_by Admit bytes h refusal is =
 
 pub refused : (asked : Option Command) (bytes : List ℕ) (h : Option History) (refusal : InputRefusal) → length bytes ≤ most_of asked
     → refusal_of asked bytes ≡ Some refusal → IsDueStatus asked bytes h InputRefused
-refused None bytes h refusal short is = absurd (none-some refusal is)
+refused None bytes h refusal short is = absurd cc
 refused (Some command) bytes h refusal short is = inr (short, refused_by command bytes h refusal is)
 
 -- what was read isn't looked into
@@ -76,13 +75,13 @@ value_due status read value is = rw is refl
 ran_by : (asked : Option Command) (run : RunAsked) (bytes : List ℕ) (h : History) (end : End) → run_asked asked ≡ Some run
     → length bytes ≤ 1048576 → reads bytes ≡ Ok h.scenario → h.end ≡ Some end
     → IsDueStatus asked bytes (Some h) (status_of_end end)
-ran_by None run bytes h end is short read ended = absurd (none-some run is)
+ran_by None run bytes h end is short read ended = absurd cc
 ran_by (Some (Solo report limit)) run bytes h end is short read ended = inr (short, run_due (reads bytes) h end read ended)
 ran_by (Some (Run order report limit)) run bytes h end is short read ended = inr (short, run_due (reads bytes) h end read ended)
-ran_by (Some (Gen seed cpus partitions ticks)) run bytes h end is short read ended = absurd (none-some run is)
-ran_by (Some Upgrade) run bytes h end is short read ended = absurd (none-some run is)
-ran_by (Some (Check order limit)) run bytes h end is short read ended = absurd (none-some run is)
-ran_by (Some Admit) run bytes h end is short read ended = absurd (none-some run is)
+ran_by (Some (Gen seed cpus partitions ticks)) run bytes h end is short read ended = absurd cc
+ran_by (Some Upgrade) run bytes h end is short read ended = absurd cc
+ran_by (Some (Check order limit)) run bytes h end is short read ended = absurd cc
+ran_by (Some Admit) run bytes h end is short read ended = absurd cc
 
 pub ran : (input : Input) (report : Report) (end : End) (h : History) → RanAsRead input report end h
     → IsDueStatus input.asked input.reading.bytes (Some h) (status_of_end end)
