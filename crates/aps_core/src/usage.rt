@@ -1,5 +1,5 @@
 //! The window of ticks, as the steps turn it, and how each partition stands by it.
-ghost use Rattle.std.specs.Prelude.{◌≡◌, ◌≢◌, ℕ, ◌+◌, ◌-◌, ◌/◌, ◌<◌, ◌≤◌, ◌++◌, List, [], ◌∷◌, length, All, Some, false};
+ghost use Rattle.std.specs.Prelude.{◌≡◌, ◌≢◌, ℕ, ◌+◌, ◌-◌, ◌/◌, ◌<◌, ◌≤◌, ◌++◌, List, [], ◌∷◌, length, All, Some, true, false};
 ghost use Rattle.aps_model.specs.declared.entry.Entry.{Entry as EntryOf};
 ghost use Rattle.aps_model.specs.Budget.{has_standing};
 ghost use Rattle.aps_model.specs.History.{IsEntry};
@@ -23,6 +23,7 @@ pub fn go_on(window: &mut Window, tick: u64) -> bool
     ensures same { window.new ≡ advanced (tick - window.old.tick) window.old }
     ensures stays { result ≡ false → window.new ≡ window.old }
     ensures at_hand { result ≡ false → tick ≡ window.old.tick }
+    ensures later { result ≡ true → window.old.tick < tick }
 {
     let ticks = tick as u32 - window.tick();
     if ticks > 0 {

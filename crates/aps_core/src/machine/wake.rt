@@ -99,7 +99,13 @@ impl Woken {
 impl Machine {
     /// The sleepers whose moment has come go on. One whose next operation is a sleep is in the timer again.
     #[inline(never)]
-    pub fn wake_all(&mut self, scenario: &Scenario, now: Nanos, timer: &mut Timer, woken: &mut Woken)
+    pub fn wake_all(
+        &mut self,
+        scenario: &Scenario,
+        now: Nanos,
+        timer: &mut Timer,
+        woken: &mut Woken,
+    )
         requires now { now ≤ last_moment }
         requires room { HasRoomToWake last_place stamps_before self.old }
         requires timed { timer.old ≡ sleepers_of self.old }

@@ -48,13 +48,7 @@ impl Scheduler {
     /// The work of this tick, if it begins with this step: the commands of the tick, and then the wakes, from the timer,
     /// which then has the sleepers that are left. The answer is whether there was a command; else no thread's seat changes
     /// but of those who woke, who are told, and no thread inherits other values than before.
-    fn work_tick(
-        &mut self,
-        scenario: &Scenario,
-        entries: &[Entry],
-        now: Nanos,
-        tick: u64,
-    ) -> bool
+    fn work_tick(&mut self, scenario: &Scenario, entries: &[Entry], now: Nanos, tick: u64) -> bool
         requires { CanBeginTick scenario.now entries.now now tick self.old }
         ensures same { self.new.machine ≡ tick_work scenario.now self.old.machine entries.now now }
         ensures timed { self.new.timer ≡ sleepers_of self.new.machine }
@@ -67,9 +61,9 @@ impl Scheduler {
         ensures others { self.new ≡ record self.old { machine = self.new.machine; window = self.new.window; timer = self.new.timer; woken = self.new.woken; ctl = self.new.ctl } }
     {
         if self.machine.has_tick_work(entries, now, tick) {
-            let commanded =
-                self.machine
-                    .do_commands(entries, &mut self.window, &mut self.ctl, tick);
+            let commanded = self
+                .machine
+                .do_commands(entries, &mut self.window, &mut self.ctl, tick);
             self.machine
                 .wake_all(scenario, now, &mut self.timer, &mut self.woken);
             return commanded;
