@@ -52,6 +52,11 @@ pub record IsBilling (scenario : Scenario) (s : SchedulerState) (h : List Entry)
   pub ends : e.to ≡ now
   pub at_tick : tick ≡ now / s.shape.tick
 
+pub billing : {scenario : Scenario} {s : SchedulerState} {h : List Entry} {c now from tick : ℕ} {running : Option Pick} {s1 s2 : SchedulerState} {e : Entry}
+    → now ≡ due s h c → from ≡ last_end h c → running ≡ (cpu_at s c).running → s1 ≡ with_cpu s c (record (cpu_at s c) { flag = None }) → s2 ≡ tick_work scenario s1 h now
+    → e ≡ bill_of c from now running → e.from ≡ from → e.to ≡ now → tick ≡ now / s.shape.tick → IsBilling scenario s h c now from tick running s1 s2 e
+billing e1 e2 e3 e4 e5 e6 e7 e8 e9 = record { at_due = e1; from_end = e2; ran = e3; begun = e4; ticked = e5; entry = e6; begins = e7; ends = e8; at_tick = e9 }
+
 tick_kept : (scenario : Scenario) (s : SchedulerState) (h : List Entry) (c now from tick : ℕ) (running : Option Pick) (s1 s2 : SchedulerState) (e : Entry) → IsReady scenario s h c
     → IsBilling scenario s h c now from tick running s1 s2 e → s2.shape.tick ≡ s.shape.tick
 tick_kept scenario s h c now from tick running s1 s2 e r b =

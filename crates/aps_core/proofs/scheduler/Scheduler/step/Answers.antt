@@ -37,7 +37,7 @@ use Rattle.aps_core.proofs.SeatsStay.{running_out, step_seat}
 use Rattle.aps_core.proofs.Asleep.{running_awake, sleepers_count}
 use Rattle.aps_core.proofs.SleepersStay.{picked_sleepers, settled_timer, tested_timer}
 use Rattle.aps_core.proofs.StandsStay.{calm_kept, neither, others_stand}
-use Rattle.aps_core.proofs.StepCounts.{IsBilling, counted_as, counts_begun, counts_left, done_bill, entry_of, own_bill, picked_bill, room_to_bill, settled_shape, spent_shape, tested_shape}
+use Rattle.aps_core.proofs.StepCounts.{IsBilling, billing, counted_as, counts_begun, counts_left, done_bill, entry_of, own_bill, picked_bill, room_to_bill, settled_shape, spent_shape, tested_shape}
 use Rattle.aps_core.proofs.StepParts.{billed_by, room_after, settled_by, step_at_horizon, step_below, step_over, tested_by, ticked_by}
 use Rattle.aps_core.proofs.TickDone.{work_done}
 use Rattle.aps_core.proofs.scheduler.Scheduler.step.Goals as goal
@@ -111,17 +111,8 @@ add_time-requires-clause-entry c =
     let s2 = c.begin_tick-commanded.new.self.machine in
     let e = c.bill_of-e.result in
     let b : IsBilling c.args.scenario.now c.args.self.now.machine c.args.entries.now c.args.cpu c.of-now.result c.last_end-from.result c.tick_of-tick.result c.begin-running.result c.begin-running.new.self s2 e =
-    record {
-      at_due = (c.of-now.ensures ∙ c.requires.after.nexts c.args.cpu c.requires.ready.exists);
-      from_end = c.last_end-from.ensures.same;
-      ran = c.begin-running.ensures.running;
-      begun = c.begin-running.ensures.same;
-      ticked = c.begin_tick-commanded.ensures.same;
-      entry = c.bill_of-e.ensures.same;
-      begins = c.bill_of-e.ensures.from;
-      ends = c.bill_of-e.ensures.to;
-      at_tick = c.tick_of-tick.ensures.same;
-    } in
+    billing (c.of-now.ensures ∙ c.requires.after.nexts c.args.cpu c.requires.ready.exists) c.last_end-from.ensures.same c.begin-running.ensures.running c.begin-running.ensures.same
+    c.begin_tick-commanded.ensures.same c.bill_of-e.ensures.same c.bill_of-e.ensures.from c.bill_of-e.ensures.to c.tick_of-tick.ensures.same in
     entry_of c.args.scenario.now c.args.self.now.machine c.args.entries.now c.args.cpu c.of-now.result c.last_end-from.result c.tick_of-tick.result c.begin-running.result c.begin-running.new.self s2 e c.requires.ready b
 
 pub add_time-requires-clause-room : goal.add_time-requires-clause-room
@@ -129,17 +120,8 @@ add_time-requires-clause-room c =
     let s2 = c.begin_tick-commanded.new.self.machine in
     let e = c.bill_of-e.result in
     let b : IsBilling c.args.scenario.now c.args.self.now.machine c.args.entries.now c.args.cpu c.of-now.result c.last_end-from.result c.tick_of-tick.result c.begin-running.result c.begin-running.new.self s2 e =
-    record {
-      at_due = (c.of-now.ensures ∙ c.requires.after.nexts c.args.cpu c.requires.ready.exists);
-      from_end = c.last_end-from.ensures.same;
-      ran = c.begin-running.ensures.running;
-      begun = c.begin-running.ensures.same;
-      ticked = c.begin_tick-commanded.ensures.same;
-      entry = c.bill_of-e.ensures.same;
-      begins = c.bill_of-e.ensures.from;
-      ends = c.bill_of-e.ensures.to;
-      at_tick = c.tick_of-tick.ensures.same;
-    } in
+    billing (c.of-now.ensures ∙ c.requires.after.nexts c.args.cpu c.requires.ready.exists) c.last_end-from.ensures.same c.begin-running.ensures.running c.begin-running.ensures.same
+    c.begin_tick-commanded.ensures.same c.bill_of-e.ensures.same c.bill_of-e.ensures.from c.bill_of-e.ensures.to c.tick_of-tick.ensures.same in
     let before = c.begin_tick-commanded.ensures.counts in
     subst (λ (x : Shape). CanBill x.tick c.begin_tick-commanded.new.self.window e) (sym c.shape.ensures.same)
     (room_to_bill c.args.scenario.now c.args.self.now.machine c.args.entries.now c.args.cpu c.of-now.result c.last_end-from.result c.tick_of-tick.result c.begin-running.result c.begin-running.new.self s2 e c.begin_tick-commanded.new.self.window
@@ -152,17 +134,8 @@ test-reboot-requires-clause-counts c =
     let s2 = c.begin_tick-commanded.new.self.machine in
     let e = c.bill_of-e.result in
     let b : IsBilling c.args.scenario.now c.args.self.now.machine c.args.entries.now c.args.cpu c.of-now.result c.last_end-from.result c.tick_of-tick.result c.begin-running.result c.begin-running.new.self s2 e =
-    record {
-      at_due = (c.of-now.ensures ∙ c.requires.after.nexts c.args.cpu c.requires.ready.exists);
-      from_end = c.last_end-from.ensures.same;
-      ran = c.begin-running.ensures.running;
-      begun = c.begin-running.ensures.same;
-      ticked = c.begin_tick-commanded.ensures.same;
-      entry = c.bill_of-e.ensures.same;
-      begins = c.bill_of-e.ensures.from;
-      ends = c.bill_of-e.ensures.to;
-      at_tick = c.tick_of-tick.ensures.same;
-    } in
+    billing (c.of-now.ensures ∙ c.requires.after.nexts c.args.cpu c.requires.ready.exists) c.last_end-from.ensures.same c.begin-running.ensures.running c.begin-running.ensures.same
+    c.begin_tick-commanded.ensures.same c.bill_of-e.ensures.same c.bill_of-e.ensures.from c.bill_of-e.ensures.to c.tick_of-tick.ensures.same in
     let before = c.begin_tick-commanded.ensures.counts in
     let with_bill =
     counted_as s2.shape c.shape.result.now c.args.entries.now (c.of-now.result / c.begin-running.new.self.shape.tick) c.begin_tick-commanded.new.self.window c.add_time.new.window e c.shape.ensures.same
@@ -181,17 +154,8 @@ returns-then-is_over-clause-counts c =
     let s2 = c.begin_tick-commanded.new.self.machine in
     let e = c.bill_of-e.result in
     let b : IsBilling c.args.scenario.now c.args.self.now.machine c.args.entries.now c.args.cpu c.of-now.result c.last_end-from.result c.tick_of-tick.result c.begin-running.result c.begin-running.new.self s2 e =
-    record {
-      at_due = (c.of-now.ensures ∙ c.requires.after.nexts c.args.cpu c.requires.ready.exists);
-      from_end = c.last_end-from.ensures.same;
-      ran = c.begin-running.ensures.running;
-      begun = c.begin-running.ensures.same;
-      ticked = c.begin_tick-commanded.ensures.same;
-      entry = c.bill_of-e.ensures.same;
-      begins = c.bill_of-e.ensures.from;
-      ends = c.bill_of-e.ensures.to;
-      at_tick = c.tick_of-tick.ensures.same;
-    } in
+    billing (c.of-now.ensures ∙ c.requires.after.nexts c.args.cpu c.requires.ready.exists) c.last_end-from.ensures.same c.begin-running.ensures.running c.begin-running.ensures.same
+    c.begin_tick-commanded.ensures.same c.bill_of-e.ensures.same c.bill_of-e.ensures.from c.bill_of-e.ensures.to c.tick_of-tick.ensures.same in
     let before = c.begin_tick-commanded.ensures.counts in
     let with_bill =
     counted_as s2.shape c.shape.result.now c.args.entries.now (c.of-now.result / c.begin-running.new.self.shape.tick) c.begin_tick-commanded.new.self.window c.add_time.new.window e c.shape.ensures.same
@@ -213,17 +177,8 @@ pick-requires-clause-stands c =
     let s2 = c.begin_tick-commanded.new.self.machine in
     let e = c.bill_of-e.result in
     let b : IsBilling c.args.scenario.now c.args.self.now.machine c.args.entries.now c.args.cpu c.of-now.result c.last_end-from.result c.tick_of-tick.result c.begin-running.result c.begin-running.new.self s2 e =
-    record {
-      at_due = (c.of-now.ensures ∙ c.requires.after.nexts c.args.cpu c.requires.ready.exists);
-      from_end = c.last_end-from.ensures.same;
-      ran = c.begin-running.ensures.running;
-      begun = c.begin-running.ensures.same;
-      ticked = c.begin_tick-commanded.ensures.same;
-      entry = c.bill_of-e.ensures.same;
-      begins = c.bill_of-e.ensures.from;
-      ends = c.bill_of-e.ensures.to;
-      at_tick = c.tick_of-tick.ensures.same;
-    } in
+    billing (c.of-now.ensures ∙ c.requires.after.nexts c.args.cpu c.requires.ready.exists) c.last_end-from.ensures.same c.begin-running.ensures.running c.begin-running.ensures.same
+    c.begin_tick-commanded.ensures.same c.bill_of-e.ensures.same c.bill_of-e.ensures.from c.bill_of-e.ensures.to c.tick_of-tick.ensures.same in
     let before = c.begin_tick-commanded.ensures.counts in
     let with_bill =
     counted_as s2.shape c.shape.result.now c.args.entries.now (c.of-now.result / c.begin-running.new.self.shape.tick) c.begin_tick-commanded.new.self.window c.add_time.new.window e c.shape.ensures.same
@@ -254,17 +209,8 @@ returns-clause-counts c =
     let s2 = c.begin_tick-commanded.new.self.machine in
     let e = c.bill_of-e.result in
     let b : IsBilling c.args.scenario.now c.args.self.now.machine c.args.entries.now c.args.cpu c.of-now.result c.last_end-from.result c.tick_of-tick.result c.begin-running.result c.begin-running.new.self s2 e =
-    record {
-      at_due = (c.of-now.ensures ∙ c.requires.after.nexts c.args.cpu c.requires.ready.exists);
-      from_end = c.last_end-from.ensures.same;
-      ran = c.begin-running.ensures.running;
-      begun = c.begin-running.ensures.same;
-      ticked = c.begin_tick-commanded.ensures.same;
-      entry = c.bill_of-e.ensures.same;
-      begins = c.bill_of-e.ensures.from;
-      ends = c.bill_of-e.ensures.to;
-      at_tick = c.tick_of-tick.ensures.same;
-    } in
+    billing (c.of-now.ensures ∙ c.requires.after.nexts c.args.cpu c.requires.ready.exists) c.last_end-from.ensures.same c.begin-running.ensures.running c.begin-running.ensures.same
+    c.begin_tick-commanded.ensures.same c.bill_of-e.ensures.same c.bill_of-e.ensures.from c.bill_of-e.ensures.to c.tick_of-tick.ensures.same in
     let before = c.begin_tick-commanded.ensures.counts in
     let with_bill =
     counted_as s2.shape c.shape.result.now c.args.entries.now (c.of-now.result / c.begin-running.new.self.shape.tick) c.begin_tick-commanded.new.self.window c.add_time.new.window e c.shape.ensures.same
