@@ -46,3 +46,7 @@ pub record CanBeginTick (scenario : Scenario) (h : List Entry) (now tick : ℕ) 
   pub timed : s.timer ≡ sleepers_of s.machine
   pub replies : length (tick_work scenario s.machine h now).replies ≤ most_commands
   pub changes : length (tick_work scenario s.machine h now).changes ≤ changes_of_a_run
+
+-- the work of a tick changes the machine, the window, the timer, those who woke and the commands to come, and nothing else
+abbrev pub IsTickOf : Scheduler → Scheduler → Type 0
+IsTickOf s t = t ≡ record s { machine = t.machine; window = t.window; timer = t.timer; woken = t.woken; ctl = t.ctl }

@@ -6,7 +6,7 @@ ghost use Rattle.aps_model.specs.TickWork.{has_tick_work, tick_work};
 ghost use Rattle.aps_core.specs.Counts.{Counts};
 ghost use Rattle.aps_core.specs.Kept.{IsKept};
 ghost use Rattle.aps_core.specs.Pending.{IsPending};
-ghost use Rattle.aps_core.specs.Scheduler.{CanBeginTick};
+ghost use Rattle.aps_core.specs.Scheduler.{CanBeginTick, IsTickOf};
 ghost use Rattle.aps_core.specs.Seats.{seat_at};
 ghost use Rattle.aps_core.specs.Sleepers.{sleepers_of};
 ghost use Rattle.aps_core.specs.Touched.{woke};
@@ -36,7 +36,7 @@ impl Scheduler {
         ensures window { result ≡ false → self.new.window ≡ self.old.window }
         ensures counts { Counts self.new.machine.shape entries.now (now / self.old.machine.shape.tick) self.new.window }
         ensures pending { (e : EntryOf) → e.to ≡ now → IsPending scenario.now self.old.machine.shape.tick (entries.now ++ e ∷ []) self.new.ctl }
-        ensures others { self.new ≡ record self.old { machine = self.new.machine; window = self.new.window; timer = self.new.timer; woken = self.new.woken; ctl = self.new.ctl } }
+        ensures others { IsTickOf self.old self.new }
     {
         if is_later || entries.is_empty() {
             return self.work_tick(scenario, entries, now, tick);
@@ -58,7 +58,7 @@ impl Scheduler {
         ensures window { result ≡ false → self.new.window ≡ self.old.window }
         ensures counts { Counts self.new.machine.shape entries.now (now / self.old.machine.shape.tick) self.new.window }
         ensures pending { (e : EntryOf) → e.to ≡ now → IsPending scenario.now self.old.machine.shape.tick (entries.now ++ e ∷ []) self.new.ctl }
-        ensures others { self.new ≡ record self.old { machine = self.new.machine; window = self.new.window; timer = self.new.timer; woken = self.new.woken; ctl = self.new.ctl } }
+        ensures others { IsTickOf self.old self.new }
     {
         if self.machine.has_tick_work(entries, now, tick) {
             let commanded = self
