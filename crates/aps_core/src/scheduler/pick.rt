@@ -14,7 +14,8 @@ use aps_model::{Contender, CpuId, Entry, Facts, ThreadId};
 impl Scheduler {
     /// The pick of the processor after this entry, which has its operation, and then the flag. The entry has both then.
     pub fn pick(&mut self, entries: &[Entry], cpu: CpuId, e: &mut Entry)
-        requires stands { self.old.standing ≡ all_parts self.old.machine.shape self.old.machine.rows (entries.now ++ e.old ∷ []) (e.old.to / self.old.machine.shape.tick) }
+        requires stands { self.old.standing
+            ≡ all_parts self.old.machine.shape self.old.machine.rows (entries.now ++ e.old ∷ []) (e.old.to / self.old.machine.shape.tick) }
         requires cpu { cpu < length self.old.machine.cpus }
         requires seats { self.old.ready ≡ seats_of self.old.machine }
         requires dues { AreOthersDues self.old.machine entries.now cpu self.old.dues }
