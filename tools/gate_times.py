@@ -4,9 +4,10 @@
     tools/gate_times.py              runs `rt ci`, passes its output on, and prints a table behind it
     tools/gate_times.py --watch PID  the same table of a run that is under way, once the process PID has ended
 
-The table has, for each crate, the processor time (minutes and seconds) of its proof, of its tests' proof, and of its
-must-fail edits with the check before them. It is taken from the system's count of each process that the gate starts, looked
-at every second, so that up to a second of each may be missing. The exit status is that of the gate.
+The table has, for each crate, the processor time (minutes and seconds) of its proof, of its tests' proof, of the proof
+that its must-fail edits begin with and the check behind them (base), and of the edits, with their number. Below it stand the
+dearest edits. It is taken from the system's count of each process that the gate starts, looked at every second, so that up to
+a second of each may be missing. The exit status is that of the gate.
 """
 import os
 import subprocess
@@ -15,7 +16,8 @@ import threading
 import time
 
 TICKS_A_SECOND = os.sysconf("SC_CLK_TCK")
-KINDS = ["proof", "tests", "edits"]
+KINDS = ["proof", "tests", "base", "edits"]
+DEAREST = 20
 
 
 def read(path):
@@ -34,14 +36,21 @@ def stat_of(pid):
     return int(fields[1]), (int(fields[11]) + int(fields[12])) / TICKS_A_SECOND
 
 
+def kind_of(words):
+    """What a process of the checker works for, and an edit's number among those of its crate."""
+    if "--incremental" in words:
+        over = os.path.basename(words[words.index("--incremental") + 1])
+        return ("edits", int(over)) if over.isdigit() else ("base", None)
+    return ("tests" if "--test" in words else "proof"), None
+
+
 def task_of(words):
     """The crate that a process of the checker works on, and what for."""
     if not words or not words[0].endswith("/rattle") or "--crate-name" not in words:
         return None
-    name = words[words.index("--crate-name") + 1]
     if os.path.basename(words[0]) != "rattle" or words[1] not in ("check", "build"):
         return None
-    return name, "edits" if "--incremental" in words else "tests" if "--test" in words else "proof"
+    return words[words.index("--crate-name") + 1], *kind_of(words)
 
 
 def is_below(pid, top, parents):
@@ -65,20 +74,38 @@ def look(top, spent):
             spent[pid, task] = max(seconds, spent.get((pid, task), 0))
 
 
+def show(seconds):
+    return f"{int(seconds) // 60}:{int(seconds) % 60:02}"
+
+
+def line_of(name, row, edits):
+    cells = "".join(f"{show(row[kind]):>8}" for kind in KINDS)
+    return f"{name:<20}{cells}{show(sum(row.values())):>8}{edits:>8}"
+
+
+def edit_named(name, number):
+    """The file of an edit, as the gate numbers those of a crate."""
+    folder = f"crates/{name}/must-fail"
+    return sorted(it for it in os.listdir(folder) if it.endswith(".edit"))[number]
+
+
 def table_of(spent, wall):
-    sums = {}
-    for (_, (name, kind)), seconds in spent.items():
+    sums, edits = {}, {}
+    for (_, (name, kind, number)), seconds in spent.items():
         row = sums.setdefault(name, dict.fromkeys(KINDS, 0))
         row[kind] += seconds
-    show = lambda seconds: f"{int(seconds) // 60}:{int(seconds) % 60:02}"
-    lines = ["crate                  proof   tests   edits     all"]
+        if number is not None:
+            edits[name, number] = edits.get((name, number), 0) + seconds
+    count = lambda name: sum(it == name for it, _ in edits)
+    lines = ["crate                  proof   tests    base   edits     all  number"]
     for name, row in sorted(sums.items(), key=lambda it: -sum(it[1].values())):
-        cells = "".join(f"{show(row[kind]):>8}" for kind in KINDS)
-        lines.append(f"{name:<20}{cells}{show(sum(row.values())):>8}")
+        lines.append(line_of(name, row, count(name)))
     whole = {kind: sum(row[kind] for row in sums.values()) for kind in KINDS}
-    cells = "".join(f"{show(whole[kind]):>8}" for kind in KINDS)
-    lines.append(f"{'all':<20}{cells}{show(sum(whole.values())):>8}")
+    lines.append(line_of("all", whole, len(edits)))
     lines.append(f"wall time {show(wall)}, processors {os.cpu_count()}")
+    lines.append("the dearest edits")
+    for (name, number), seconds in sorted(edits.items(), key=lambda it: -it[1])[:DEAREST]:
+        lines.append(f"{show(seconds):>8}  {name}/{edit_named(name, number)}")
     return "\n".join(lines)
 
 
