@@ -11,7 +11,7 @@ use Rattle.aps_view.specs.Cause.{HasCause, HasCauseIn, IsOfWhole, told_by}
 use Rattle.aps_view.specs.Due.{Due, IsAdded, IsDue, IsDueOfInput, IsDueTold}
 use Rattle.aps_view.specs.Intake.{Intake, intake_of}
 use Rattle.aps_view.specs.Outcome.{status_of, text_of}
-use Rattle.aps_view.specs.Printing.{Says, Told, Told.at_once, Told.in_pieces, Told.unsaid, output_of}
+use Rattle.aps_view.specs.Printing.{Says, Told, Told.at_once, Told.in_pieces, output_of}
 use Rattle.aps_view.specs.Status.{code}
 use Rattle.aps_model.specs.Limits.{most_journal_bytes}
 
@@ -62,9 +62,6 @@ module _ (before after : List ℕ) (told : ℕ) (came : Status) (is : told ≡ c
   said_due (in_pieces text) wanted (inl whole) = inl (is ∙ ap code whole.0, whole.1)
   said_due (in_pieces text) wanted (inr (inl fault)) = absurd (omega (arith, fault.1))
   said_due (in_pieces text) wanted (inr (inr lack)) = inr (is ∙ ap code lack)
-  said_due unsaid wanted (inl same) = inl (is ∙ ap code same, tt)
-  said_due unsaid wanted (inr (inl fault)) = absurd (omega (arith, fault.1))
-  said_due unsaid wanted (inr (inr lack)) = inr (is ∙ ap code lack)
 
   printed_due : (asked : Option Asked) (input : List ℕ) (due : Due) → IsDue asked input due
       → Says (output_of (Some before) (Some after) 0 0) due.text due.status came → IsDueTold asked input before after told

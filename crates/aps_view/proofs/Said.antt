@@ -24,8 +24,8 @@ says_as output said text told wanted status p q h =
 -- a trace whose writing ended well, met a fault, or found no memory
 module _ (output : Output) (scenario : Scenario) (h : List Entry) (status : Status) where
   pub says_all : (trace : Trace) → SaysAll output (trace_told trace scenario h) → Says output (trace_told trace scenario h) status status
-  says_all Vcd whole = inl refl
-  says_all Gtkw whole = inl refl
+  says_all Vcd whole = inl (refl, whole)
+  says_all Gtkw whole = inl (refl, whole)
   says_all Events whole = inl (refl, whole)
 
   pub says_fault : (trace : Trace) → Rose output.faults_before output.faults

@@ -1,5 +1,5 @@
 -- The status and the text that are due, where neither reading nor writing fails and memory doesn't run out.
-use Rattle.std.specs.Prelude.{◌≡◌, ℕ, ◌<◌, ◌≤◌, ◌⊎◌, ◌++◌, List, codes, drop, length, take, Option, Some, None, Result, Ok, Err, ⊤}
+use Rattle.std.specs.Prelude.{◌≡◌, ℕ, ◌<◌, ◌≤◌, ◌⊎◌, ◌++◌, List, codes, drop, length, take, Option, Some, None, Result, Ok, Err}
 use Rattle.aps_model.specs.declared.entry.End.{End}
 use Rattle.aps_model.specs.declared.entry.Entry.{Entry}
 use Rattle.aps_model.specs.declared.entry.Order.TheVariants.{Free}
@@ -25,7 +25,7 @@ use Rattle.aps_view.specs.declared.refusal.InputRefusal.{InputRefusal}
 use Rattle.aps_view.specs.declared.refusal.InputRefusal.TheVariants.{Text, BadJournal, UnknownThread}
 use Rattle.aps_view.specs.declared.status.Status.{Status}
 use Rattle.aps_view.specs.declared.status.Status.TheVariants.{Done, WordsRefused, InputRefused, NoMemory, TooLong, JournalBreaks}
-use Rattle.aps_view.specs.Printing.{Told, Told.at_once, Told.in_pieces, Told.unsaid}
+use Rattle.aps_view.specs.Printing.{Told, Told.at_once, Told.in_pieces}
 use Rattle.aps_view.specs.Refusal.{refusal_text}
 use Rattle.aps_view.specs.Report.{IsReport, trace_of}
 use Rattle.aps_view.specs.Status.{code, status_of_end}
@@ -131,11 +131,10 @@ IsDue None input due = due ≡ words_refused
 IsDue (Some asked) input due =
     ((most_journal_bytes < length input) × (due ≡ too_long)) ⊎ ((length input ≤ most_journal_bytes) × IsDueOfInput asked input due)
 
--- what was written is the text, where it is said what
+-- what was written is the text
 abbrev pub IsAdded : List ℕ → List ℕ → Told → Type 0
 IsAdded before after (at_once text) = after ≡ before ++ text
 IsAdded before after (in_pieces text) = after ≡ before ++ text
-IsAdded before after unsaid = ⊤
 
 -- the status that is due came, and its text was written; or memory ran out
 abbrev pub IsDueTold : Option Asked → List ℕ → List ℕ → List ℕ → ℕ → Type 0

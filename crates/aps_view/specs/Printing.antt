@@ -1,5 +1,5 @@
 -- How a text goes to a sink.
-use Rattle.std.specs.Prelude.{◌≡◌, ℕ, ◌≤◌, ◌⊎◌, List, length, take, Option, ⊤}
+use Rattle.std.specs.Prelude.{◌≡◌, ℕ, ◌≤◌, ◌⊎◌, List, length, take, Option}
 use Rattle.std.specs.Io.KnownBytes.{Appends}
 use Rattle.aps_io.specs.Causes.{Rose}
 use Rattle.aps_view.specs.declared.status.Status.{Status}
@@ -37,26 +37,16 @@ PrintsPieces output text wanted status =
     ⊎ ((status ≡ or_write_fault wanted) × Rose output.faults_before output.faults)
     ⊎ (status ≡ NoMemory)
 
--- something was to be written under a status, of which nothing more is said
-abbrev pub PrintsSome : Output → Status → Status → Type 0
-PrintsSome output wanted status =
-    (status ≡ wanted)
-    ⊎ ((status ≡ or_write_fault wanted) × Rose output.faults_before output.faults)
-    ⊎ (status ≡ NoMemory)
-
--- what is to be written: a text at once, or in pieces; or something of which nothing is said
+-- what is to be written: a text at once, or in pieces
 pub data Told : Type 0 where
   at_once : List ℕ → Told
   in_pieces : List ℕ → Told
-  unsaid : Told
 
 abbrev pub Says : Output → Told → Status → Status → Type 0
 Says output (at_once text) wanted status = Prints output text wanted status
 Says output (in_pieces text) wanted status = PrintsPieces output text wanted status
-Says output unsaid wanted status = PrintsSome output wanted status
 
 -- all of it was written
 abbrev pub SaysAll : Output → Told → Type 0
 SaysAll output (at_once text) = WritesWhole output text
 SaysAll output (in_pieces text) = WritesWhole output text
-SaysAll output unsaid = ⊤

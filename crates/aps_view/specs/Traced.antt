@@ -6,9 +6,11 @@ use Rattle.aps_core.specs.Run.{Run}
 use Rattle.aps_shares.specs.Spent.{overspent_of}
 use Rattle.aps_traces.specs.Trace.{trace_text}
 use Rattle.aps_view_words.specs.declared.asked.Trace.{Trace}
+use Rattle.aps_waves.specs.Dump.{dump_text}
+use Rattle.aps_waves.specs.Save.{save_text}
 use Rattle.aps_view_words.specs.declared.asked.Trace.TheVariants.{Vcd, Gtkw, Events}
 use Rattle.aps_view.specs.declared.status.Status.{Status}
-use Rattle.aps_view.specs.Printing.{Told, Told.in_pieces, Told.unsaid}
+use Rattle.aps_view.specs.Printing.{Told, Told.in_pieces}
 
 -- which trace, of which history, under which status
 pub record Traced : Type 0 where
@@ -16,8 +18,8 @@ pub record Traced : Type 0 where
   pub trace : Trace
   pub run : Run
 
--- what is written: the events of the history; of the other traces nothing is said
+-- what is written
 abbrev pub trace_told : Trace → Scenario → List Entry → Told
-trace_told Vcd scenario h = unsaid
-trace_told Gtkw scenario h = unsaid
+trace_told Vcd scenario h = in_pieces (dump_text scenario h (overspent_of scenario h))
+trace_told Gtkw scenario h = in_pieces (save_text scenario h)
 trace_told Events scenario h = in_pieces (trace_text scenario h (overspent_of scenario h))

@@ -1,2 +1,4 @@
+pub mod Alike
 pub mod Codes
 pub mod Counted
+pub mod Dumped

@@ -1,7 +1,11 @@
+pub mod Changes
 pub mod Code
+pub mod Dump
 pub mod Kind
 pub mod Moment
 pub mod Retraced
+pub mod Save
+pub mod Signals
 pub mod Told
 pub mod Usages
 pub mod Value

@@ -1,5 +1,5 @@
 -- What the entries tell that end at one moment.
-use Rattle.std.specs.Prelude.{◌≡◌, ℕ, ◌<◌, List, Bool, true, false, not, ◌&&◌, ◌||◌, nat_eq, nat_lt, slice_index_or, Option, Some, None, if◌then◌else◌}
+use Rattle.std.specs.Prelude.{ℕ, List, Bool, true, false, not, ◌&&◌, nat_lt, replicate, slice_set, Option, Some, None, if◌then◌else◌}
 use Rattle.aps_model.specs.Limits.{most_partitions}
 use Rattle.aps_model.specs.declared.entry.End.{End}
 use Rattle.aps_model.specs.declared.entry.End.TheVariants.{Horizon, Limit, Reboot}
@@ -7,6 +7,8 @@ use Rattle.aps_model.specs.declared.entry.Entry.{Entry}
 use Rattle.aps_model.specs.Shape.{horizon}
 use Rattle.aps_core.specs.Run.{Run, end_of_run, state_of}
 use Rattle.aps_samples.specs.Picks.{had_candidate}
+use Rattle.aps_samples.specs.Sample.{of_each}
+use Rattle.aps_waves.specs.declared.told.Told.{Told}
 
 abbrev pub is_reboot : Option End → Bool
 is_reboot None = false
@@ -18,13 +20,22 @@ is_reboot (Some (Reboot p)) = true
 abbrev pub has_pick : Run → Entry → Bool
 has_pick run e = nat_lt e.to (horizon (state_of run).shape) && not (is_reboot (end_of_run run))
 
--- whether partition p had a candidate at the last pick: that of the entry, which came last, if it made one, and else one before
-abbrev pub demand_after : Run → Entry → Bool → ℕ → Bool
-demand_after run e before p = if has_pick run e then had_candidate (state_of run) run.entries e.cpu p else before
+-- of each partition whether it had a candidate at the last pick: that of the entry, which came last, if it made one, and else one before
+abbrev pub demand_after : Run → Entry → List Bool → List Bool
+demand_after run e before = if has_pick run e then of_each (had_candidate (state_of run) run.entries e.cpu) else before
 
-abbrev pub IsNoted : Run → Entry → List Bool → List Bool → Type 0
-IsNoted run e before after = (p : ℕ) → p < most_partitions → slice_index_or after p false ≡ demand_after run e (slice_index_or before p false) p
+-- nothing was told yet
+abbrev pub nothing_told : Told
+nothing_told = record { demand = replicate most_partitions false; overspent = replicate most_partitions false }
 
--- partition q is the one, or was one before
-abbrev pub is_one_more : ℕ → Bool → ℕ → Bool
-is_one_more p before q = nat_eq p q || before
+-- the pick of the entry, which came last, is noted
+abbrev pub pick_noted : Run → Entry → Told → Told
+pick_noted run e told = record { demand = demand_after run e told.demand; overspent = told.overspent }
+
+-- an entry of this moment made partition p bankrupt
+abbrev pub overspent_noted : ℕ → Told → Told
+overspent_noted p told = record { demand = told.demand; overspent = slice_set told.overspent p true }
+
+-- another moment: no entry of it made a partition bankrupt yet
+abbrev pub moment_begun : Told → Told
+moment_begun told = record { demand = told.demand; overspent = replicate most_partitions false }

@@ -4,6 +4,7 @@ ghost use Rattle.aps_model.specs.Budget.{no_part};
 ghost use Rattle.aps_model.specs.Limits.{most_partitions};
 ghost use Rattle.aps_core.specs.Run.{state_of};
 ghost use Rattle.aps_samples.specs.Picks.{bills, had_candidate};
+ghost use Rattle.aps_samples.specs.Sample.{of_each};
 ghost use Rattle.aps_waves.specs.Told as spec;
 
 use aps_bars::Overspent;
@@ -20,7 +21,9 @@ pub struct Told {
 
 impl Told {
     /// None.
-    pub fn none() -> Told {
+    pub fn none() -> Told
+        ensures { result ≡ spec.nothing_told }
+    {
         Told {
             demand: [false; MOST_PARTITIONS],
             overspent: [false; MOST_PARTITIONS],
@@ -30,8 +33,7 @@ impl Told {
     /// Notes the pick of the entry whose step the core made last, if that went on to a pick.
     pub fn note_pick(&mut self, core: &Core, e: &Entry)
         requires { 0 < length core.now.entries }
-        ensures overspent { self.new.overspent ≡ self.old.overspent }
-        ensures demand { spec.IsNoted core.now e.now self.old.demand self.new.demand }
+        ensures { self.new ≡ spec.pick_noted core.now e.now self.old }
     {
         if has_pick(core, e) {
             self.demand = demand(core, e.cpu);
@@ -40,18 +42,14 @@ impl Told {
 
     /// Notes that an entry of this moment made the partition bankrupt.
     pub fn note_overspent(&mut self, p: PartitionId)
-        ensures demand { self.new.demand ≡ self.old.demand }
-        ensures overspent { (q : ℕ)
-            → q < most_partitions
-            → slice_index_or self.new.overspent q false ≡ spec.is_one_more p (slice_index_or self.old.overspent q false) q }
+        ensures { self.new ≡ spec.overspent_noted p self.old }
     {
         self.overspent[p.index()] = true;
     }
 
     /// Another moment: no entry of it made a partition bankrupt yet.
     pub fn begin_moment(&mut self)
-        ensures demand { self.new.demand ≡ self.old.demand }
-        ensures overspent { (q : ℕ) → q < most_partitions → slice_index_or self.new.overspent q false ≡ false }
+        ensures { self.new ≡ spec.moment_begun self.old }
     {
         self.overspent = [false; MOST_PARTITIONS];
     }
@@ -70,7 +68,15 @@ fn has_pick(core: &Core, e: &Entry) -> bool
 /// those that still have one.
 fn demand(core: &Core, c: CpuId) -> [bool; 32]
     requires { 0 < length core.now.entries }
-    ensures { (p : ℕ) → p < most_partitions → slice_index_or result p false ≡ had_candidate (state_of core.now) core.now.entries c p }
+    ensures { result ≡ of_each (had_candidate (state_of core.now) core.now.entries c) }
+{
+    demand_by_place(core, c)
+}
+
+fn demand_by_place(core: &Core, c: CpuId) -> [bool; 32]
+    requires { 0 < length core.now.entries }
+    ensures places { length result ≡ most_partitions }
+    ensures each { (p : ℕ) → p < most_partitions → slice_index_or result p false ≡ had_candidate (state_of core.now) core.now.entries c p }
 {
     let count = core.history().rows().len();
     let mut parts = [no_part(); MOST_PARTITIONS];
@@ -81,13 +87,24 @@ fn demand(core: &Core, c: CpuId) -> [bool; 32]
 
 /// These partitions, and the one that the pick bills.
 fn with_billed(pick: &Option<Pick>, ready: &[bool; 32]) -> [bool; 32]
-    ensures { (p : ℕ) → p < most_partitions → slice_index_or result p false ≡ (bills pick.now p || slice_index_or ready.now p false) }
+    ensures places { length result ≡ most_partitions }
+    ensures each { (p : ℕ) → p < most_partitions → slice_index_or result p false ≡ (bills pick.now p || slice_index_or ready.now p false) }
 {
-    let mut all = *ready;
-    if let Some(pick) = pick {
-        all[pick.partition.index()] = true;
+    let mut all = [false; MOST_PARTITIONS];
+    for p in 0..MOST_PARTITIONS {
+        all[p] = is_billed(pick, p) || ready[p];
     }
     all
+}
+
+/// Whether the pick bills this partition.
+fn is_billed(pick: &Option<Pick>, p: usize) -> bool
+    ensures { result ≡ bills pick.now p }
+{
+    match pick {
+        Some(pick) => pick.partition.index() == p,
+        None => false,
+    }
 }
 
 /// What stands where no partition was read yet.

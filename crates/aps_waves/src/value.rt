@@ -1,5 +1,6 @@
 //! What signals of a dump stand at.
-ghost use Rattle.std.specs.Prelude.{◌≡◌, ◌≢◌, ◌++◌, true, false, string_bytes, OnOk};
+ghost use Rattle.std.specs.Prelude.{◌≡◌, ◌≢◌, ◌++◌, true, false, not, string_bytes, OnOk};
+ghost use Rattle.aps_waves.specs.Changes.{is_same};
 ghost use Rattle.aps_waves.specs.Value as spec;
 
 use crate::code::add_code;
@@ -20,6 +21,12 @@ pub enum Value {
 
 /// Whether a signal changes that stood at one value and stands at another now.
 pub fn is_change(before: &Value, now: &Value) -> bool
+    ensures { result ≡ not (is_same before.now now.now) }
+{
+    differs(before, now)
+}
+
+fn differs(before: &Value, now: &Value) -> bool
     ensures told { result ≡ true → before.now ≢ now.now }
     ensures untold { result ≡ false → before.now ≡ now.now }
 {

@@ -1,4 +1,4 @@
-use Rattle.std.proofs.Common.{◌≡◌, IfOk, [], subst, sym}
+use Rattle.std.proofs.Common.{IfOk, subst, sym}
 use Rattle.aps_model.specs.declared.entry.Order.TheVariants.{Fixed}
 use Rattle.aps_core.specs.Run.{Run, Setup}
 use Rattle.aps_view_words.specs.declared.asked.Report.{Report}

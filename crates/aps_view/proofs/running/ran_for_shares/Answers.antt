@@ -1,4 +1,4 @@
-use Rattle.std.proofs.Common.{◌≡◌, ◌∙◌, ap, Some, refl, string_bytes, subst, sym}
+use Rattle.std.proofs.Common.{◌∙◌, ap, Some, string_bytes, subst, sym}
 use Rattle.aps_model.specs.History.{History}
 use Rattle.aps_core.specs.Run.{Run}
 use Rattle.aps_shares.specs.Spent.{AreSpent}
