@@ -14,13 +14,15 @@ ghost use Rattle.aps_view_laws.specs.Served.{own_time, run_time, served_in_all, 
 /// counts for two calls, and nothing is left out.
 pub fn servers_run_for_clients()
     ensures { (scenario : Scenario) (order : Order) (h : List Entry) (server : ℕ) → IsScenario scenario → IsLegal scenario order h
-        → sum_by (served_time scenario h server) (range_with_len 0 (length scenario.threads)) + own_time scenario h server ≡ run_time h server }
+        → sum_by (served_time scenario h server) (range_with_len 0 (length scenario.threads)) + own_time scenario h server
+        ≡ run_time h server }
 {}
 
 /// The time that counts for the calls of a thread, those that were answered and the one that goes on, is what servers ran on them.
 pub fn calls_count_what_servers_run()
     ensures { (scenario : Scenario) (order : Order) (h : List Entry) (x : ℕ) → IsScenario scenario → IsLegal scenario order h
-        → served_in_all (calls_of scenario h x) ≡ sum_by (λ server. served_time scenario h server x) (range_with_len 0 (length scenario.threads)) }
+        → served_in_all (calls_of scenario h x)
+        ≡ sum_by (λ server. served_time scenario h server x) (range_with_len 0 (length scenario.threads)) }
 {}
 
 /// So it is of what is told: the lines `served` of a thread, one for each channel that answered it, tell together what servers ran on

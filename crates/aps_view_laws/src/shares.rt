@@ -17,23 +17,24 @@ ghost use Rattle.aps_view_laws.specs.Shares.{HadItsShare};
 /// The number told as `beyond` is below the time of all processors in a tick: it is the greatest, over all windows without a
 /// change, of what the partition used beyond its allowance, its critical time and its free time (ns).
 pub fn beyond_is_small()
-    ensures { (scenario : Scenario) (order : Order) (h : List Entry) (p : ℕ) → IsScenario scenario → IsLegal scenario order h → p < most_partitions
-        → IfSome (share_of scenario h p).beyond (λ amount. amount.ns < tick_of_all scenario.shape) }
+    ensures { (scenario : Scenario) (order : Order) (h : List Entry) (p : ℕ) → IsScenario scenario → IsLegal scenario order h
+        → p < most_partitions → IfSome (share_of scenario h p).beyond (λ amount. amount.ns < tick_of_all scenario.shape) }
 {}
 
 /// The number told as `short` is at most the one told beside it as `others`: the greatest amount by which the partition falls
 /// short of its allowance in a window without a change in which it always had a candidate and was always in budget is at most
 /// what the others may take from it there (ns).
 pub fn short_is_small()
-    ensures { (scenario : Scenario) (order : Order) (h : List Entry) (p : ℕ) → IsScenario scenario → IsLegal scenario order h → p < most_partitions
-        → IfSome (share_of scenario h p).short (λ short. short.ns ≤ short.others) }
+    ensures { (scenario : Scenario) (order : Order) (h : List Entry) (p : ℕ) → IsScenario scenario → IsLegal scenario order h
+        → p < most_partitions → IfSome (share_of scenario h p).short (λ short. short.ns ≤ short.others) }
 {}
 
 /// In each window without a change in which the partition counts as one that had had its share, it had: in the window that ends
 /// with some tick of this one it used its whole allowance.
 pub fn had_is_had()
-    ensures { (scenario : Scenario) (order : Order) (h : List Entry) (j p : ℕ) → IsScenario scenario → IsLegal scenario order h → p < most_partitions
-        → j < finished_ticks scenario.shape h → (sample_of scenario h j).unchanged ≡ true → has_had p (sample_of scenario h j) ≡ true
+    ensures { (scenario : Scenario) (order : Order) (h : List Entry) (j p : ℕ) → IsScenario scenario → IsLegal scenario order h
+        → p < most_partitions → j < finished_ticks scenario.shape h
+        → (sample_of scenario h j).unchanged ≡ true → has_had p (sample_of scenario h j) ≡ true
         → HadItsShare scenario h j p }
 {}
 
@@ -43,7 +44,8 @@ pub fn overspent_are_bankrupt()
     ensures each { (scenario : Scenario) (order : Order) (h : List Entry) (e : Entry) (p : ℕ)
         → IsScenario scenario
         → IsLegal scenario order (h ++ e ∷ [])
-        → bankrupt_in scenario h e.cpu ≡ Some p → overspent_of scenario (h ++ e ∷ []) ≡ overspent_of scenario h ++ overspent_at scenario h e p ∷ [] }
+        → bankrupt_in scenario h e.cpu ≡ Some p
+        → overspent_of scenario (h ++ e ∷ []) ≡ overspent_of scenario h ++ overspent_at scenario h e p ∷ [] }
     ensures others { (scenario : Scenario) (order : Order) (h : List Entry) (e : Entry)
         → IsScenario scenario
         → IsLegal scenario order (h ++ e ∷ [])

@@ -14,12 +14,15 @@ use Rattle.aps_laws.specs.Moments.{moment}
 abbrev pub zoom_of : ℕ → ℕ
 zoom_of end = (64 - count_leading_zeros 64 end) - 2
 
--- there are 26 markers, and none is set
+-- a viewer has so many markers, and none is set
+abbrev pub markers : ℕ
+markers = 26
+
 abbrev pub no_marker : ℕ → List ℕ
 no_marker i = codes " -1"
 
 abbrev pub zoom_text : ℕ → List ℕ
-zoom_text end = (codes "*-" ++ (decimal (zoom_of end) ++ codes ".000000 0")) ++ (flat_map no_marker (range_with_len 0 26) ++ codes "\n")
+zoom_text end = (codes "*-" ++ (decimal (zoom_of end) ++ codes ".000000 0")) ++ (flat_map no_marker (range_with_len 0 markers) ++ codes "\n")
 
 -- a processor under its heading
 abbrev pub cpu_group : ℕ → List ℕ

@@ -5,6 +5,7 @@ use Rattle.std.specs.List.{flat_map, enumerate_from, range_with_len}
 use Rattle.std.specs.Fmt.{decimal}
 use Rattle.aps_model.specs.declared.partition.PartitionRow.{PartitionRow}
 use Rattle.aps_model.specs.declared.scenario.ThreadRow.{ThreadRow}
+use Rattle.aps_model.specs.Limits.{most_cpus, most_partitions, most_threads}
 use Rattle.aps_waves.specs.Code.{code}
 
 -- how many signals a processor has, and a partition
@@ -13,6 +14,10 @@ signals_of_cpu = 3
 
 abbrev pub signals_of_partition : ℕ
 signals_of_partition = 7
+
+-- no dump has more signals
+abbrev pub most_signals : ℕ
+most_signals = signals_of_cpu * most_cpus + (signals_of_partition * most_partitions + most_threads)
 
 -- the signal of this number, by its kind and width
 abbrev pub signal_line : ℕ → List ℕ → List ℕ → List ℕ

@@ -53,7 +53,7 @@ fn add_zoom(out: &mut String, end: Nanos) -> Result<(), NoMemory>
 }
 
 fn add_no_markers(out: &mut String) -> Result<(), NoMemory>
-    ensures { OnOk result (string_bytes out.new ≡ string_bytes out.old ++ flat_map spec.no_marker (range_with_len 0 26)) }
+    ensures { OnOk result (string_bytes out.new ≡ string_bytes out.old ++ flat_map spec.no_marker (range_with_len 0 spec.markers)) }
 {
     for _ in 0..MARKERS {
         out.push_str(" -1")?;

@@ -1,5 +1,5 @@
 //! The head of a value change dump: the signals of each processor, of each partition and of each thread, numbered in this order.
-ghost use Rattle.std.specs.Prelude.{◌≡◌, ◌≤◌, ◌++◌, length, string_bytes, OnOk};
+ghost use Rattle.std.specs.Prelude.{◌≡◌, ◌+◌, ◌*◌, ◌<◌, ◌≤◌, ◌++◌, length, string_bytes, OnOk};
 ghost use Rattle.std.specs.List.{flat_map, enumerate_from, range_with_len};
 ghost use Rattle.aps_model.specs.Limits.{most_cpus, most_partitions, most_threads};
 ghost use Rattle.aps_waves.specs.Signals as spec;
@@ -77,7 +77,7 @@ fn add_each_processor(out: &mut String, cpus: usize) -> Result<(), NoMemory>
 }
 
 fn add_processor(out: &mut String, c: usize) -> Result<(), NoMemory>
-    requires { c ≤ most_cpus }
+    requires { c < most_cpus }
     ensures { OnOk result (string_bytes out.new ≡ string_bytes out.old ++ spec.cpu_scope c) }
 {
     write!(out, "$scope module cpu{c} $end\n")?;
@@ -87,7 +87,7 @@ fn add_processor(out: &mut String, c: usize) -> Result<(), NoMemory>
 
 /// Whom a processor keeps, on whose bill, and whether that is critical time.
 fn add_cpu_signals(out: &mut String, first: usize) -> Result<(), NoMemory>
-    requires { first ≤ 1000 }
+    requires { first + spec.signals_of_cpu ≤ spec.most_signals }
     ensures { OnOk result (string_bytes out.new ≡ string_bytes out.old ++ spec.cpu_signals first) }
 {
     add_signal(out, first, "string 1", "thread")?;
@@ -97,7 +97,7 @@ fn add_cpu_signals(out: &mut String, first: usize) -> Result<(), NoMemory>
 
 /// The scopes of the partitions, whose signals begin with this number.
 fn add_partitions(out: &mut String, first: usize, rows: &[PartitionRow]) -> Result<(), NoMemory>
-    requires first { first ≤ 48 }
+    requires first { first ≤ spec.signals_of_cpu * most_cpus }
     requires rows { length rows.now ≤ most_partitions }
     ensures { OnOk result (string_bytes out.new ≡ string_bytes out.old ++ spec.partitions_text first rows.now) }
 {
@@ -107,7 +107,7 @@ fn add_partitions(out: &mut String, first: usize, rows: &[PartitionRow]) -> Resu
 }
 
 fn add_each_partition(out: &mut String, first: usize, rows: &[PartitionRow]) -> Result<(), NoMemory>
-    requires first { first ≤ 48 }
+    requires first { first ≤ spec.signals_of_cpu * most_cpus }
     requires rows { length rows.now ≤ most_partitions }
     ensures { OnOk result (string_bytes out.new ≡ string_bytes out.old ++ flat_map (spec.row_scope first) (enumerate_from 0 rows.now)) }
 {
@@ -118,7 +118,7 @@ fn add_each_partition(out: &mut String, first: usize, rows: &[PartitionRow]) -> 
 }
 
 fn add_partition(out: &mut String, first: usize, name: &Name) -> Result<(), NoMemory>
-    requires { first ≤ 1000 }
+    requires { first + spec.signals_of_partition ≤ spec.most_signals }
     ensures { OnOk result (string_bytes out.new ≡ string_bytes out.old ++ spec.partition_scope first name.now) }
 {
     add_module(out, text_of(name))?;
@@ -129,7 +129,7 @@ fn add_partition(out: &mut String, first: usize, name: &Name) -> Result<(), NoMe
 
 /// What a partition used in the window, what it may use, and what was critical.
 fn add_amounts(out: &mut String, first: usize) -> Result<(), NoMemory>
-    requires { first ≤ 1000 }
+    requires { first + 3 ≤ spec.most_signals }
     ensures { OnOk result (string_bytes out.new ≡ string_bytes out.old ++ spec.amount_signals first) }
 {
     add_signal(out, first, "wire 40", "used")?;
@@ -139,7 +139,7 @@ fn add_amounts(out: &mut String, first: usize) -> Result<(), NoMemory>
 
 /// Whether a partition is in budget, whether its critical budget stands, and what its last picks tell.
 fn add_bits(out: &mut String, first: usize) -> Result<(), NoMemory>
-    requires { first ≤ 1003 }
+    requires { first + 4 ≤ spec.most_signals }
     ensures { OnOk result (string_bytes out.new ≡ string_bytes out.old ++ spec.bit_signals first) }
 {
     add_signal(out, first, "wire 1", "in_budget")?;
@@ -150,7 +150,7 @@ fn add_bits(out: &mut String, first: usize) -> Result<(), NoMemory>
 
 /// The scope of the threads, whose signals begin with this number, if there are any.
 fn add_threads(out: &mut String, first: usize, threads: &[ThreadRow]) -> Result<(), NoMemory>
-    requires first { first ≤ 272 }
+    requires first { first + most_threads ≤ spec.most_signals }
     requires threads { length threads.now ≤ most_threads }
     ensures { OnOk result (string_bytes out.new ≡ string_bytes out.old ++ spec.threads_text first threads.now) }
 {
@@ -163,7 +163,7 @@ fn add_threads(out: &mut String, first: usize, threads: &[ThreadRow]) -> Result<
 }
 
 fn add_each_thread(out: &mut String, first: usize, threads: &[ThreadRow]) -> Result<(), NoMemory>
-    requires first { first ≤ 272 }
+    requires first { first + most_threads ≤ spec.most_signals }
     requires threads { length threads.now ≤ most_threads }
     ensures { OnOk result (string_bytes out.new ≡ string_bytes out.old ++ flat_map (spec.thread_signal first) (enumerate_from 0 threads.now)) }
 {

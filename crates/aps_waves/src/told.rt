@@ -70,9 +70,11 @@ fn demand(core: &Core, c: CpuId) -> [bool; 32]
     requires { 0 < length core.now.entries }
     ensures { result ≡ of_each (had_candidate (state_of core.now) core.now.entries c) }
 {
+    // proved from what each place of it has
     demand_by_place(core, c)
 }
 
+/// The same, place by place.
 fn demand_by_place(core: &Core, c: CpuId) -> [bool; 32]
     requires { 0 < length core.now.entries }
     ensures places { length result ≡ most_partitions }

@@ -26,6 +26,7 @@ pub fn is_change(before: &Value, now: &Value) -> bool
     differs(before, now)
 }
 
+/// Whether the two values are different ones.
 fn differs(before: &Value, now: &Value) -> bool
     ensures told { result ≡ true → before.now ≢ now.now }
     ensures untold { result ≡ false → before.now ≡ now.now }
