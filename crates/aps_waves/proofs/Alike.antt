@@ -1,6 +1,7 @@
 -- When values are the same, and which of the signals change.
-use Rattle.std.proofs.Common.{◌≡◌, ℕ, zero, suc, ◌+◌, ◌<◌, ◌≤◌, List, [], ◌∷◌, length, get_or, Bool, true, false, not, ◌&&◌, nat_eq, Option, Some, None, refl, sym, ap, subst, inl, inr, ◌∙◌, ◌≢◌, arith}
+use Rattle.std.proofs.Common.{◌≡◌, ℕ, zero, suc, ◌+◌, ◌<◌, ◌≤◌, List, [], ◌∷◌, length, get_or, Bool, true, false, not, ◌&&◌, nat_eq, Option, Some, None, refl, sym, ap, subst, inl, inr, ◌∙◌, ◌≢◌, arith, min}
 use Rattle.std.specs.List.{list_any, range_with_len}
+use Rattle.std.proofs.Math.Nat.{min-le_left, min-le_right}
 use Rattle.std.proofs.lemmas.Bool.{cases_eq}
 use Rattle.std.proofs.lemmas.List.{get_or_default}
 use Rattle.std.proofs.lemmas.List.Folds.{list_any-append, list_any_at}
@@ -11,7 +12,7 @@ use Rattle.aps_waves.specs.declared.kind.Kind.{Kind as State}
 use Rattle.aps_waves.specs.declared.kind.Kind.TheVariants.{Ready, Running, Sleeping, Sending, Receiving, Replying, Gone}
 use Rattle.aps_waves.specs.declared.value.Value.{Value}
 use Rattle.aps_waves.specs.declared.value.Value.TheVariants.{Thread, Partition, Kind, Number, Bit}
-use Rattle.aps_waves.specs.Changes.{is_same, number, sort}
+use Rattle.aps_waves.specs.Changes.{changes, is_same, number, sort, value_at}
 
 -- ---- a value from its sort and number
 
@@ -99,9 +100,21 @@ by_test a b false other same = sym (ap not (is_same_by a b (same refl)))
 
 -- ---- whether a signal changes
 
--- where a signal has both values, they are read so
-pub read : (values : List Value) (k m : ℕ) (v d : Value) → k < m → m ≤ length values → v ≡ get_or values k v → v ≡ get_or values k d
+read : (values : List Value) (k m : ℕ) (v d : Value) → k < m → m ≤ length values → v ≡ get_or values k v → v ≡ get_or values k d
 read values k m v d less within is = is ∙ get_or_default values k v d (omega (arith, less, within))
+
+-- the values that are read of a signal that had a value before and has one now
+module _ (before now : List Value) (k m : ℕ) (less : k < m) (count : m ≡ min (length now) (length before)) where
+  pub read_before : (v : Value) → v ≡ get_or before k v → v ≡ value_at before k
+  read_before v is = read before k m v (Bit false) less (subst (λ n. n ≤ length before) (sym count) (min-le_right (length now) (length before))) is
+
+  pub read_now : (v : Value) → v ≡ get_or now k v → v ≡ value_at now k
+  read_now v is = read now k m v (Bit false) less (subst (λ n. n ≤ length now) (sym count) (min-le_left (length now) (length before))) is
+
+  -- it changes as the test of these two says
+  pub changes_as : (a b : Value) (told : Bool) → a ≡ get_or before k a → b ≡ get_or now k b → told ≡ not (is_same a b) → changes before now k ≡ told
+  changes_as a b told was is test =
+      ap (λ (v : Value). not (is_same v (value_at now k))) (sym (read_before a was)) ∙ ap (λ (v : Value). not (is_same a v)) (sym (read_now b is)) ∙ sym test
 
 pub not_yet : (test : ℕ → Bool) (k : ℕ) → list_any test (range_with_len 0 k) ≡ false → test k ≡ false → list_any test (range_with_len 0 (k + 1)) ≡ false
 not_yet test k none here =

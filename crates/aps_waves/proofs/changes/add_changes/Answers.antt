@@ -1,11 +1,9 @@
-use Rattle.std.proofs.Common.{◌≤◌, length, false, subst, sym, arith}
-use Rattle.std.proofs.Math.Nat.{min-le_left, min-le_right}
+use Rattle.std.proofs.Common.{arith}
 use Rattle.aps_samples.proofs.Texts.{tick_more}
 use Rattle.aps_traces.proofs.Pieces.{as_other}
 use Rattle.aps_waves.specs.declared.value.Value.{Value}
-use Rattle.aps_waves.specs.declared.value.Value.TheVariants.{Bit}
 use Rattle.aps_waves.specs.Changes.{change_at, change_line, value_at}
-use Rattle.aps_waves.proofs.Alike.{read}
+use Rattle.aps_waves.proofs.Alike.{read_before, read_now}
 use Rattle.aps_waves.proofs.changes.add_changes.Goals as goal
 
 pub loop-signal-preserved : goal.loop-signal-preserved
@@ -15,11 +13,8 @@ loop-signal-preserved c =
     let before = c.args.before.now in
     let now = c.args.now.now in
     let k = c.loop-signal.signal in
-    let count = c.min-signal-end.ensures in
-    let was = read before k c.min-signal-end.result c.index-before-signal.result (Bit false) c.loop-signal-test.true
-    (subst (λ m. m ≤ length before) (sym count) (min-le_right (length now) (length before))) c.index-before-signal.is in
-    let is = read now k c.min-signal-end.result c.index-now-signal.result (Bit false) c.loop-signal-test.true
-    (subst (λ m. m ≤ length now) (sym count) (min-le_left (length now) (length before))) c.index-now-signal.is in
+    let was = read_before before now k _ c.loop-signal-test.true c.min-signal-end.ensures _ c.index-before-signal.is in
+    let is = read_now before now k _ c.loop-signal-test.true c.min-signal-end.ensures _ c.index-now-signal.is in
     tick_more (change_at threads rows before now) _ _ _ 0 k k (omega arith) c.loop-signal.invariant
     (as_other (change_line threads rows k (value_at before k)) _ _ _ _
     (as_other (λ (v : Value). change_line threads rows k v c.index-now-signal.result) _ _ _ _ c.in_ok-add_change.ensures was) is)
