@@ -6,6 +6,7 @@ use Rattle.std.proofs.lemmas.Grind.{common_steps}
 use Rattle.std.proofs.lemmas.List.Sums.{fold-append}
 use Rattle.aps_model.specs.declared.entry.Entry.{Entry}
 use Rattle.aps_model.specs.Due.{last_to, last_end}
+use Rattle.aps_model.specs.Limits.{most_cpus}
 
 unwrapped : (b : Bool) (to : ℕ) (found : Option ℕ) → unwrap_or (if b then Some to else found) 0 ≡ (if b then to else unwrap_or found 0)
 unwrapped true to found = refl
@@ -18,9 +19,9 @@ last_end_more h e c = ap (λ (found : Option ℕ). unwrap_or found 0) (fold-appe
 put-at : (ends : List ℕ) (cpu to c : ℕ) → c < length ends → slice_index (slice_set ends cpu to) c ≡ (if nat_eq cpu c then to else slice_index ends c)
 put-at ends cpu to c inside = grind (arith, nat_tests, common_steps)
 
-pub ends_more : (ends : List ℕ) (h : List Entry) (e : Entry) → 16 ≤ length ends
-    → ((c : ℕ) → c < 16 → slice_index ends c ≡ last_end h c)
-    → (c : ℕ) → c < 16 → slice_index (slice_set ends e.cpu e.to) c ≡ last_end (h ++ e ∷ []) c
+pub ends_more : (ends : List ℕ) (h : List Entry) (e : Entry) → most_cpus ≤ length ends
+    → ((c : ℕ) → c < most_cpus → slice_index ends c ≡ last_end h c)
+    → (c : ℕ) → c < most_cpus → slice_index (slice_set ends e.cpu e.to) c ≡ last_end (h ++ e ∷ []) c
 ends_more ends h e places so_far c small = rw (put-at ends e.cpu e.to c (omega arith), last_end_more h e c, so_far c small) refl
 
 -- the elements before one, with that one

@@ -1,5 +1,5 @@
 -- The documented limits, each with its name: what a scenario, a run and a command may have at most or at least.
--- docs/FORMATS.md says which refusal each has; `src/limits.rt` has the same numbers for code.
+-- docs/FORMATS.md says which refusal each has; `src/limits.rt` has those that code uses.
 use Rattle.std.specs.Prelude.{ℕ, ◌≤◌}
 
 -- a number lies in a range, both ends included
@@ -13,6 +13,10 @@ most_cpus = 16
 
 abbrev pub most_partitions : ℕ
 most_partitions = 32
+
+-- the partitions besides `System`, and so the demands for which budgets are found
+abbrev pub most_demands : ℕ
+most_demands = 31
 
 abbrev pub most_channels : ℕ
 most_channels = 256
@@ -73,6 +77,18 @@ longest_call = 100000
 abbrev pub last_moment : ℕ
 last_moment = 10000000000000
 
+-- the tick in which the last moment lies where ticks are shortest, so that no tick of a run comes after it
+abbrev pub last_tick : ℕ
+last_tick = 100000000
+
+-- all processor time of the longest tick
+abbrev pub most_time_of_tick : ℕ
+most_time_of_tick = 160000000
+
+-- all processor time of the longest run
+abbrev pub most_time_of_run : ℕ
+most_time_of_run = 160000000000000
+
 -- all processor time of the greatest window
 abbrev pub most_critical : ℕ
 most_critical = 64000000000
@@ -98,3 +114,15 @@ most_scenario_bytes = 1048576
 -- bytes of a scenario with a journal
 abbrev pub most_journal_bytes : ℕ
 most_journal_bytes = 310000000
+
+-- more than a partition uses in any window: a used time up to this is multiplied by a budget within 64 bits
+abbrev pub most_used : ℕ
+most_used = 100000000000000
+
+-- ---- what the words of the code hold
+
+abbrev pub greatest_u32 : ℕ
+greatest_u32 = 4294967295
+
+abbrev pub greatest_u64 : ℕ
+greatest_u64 = 18446744073709551615

@@ -18,4 +18,5 @@ pub record IsAtMost (most : ℕ) (usage : Usage) : Type 0 where
 -- what the entry bills was added
 pub record IsBilled (usage : Usage) (e : Entry) (ns : ℕ) (new : Usage) : Type 0 where
   pub used : (p : ℕ) → p < most_partitions → slice_index new.used p ≡ slice_index usage.used p + (if names e.billed p then ns else 0)
-  pub critical : (p : ℕ) → p < most_partitions → slice_index new.critical p ≡ slice_index usage.critical p + (if names e.billed p && e.critical then ns else 0)
+  pub critical : (p : ℕ) → p < most_partitions
+      → slice_index new.critical p ≡ slice_index usage.critical p + (if names e.billed p && e.critical then ns else 0)

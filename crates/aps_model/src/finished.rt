@@ -4,7 +4,7 @@ ghost use Rattle.aps_model.specs.History.{IsEntry};
 ghost use Rattle.aps_model.specs.Shape.{IsShape};
 ghost use Rattle.aps_model.specs.Due.{last_end};
 ghost use Rattle.aps_model.specs.Loaded.{finished_ticks};
-ghost use Rattle.aps_model.specs.Limits.{last_moment};
+ghost use Rattle.aps_model.specs.Limits.{last_moment, last_tick, most_cpus};
 
 use crate::entry::Entry;
 use crate::ids::Nanos;
@@ -17,7 +17,7 @@ pub fn finished_ticks(shape: &Shape, entries: &[Entry]) -> u64
     requires shape { IsShape shape.now }
     requires entries { All IsEntry entries.now }
     ensures same { result ≡ finished_ticks shape.now entries.now }
-    ensures few { result ≤ 100000000 }
+    ensures few { result ≤ last_tick }
 {
     let ends = last_ends(entries);
     let mut least = ends[0];
@@ -36,7 +36,7 @@ fn earlier(a: Nanos, b: Nanos) -> Nanos
 /// Where the last entry of each processor ended, or 0 where it has none.
 fn last_ends(entries: &[Entry]) -> [Nanos; MOST_CPUS]
     requires { All IsEntry entries.now }
-    ensures same { (c : ℕ) → c < 16 → slice_index result c ≡ last_end entries.now c }
+    ensures same { (c : ℕ) → c < most_cpus → slice_index result c ≡ last_end entries.now c }
     ensures early { All (λ end. end ≤ last_moment) result }
 {
     let mut ends = [0; MOST_CPUS];

@@ -57,7 +57,8 @@ impl Model for History {
 
     ghost view = { data_of };
 
-    ghost invariant = { λ h. IsHistory (data_of h) × HasRoom (data_of h) (vec_capacity h.entries) (vec_capacity h.replies) (vec_capacity h.changes) (vec_capacity h.rows) };
+    ghost invariant = { λ h. IsHistory (data_of h)
+        × HasRoom (data_of h) (vec_capacity h.entries) (vec_capacity h.replies) (vec_capacity h.changes) (vec_capacity h.rows) };
 }
 
 impl History {

@@ -1,6 +1,7 @@
 //! How much of a time lies in given ticks, and what each partition used of them.
 ghost use Rattle.std.specs.Prelude.{◌≡◌, ℕ, ◌+◌, ◌-◌, ◌*◌, ◌<◌, ◌≤◌, ◌^◌, All, length, if◌then◌else◌, ◌&&◌, min, max, slice_index};
 ghost use Rattle.aps_model.specs.History.{IsEntry};
+ghost use Rattle.aps_model.specs.Limits.{greatest_u32, longest_tick};
 ghost use Rattle.aps_model.specs.Usage.{names, overlap, used, critical_used};
 ghost use Rattle.aps_model.specs.Sums.{IsAtMost, IsBilled, IsUsage};
 
@@ -29,11 +30,11 @@ impl Usage {
     /// What these entries bill in ticks `a` to `b - 1`, where a tick has so many ns.
     pub fn of(entries: &[Entry], tick: u64, a: u64, b: u64) -> Usage
         requires entries { All IsEntry entries.now }
-        requires few { length entries.now ≤ 4294967295 }
+        requires few { length entries.now ≤ greatest_u32 }
         requires first { a * tick < 2 ^ 63 }
         requires end { b * tick < 2 ^ 63 }
         ensures sums { IsUsage tick a b entries.now result }
-        ensures small { IsAtMost (10000000 * length entries.now) result }
+        ensures small { IsAtMost (longest_tick * length entries.now) result }
     {
         let mut usage = Usage {
             used: [0; MOST_PARTITIONS],
@@ -48,7 +49,7 @@ impl Usage {
 
     /// Adds so many ns to what the entry bills.
     pub fn bill(&mut self, e: &Entry, ns: Nanos)
-        requires short { ns ≤ 10000000 }
+        requires short { ns ≤ longest_tick }
         requires room { IsAtMost (2 ^ 63) self.old }
         ensures { IsBilled self.old e.now ns self.new }
     {
