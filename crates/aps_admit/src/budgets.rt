@@ -1,6 +1,7 @@
 //! The least budgets of all demands.
 ghost use Rattle.std.specs.Prelude.{◌≡◌, ◌<◌, ◌≤◌, ◌+◌, All, IfOk, length, map, sum_by};
 ghost use Rattle.aps_model.specs.declared.demand.Demand.{Demand};
+ghost use Rattle.aps_model.specs.Limits.{most_demands, thousandths};
 ghost use Rattle.aps_model.specs.Shape.{IsShape};
 ghost use Rattle.aps_admit.specs.Admission.{IsNeed, Meets, admission, budget_for, granted};
 
@@ -17,7 +18,7 @@ use std::alloc::Global;
 /// where they sum to more. `NoMemory` comes where memory runs out.
 pub fn admit(alloc: Global, shape: &Shape, demands: &[Demand]) -> Result<Admission, NoMemory>
     requires shape { IsShape shape.now }
-    requires few { length demands.now ≤ 31 }
+    requires few { length demands.now ≤ most_demands }
     requires needs { All IsNeed demands.now }
     ensures exact { IfOk result (λ answer. answer ≡ admission shape.now demands.now) }
     ensures certified { IfOk result (λ answer. Meets shape.now demands.now answer) }
@@ -36,7 +37,7 @@ fn sum_of_budgets(shape: &Shape, slack: u64, demands: &[Demand]) -> u32
     requires shape { IsShape shape.now }
     requires some { 0 < length demands.now → 0 < slack }
     requires short { slack ≤ 4960000000 }
-    requires few { length demands.now ≤ 31 }
+    requires few { length demands.now ≤ most_demands }
     requires needs { All IsNeed demands.now }
     ensures { result ≡ sum_by (budget_for shape.now slack) demands.now }
 {
@@ -57,7 +58,7 @@ fn grants_of(
     requires shape { IsShape shape.now }
     requires some { 0 < length demands.now → 0 < slack }
     requires short { slack ≤ 4960000000 }
-    requires within { sum_by (budget_for shape.now slack) demands.now ≤ 1000 }
+    requires within { sum_by (budget_for shape.now slack) demands.now ≤ thousandths }
     requires needs { All IsNeed demands.now }
     ensures { IfOk result (λ grants. grants ≡ map (granted shape.now slack) demands.now) }
 {
@@ -73,7 +74,7 @@ fn granted(shape: &Shape, slack: u64, demand: &Demand) -> Granted
     requires shape { IsShape shape.now }
     requires some { 0 < slack }
     requires short { slack ≤ 4960000000 }
-    requires few { budget_for shape.now slack demand.now ≤ 1000 }
+    requires few { budget_for shape.now slack demand.now ≤ thousandths }
     requires need { IsNeed demand.now }
     ensures { result ≡ granted shape.now slack demand.now }
 {

@@ -1,5 +1,6 @@
 //! What a budget gives, and the least budget that gives some time.
 ghost use Rattle.std.specs.Prelude.{◌≡◌, ◌<◌, ◌≤◌};
+ghost use Rattle.aps_model.specs.Limits.{most_demands, thousandths};
 ghost use Rattle.aps_model.specs.Shape.{IsShape};
 ghost use Rattle.aps_admit.specs.Least.{total_slack, allowance, least_budget};
 
@@ -8,7 +9,7 @@ use aps_model::Shape;
 /// The slack of so many demands: one tick of each processor for each of them, in ns.
 pub fn total_slack(shape: &Shape, demands: usize) -> u64
     requires shape { IsShape shape.now }
-    requires few { demands ≤ 31 }
+    requires few { demands ≤ most_demands }
     ensures same { result ≡ total_slack shape.now demands }
     ensures some { 0 < demands → 0 < result }
     ensures short { result ≤ 4960000000 }
@@ -19,7 +20,7 @@ pub fn total_slack(shape: &Shape, demands: usize) -> u64
 /// What so many parts give in a window, in whole ns.
 pub fn allowance(shape: &Shape, budget: u64) -> u64
     requires shape { IsShape shape.now }
-    requires few { budget ≤ 1000 }
+    requires few { budget ≤ thousandths }
     ensures { result ≡ allowance shape.now budget }
 {
     budget * shape.whole() / u64::from(shape.parts)

@@ -5,6 +5,7 @@ use Rattle.std.proofs.lemmas.List.{get_or_past, get_or-replicate, length-replica
 use Rattle.aps_model.specs.declared.audit.Audit.{Audit}
 use Rattle.aps_model.specs.declared.usage.Usage.{Usage}
 use Rattle.aps_model.specs.History.{History}
+use Rattle.aps_model.specs.Limits.{most_partitions}
 use Rattle.aps_model.specs.Sums.{IsUsage}
 use Rattle.aps_bound.specs.declared.limits.Limit.{Limit}
 use Rattle.aps_bound.specs.Limits.{AreLimits, HasWorst, IsWithin, no_limit}
@@ -12,17 +13,17 @@ use Rattle.aps_bound.specs.Worst.{with_partition}
 use Rattle.aps_bound.proofs.Growth.{partition_stays}
 
 -- limits that nothing keeps are limits of any audit
-pub no_limits_are : (h : History) (audit : Audit) (limits : List Limit) → limits ≡ replicate 32 no_limit → AreLimits h audit limits
-no_limits_are h audit limits none = λ p below. inl (ap (λ (l : List Limit). get_or l p no_limit) none ∙ (elim (cases_lt p 32) [
-  | inl few ↦ get_or-replicate 32 p no_limit no_limit few
-  | inr past ↦ get_or_past (replicate 32 no_limit) p no_limit (omega (arith, past, length-replicate 32 no_limit))
+pub no_limits_are : (h : History) (audit : Audit) (limits : List Limit) → limits ≡ replicate most_partitions no_limit → AreLimits h audit limits
+no_limits_are h audit limits none = λ p below. inl (ap (λ (l : List Limit). get_or l p no_limit) none ∙ (elim (cases_lt p most_partitions) [
+  | inl few ↦ get_or-replicate most_partitions p no_limit no_limit few
+  | inr past ↦ get_or_past (replicate most_partitions no_limit) p no_limit (omega (arith, past, length-replicate most_partitions no_limit))
 ]))
 
 never_within : (u c : ℕ) → IsWithin no_limit u c → ⊥
 never_within u c is = omega (arith, is.end)
 
 -- a partition that keeps within its limit
-pub within_stays : (h : History) (audit : Audit) (a p : ℕ) (usage : Usage) (limits : List Limit) → p < length h.rows → p < 32
+pub within_stays : (h : History) (audit : Audit) (a p : ℕ) (usage : Usage) (limits : List Limit) → p < length h.rows → p < most_partitions
     → IsUsage h.shape.tick a (a + h.shape.window) h.entries usage → AreLimits h audit limits
     → IsWithin (get_or limits p no_limit) (slice_index usage.used p) (slice_index usage.critical p) → with_partition h audit a p ≡ audit
 within_stays h audit a p usage limits below few is are within = by (are p below)

@@ -9,6 +9,7 @@ use Rattle.std.proofs.lemmas.Nat.{div_below, mul-le}
 use Rattle.aps_model.specs.declared.entry.Entry.{Entry}
 use Rattle.aps_model.specs.Due.{next_boundary}
 use Rattle.aps_model.specs.History.{IsEntry}
+use Rattle.aps_model.specs.Limits.{longest_tick}
 use Rattle.aps_model.specs.Usage.{billed_by, critical_by, critical_used, names, overlap, used}
 use Rattle.aps_bound.specs.Cursor.{HasAllOf, IsInTick}
 use Rattle.aps_bound.specs.Order.{IsInOrder}
@@ -66,14 +67,14 @@ critical_split tick h p a b c ab bc =
     sum_split (critical_by tick p a c) (critical_by tick p a b) (critical_by tick p b c) h (λ e. by_test (names e.billed p && e.critical) _ _ _ (overlap_split tick a b c e.from e.to ab bc))
 
 -- it is small
-entry_few : (tick a b from to : ℕ) → to - from ≤ 10000000 → overlap tick a b from to ≤ 10000000
+entry_few : (tick a b from to : ℕ) → to - from ≤ longest_tick → overlap tick a b from to ≤ longest_tick
 entry_few tick a b from to short = omega arith
 
-pub used_few : (tick : ℕ) (h : List Entry) (p a b : ℕ) → All IsEntry h → used tick h p a b ≤ length h * 10000000
-used_few tick h p a b entries = sum_by-le (billed_by tick p a b) 10000000 h (λ k d inside. few_by_test _ _ 10000000 (entry_few tick a b _ _ (entries k d inside).short))
+pub used_few : (tick : ℕ) (h : List Entry) (p a b : ℕ) → All IsEntry h → used tick h p a b ≤ length h * longest_tick
+used_few tick h p a b entries = sum_by-le (billed_by tick p a b) longest_tick h (λ k d inside. few_by_test _ _ longest_tick (entry_few tick a b _ _ (entries k d inside).short))
 
-pub critical_few : (tick : ℕ) (h : List Entry) (p a b : ℕ) → All IsEntry h → critical_used tick h p a b ≤ length h * 10000000
-critical_few tick h p a b entries = sum_by-le (critical_by tick p a b) 10000000 h (λ k d inside. few_by_test _ _ 10000000 (entry_few tick a b _ _ (entries k d inside).short))
+pub critical_few : (tick : ℕ) (h : List Entry) (p a b : ℕ) → All IsEntry h → critical_used tick h p a b ≤ length h * longest_tick
+critical_few tick h p a b entries = sum_by-le (critical_by tick p a b) longest_tick h (λ k d inside. few_by_test _ _ longest_tick (entry_few tick a b _ _ (entries k d inside).short))
 
 sum_none : (f : Entry → ℕ) (h : List Entry) → All (λ (e : Entry). f e ≡ 0) h → sum_by f h ≡ 0
 sum_none f h none =

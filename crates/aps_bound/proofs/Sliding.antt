@@ -5,6 +5,7 @@ use Rattle.std.proofs.lemmas.List.{get_or-replicate}
 use Rattle.std.proofs.lemmas.List.Sums.{sum_by_more_le}
 use Rattle.aps_model.specs.declared.entry.Entry.{Entry}
 use Rattle.aps_model.specs.History.{IsEntry}
+use Rattle.aps_model.specs.Limits.{greatest_u32, most_partitions}
 use Rattle.aps_model.specs.Usage.{billed_by, critical_by, overlap}
 use Rattle.aps_bound.specs.declared.cursor.Cursor.{Cursor}
 use Rattle.aps_bound.specs.declared.window.Window.{Window}
@@ -15,7 +16,7 @@ use Rattle.aps_bound.specs.Usage.{HasBilled, HasUsed, IsMore}
 use Rattle.aps_bound.specs.Window.{IsWindow}
 use Rattle.aps_bound.proofs.Overlaps.{critical_few, critical_none, critical_split, used_few, used_none, used_split}
 
-pub usage_few : (tick a b : ℕ) (h : List Entry) (usage : Usage) → All IsEntry h → length h ≤ 4294967295 → IsUsage tick a b h usage → IsAtMost (2 ^ 62) usage
+pub usage_few : (tick a b : ℕ) (h : List Entry) (usage : Usage) → All IsEntry h → length h ≤ greatest_u32 → IsUsage tick a b h usage → IsAtMost (2 ^ 62) usage
 usage_few tick a b h usage entries few is = record {
   used = λ p inside. let most = used_few tick h p a b entries in let here = is.used p inside in omega arith;
   critical = λ p inside. let most = critical_few tick h p a b entries in let here = is.critical p inside in omega arith;
@@ -36,10 +37,10 @@ billed_left tick a b n ns h left all e inside is same whole split = rw same reco
 }
 
 -- no ticks at all
-pub empty_usage : (tick a : ℕ) (h : List Entry) → IsUsage tick a a h (record { used = replicate 32 0; critical = replicate 32 0 })
+pub empty_usage : (tick a : ℕ) (h : List Entry) → IsUsage tick a a h (record { used = replicate most_partitions 0; critical = replicate most_partitions 0 })
 empty_usage tick a h = record {
-  used = λ p below. get_or-replicate 32 p 0 0 below ∙ sym (used_none tick h p a);
-  critical = λ p below. get_or-replicate 32 p 0 0 below ∙ sym (critical_none tick h p a);
+  used = λ p below. get_or-replicate most_partitions p 0 0 below ∙ sym (used_none tick h p a);
+  critical = λ p below. get_or-replicate most_partitions p 0 0 below ∙ sym (critical_none tick h p a);
 }
 
 -- with the tick after the window

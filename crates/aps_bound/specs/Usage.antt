@@ -8,7 +8,8 @@ use Rattle.aps_model.specs.declared.usage.Usage.{Usage}
 -- the second is the first and what the entries bill in ticks a to b-1
 pub record IsMore (tick a b : ℕ) (entries : List Entry) (usage more : Usage) : Type 0 where
   pub used : (p : ℕ) → p < most_partitions → slice_index more.used p ≡ slice_index usage.used p + used tick entries p a b
-  pub critical : (p : ℕ) → p < most_partitions → slice_index more.critical p ≡ slice_index usage.critical p + critical_used tick entries p a b
+  pub critical : (p : ℕ) → p < most_partitions
+      → slice_index more.critical p ≡ slice_index usage.critical p + critical_used tick entries p a b
 
 -- what the entries bill in ticks a to b-1 is a part of it
 pub record HasUsed (tick a b : ℕ) (entries : List Entry) (usage : Usage) : Type 0 where

@@ -1,7 +1,7 @@
 //! What each partition's budget allows in a window.
 ghost use Rattle.std.specs.Prelude.{◌≡◌, ◌*◌, ◌/◌, ◌<◌, ◌≤◌, length};
 ghost use Rattle.aps_model.specs.Audit.{allowance};
-ghost use Rattle.aps_model.specs.Limits.{most_partitions};
+ghost use Rattle.aps_model.specs.Limits.{most_partitions, thousandths};
 ghost use Rattle.aps_model.specs.Partition.{row_or_none};
 ghost use Rattle.aps_model.specs.Shape.{IsShape};
 ghost use Rattle.aps_bound.specs.Allowed.{AreAllowed};
@@ -39,7 +39,7 @@ pub fn allowed_at(allowed: &Allowed, _history: &History, p: usize) -> Nanos
 /// The time that a budget allows in a window.
 fn allowance(shape: &Shape, budget: u16) -> Nanos
     requires shape { IsShape shape.now }
-    requires budget { budget ≤ 1000 }
+    requires budget { budget ≤ thousandths }
     ensures { result ≡ allowance shape.now budget }
 {
     u64::from(budget) * shape.whole() / u64::from(shape.parts)

@@ -1,6 +1,7 @@
 //! The audit over all loaded windows.
 ghost use Rattle.std.specs.Prelude.{◌≡◌, ◌+◌, ◌-◌, ◌≤◌};
 ghost use Rattle.aps_model.specs.Audit.{audit_of};
+ghost use Rattle.aps_model.specs.Limits.{last_tick};
 ghost use Rattle.aps_model.specs.Loaded.{finished_ticks};
 
 use crate::finished::finished_ticks;
@@ -41,7 +42,7 @@ pub fn audit(history: &History) -> Audit
 
 /// The first tick from which a window isn't finished, or 0, where so many ticks are.
 fn first_unfinished(shape: &Shape, count: u64) -> u64
-    requires { count ≤ 100000000 }
+    requires { count ≤ last_tick }
     ensures { result ≡ count + 1 - shape.now.window }
 {
     (count + 1).saturating_sub(u64::from(shape.window))

@@ -2,7 +2,7 @@
 ghost use Rattle.std.specs.Prelude.{◌≡◌, ◌≤◌, All, min};
 ghost use Rattle.aps_model.specs.Due.{last_end};
 ghost use Rattle.aps_model.specs.History.{IsEntry};
-ghost use Rattle.aps_model.specs.Limits.{last_moment};
+ghost use Rattle.aps_model.specs.Limits.{last_moment, last_tick};
 ghost use Rattle.aps_model.specs.Loaded.{finished_ticks};
 ghost use Rattle.aps_model.specs.Shape.{IsShape};
 
@@ -14,7 +14,7 @@ pub fn finished_ticks(shape: &Shape, entries: &[Entry]) -> u64
     requires shape { IsShape shape.now }
     requires entries { All IsEntry entries.now }
     ensures same { result ≡ finished_ticks shape.now entries.now }
-    ensures few { result ≤ 100000000 }
+    ensures few { result ≤ last_tick }
 {
     let mut least = last_end(entries, 0);
     for cpu in 0..usize::from(shape.cpus) {

@@ -1,5 +1,6 @@
 //! Since when all finished ticks are steady.
 ghost use Rattle.std.specs.Prelude.{◌≡◌, ℕ, ◌+◌, ◌<◌, ◌≤◌, ◌/◌, ◌&&◌, ◌||◌, is_some, nat_lt, true};
+ghost use Rattle.aps_model.specs.Limits.{last_tick};
 ghost use Rattle.aps_model.specs.Loaded.{finished_ticks, has_change, has_starved, is_among, loaded_tick};
 ghost use Rattle.aps_model.specs.Shape.{IsShape};
 ghost use Rattle.aps_bound.specs.Order.{IsInOrder};
@@ -18,7 +19,7 @@ pub fn loaded_tick(
     requires shape { IsShape shape.now }
     requires order { is_in_order ≡ true → IsInOrder shape.now.tick entries.now }
     requires count { count ≡ finished_ticks shape.now entries.now }
-    requires few { count ≤ 100000000 }
+    requires few { count ≤ last_tick }
     ensures same { result ≡ loaded_tick shape.now entries.now changes.now }
     ensures finished { result ≤ count }
 {
@@ -27,7 +28,7 @@ pub fn loaded_tick(
 
 /// The tick after the last change that stands at a finished tick, or 0.
 fn after_changes(changes: &[Change], count: u64) -> u64
-    requires { count ≤ 100000000 }
+    requires { count ≤ last_tick }
     ensures same { (s : ℕ) → has_change changes.now s count ≡ nat_lt s result }
     ensures finished { result ≤ count }
 {
@@ -42,7 +43,7 @@ fn after_changes(changes: &[Change], count: u64) -> u64
 /// in order of ticks.
 fn after_starved(tick: u64, entries: &[Entry], count: u64, is_in_order: bool) -> u64
     requires tick { 0 < tick }
-    requires few { count ≤ 100000000 }
+    requires few { count ≤ last_tick }
     requires order { is_in_order ≡ true → IsInOrder tick entries.now }
     ensures same { (s : ℕ) → has_starved tick entries.now s count ≡ nat_lt s result }
     ensures finished { result ≤ count }
@@ -57,7 +58,7 @@ fn after_starved(tick: u64, entries: &[Entry], count: u64, is_in_order: bool) ->
 /// The same, in whatever order the entries stand.
 fn after_each_starved(tick: u64, entries: &[Entry], count: u64) -> u64
     requires tick { 0 < tick }
-    requires few { count ≤ 100000000 }
+    requires few { count ≤ last_tick }
     ensures same { (s : ℕ) → has_starved tick entries.now s count ≡ nat_lt s result }
     ensures finished { result ≤ count }
 {
@@ -73,7 +74,7 @@ fn after_each_starved(tick: u64, entries: &[Entry], count: u64) -> u64
 /// The same, where the entries are in order of ticks: it is found from the end of the history, at the first such pick.
 fn after_last_starved(tick: u64, entries: &[Entry], count: u64) -> u64
     requires tick { 0 < tick }
-    requires few { count ≤ 100000000 }
+    requires few { count ≤ last_tick }
     requires order { IsInOrder tick entries.now }
     ensures same { (s : ℕ) → has_starved tick entries.now s count ≡ nat_lt s result }
     ensures finished { result ≤ count }
@@ -100,7 +101,7 @@ fn is_starved_before(e: &Entry, tick: u64, count: u64) -> bool
 /// The later of what was found so far and the tick after this one, where that is finished.
 fn later(after: u64, tick: u64, count: u64) -> u64
     requires finished { after ≤ count }
-    requires few { count ≤ 100000000 }
+    requires few { count ≤ last_tick }
     ensures same { (s : ℕ) → nat_lt s result ≡ (nat_lt s after || is_among s count tick) }
     ensures finished { result ≤ count }
 {

@@ -1,5 +1,6 @@
 //! The audit by a recount of each window.
 ghost use Rattle.std.specs.Prelude.{◌≡◌, ◌+◌, ◌-◌, ◌*◌, ◌<◌, ◌≤◌};
+ghost use Rattle.aps_model.specs.Limits.{last_tick};
 ghost use Rattle.aps_bound.specs.Allowed.{AreAllowed};
 ghost use Rattle.aps_bound.specs.Limits.{AreLimits};
 ghost use Rattle.aps_bound.specs.Worst.{with_window, with_windows};
@@ -28,7 +29,7 @@ pub fn by_recount(history: &History, audit: &Audit, from: u64, end: u64) -> Audi
 fn with_window(history: &History, allowed: &Allowed, audit: &mut Audit, limits: &mut Limits, a: u64)
     requires allowed { AreAllowed history.now allowed.now }
     requires limits { AreLimits history.now audit.old limits.old }
-    requires a { a ≤ 100000000 }
+    requires a { a ≤ last_tick }
     ensures audit { audit.new ≡ with_window history.now audit.old a }
     ensures limits { AreLimits history.now audit.new limits.new }
 {

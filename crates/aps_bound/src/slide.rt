@@ -1,5 +1,6 @@
 //! The audit by a window that slides from each to the next.
 ghost use Rattle.std.specs.Prelude.{◌≡◌, ◌+◌, ◌-◌, ◌*◌, ◌<◌, ◌≤◌};
+ghost use Rattle.aps_model.specs.Limits.{last_tick};
 ghost use Rattle.aps_bound.specs.Order.{IsInOrder};
 ghost use Rattle.aps_bound.specs.Worst.{with_windows};
 
@@ -13,7 +14,7 @@ use aps_model::{Audit, History};
 /// cost is that of a few passes over the entries, and for each window that of a look at each partition.
 pub fn by_slide(history: &History, audit: &Audit, from: u64, end: u64) -> Audit
     requires order { IsInOrder history.now.shape.tick history.now.entries }
-    requires from { from ≤ 100000000 }
+    requires from { from ≤ last_tick }
     requires end { end ≤ 100000001 }
     ensures { result ≡ with_windows history.now audit.now from end }
 {

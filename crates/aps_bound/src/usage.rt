@@ -1,6 +1,7 @@
 //! What enters the usage of a window and what leaves it.
 ghost use Rattle.std.specs.Prelude.{◌≡◌, ℕ, ◌+◌, ◌-◌, ◌*◌, ◌<◌, ◌≤◌, ◌^◌, All, length, if◌then◌else◌, ◌&&◌, min, max, slice_index};
 ghost use Rattle.aps_model.specs.History.{IsEntry};
+ghost use Rattle.aps_model.specs.Limits.{greatest_u32};
 ghost use Rattle.aps_model.specs.Sums.{IsAtMost, IsBilled};
 ghost use Rattle.aps_model.specs.Usage.{overlap};
 ghost use Rattle.aps_bound.specs.Cursor.{IsInTick};
@@ -12,7 +13,7 @@ use aps_model::{Entry, Nanos, Usage};
 #[inline(always)]
 pub fn add(usage: &mut Usage, entries: &[Entry], _tick: u64, _a: u64)
     requires entries { All IsEntry entries.now }
-    requires few { length entries.now ≤ 4294967295 }
+    requires few { length entries.now ≤ greatest_u32 }
     requires inside { All (IsInTick _tick _a) entries.now }
     requires room { IsAtMost (2 ^ 62) usage.old }
     ensures { IsMore _tick _a (_a + 1) entries.now usage.old usage.new }

@@ -1,6 +1,7 @@
 //! A window that slides over entries in order of ticks.
 ghost use Rattle.std.specs.Prelude.{◌≡◌, ◌+◌, ◌*◌, ◌<◌, ◌≤◌, ◌^◌, All, length};
 ghost use Rattle.aps_model.specs.History.{IsEntry};
+ghost use Rattle.aps_model.specs.Limits.{greatest_u32};
 ghost use Rattle.aps_bound.specs.Order.{IsInOrder};
 ghost use Rattle.aps_bound.specs.Window.{IsWindow};
 
@@ -21,7 +22,7 @@ impl Window {
     /// The window of ticks `a` to `b - 1`. The cost is that of a pass over the entries of these ticks.
     pub fn over(entries: &[Entry], tick: u64, a: u64, b: u64) -> Window
         requires entries { All IsEntry entries.now }
-        requires few { length entries.now ≤ 4294967295 }
+        requires few { length entries.now ≤ greatest_u32 }
         requires order { IsInOrder tick entries.now }
         requires some { 0 < tick }
         requires forward { a ≤ b }
@@ -60,7 +61,7 @@ impl Window {
     /// added once and taken away once.
     pub fn slide(&mut self, entries: &[Entry], tick: u64)
         requires entries { All IsEntry entries.now }
-        requires few { length entries.now ≤ 4294967295 }
+        requires few { length entries.now ≤ greatest_u32 }
         requires order { IsInOrder tick entries.now }
         requires some { 0 < tick }
         requires window { IsWindow tick entries.now self.old }
@@ -76,7 +77,7 @@ impl Window {
     /// The tick after the window enters.
     fn enter(&mut self, entries: &[Entry], tick: u64)
         requires entries { All IsEntry entries.now }
-        requires few { length entries.now ≤ 4294967295 }
+        requires few { length entries.now ≤ greatest_u32 }
         requires order { IsInOrder tick entries.now }
         requires some { 0 < tick }
         requires window { IsWindow tick entries.now self.old }

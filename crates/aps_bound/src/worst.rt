@@ -2,6 +2,7 @@
 ghost use Rattle.std.specs.Prelude.{◌≡◌, ◌+◌, ◌≤◌, ◌<◌, ◌*◌, ◌/◌, length, if◌then◌else◌, Some, true};
 ghost use Rattle.aps_model.specs.declared.audit.Worst.{Worst as WorstOf};
 ghost use Rattle.aps_model.specs.Audit.{critical_over_from, over_from, short_from, worse};
+ghost use Rattle.aps_model.specs.Limits.{last_tick};
 ghost use Rattle.aps_model.specs.Sums.{IsUsage};
 ghost use Rattle.aps_bound.specs.Allowed.{AreAllowed};
 ghost use Rattle.aps_bound.specs.Limits.{AreLimits};
@@ -23,7 +24,7 @@ pub fn with_partitions(
     requires allowed { AreAllowed history.now allowed.now }
     requires limits { AreLimits history.now audit.old limits.old }
     requires usage { IsUsage history.now.shape.tick a (a + history.now.shape.window) history.now.entries usage.now }
-    requires a { a ≤ 100000000 }
+    requires a { a ≤ last_tick }
     ensures audit { audit.new ≡ with_window history.now audit.old a }
     ensures limits { AreLimits history.now audit.new limits.new }
 {
@@ -65,7 +66,7 @@ fn with_partition(
     requires p { p < length history.now.rows }
     requires allowed { AreAllowed history.now allowed.now }
     requires usage { IsUsage history.now.shape.tick a (a + history.now.shape.window) history.now.entries usage.now }
-    requires a { a ≤ 100000000 }
+    requires a { a ≤ last_tick }
     ensures { audit.new ≡ with_partition history.now audit.old a p }
 {
     let row = &history.rows()[p];

@@ -18,6 +18,7 @@ use Rattle.aps_model.specs.Bound.{IsWithinBudget, IsWithinCritical, slack}
 use Rattle.aps_model.specs.Due.{last_end, last_to}
 use Rattle.aps_model.specs.History.{Rooms}
 use Rattle.aps_model.specs.Legal.{IsLegal}
+use Rattle.aps_model.specs.Limits.{shortest_tick}
 use Rattle.aps_model.specs.Loaded.{finished_ticks, has_change, is_among, is_steady, loaded_tick, state_of_tick}
 use Rattle.aps_model.specs.Partition.{row_or_none}
 use Rattle.aps_model.specs.Recorded.{recorded}
@@ -54,7 +55,7 @@ last_rows scenario order h a r legal none reached = elim (last_split h) [
       (ap (λ g. (state_after scenario g).rows) more.2 ∙ held.0, ap (λ g. (state_after scenario g).shape) more.2 ∙ held.1)
 ]
   where
-    tick_after : (tick n : ℕ) → 100000 ≤ tick → n < (n + 1) * tick
+    tick_after : (tick n : ℕ) → shortest_tick ≤ tick → n < (n + 1) * tick
     tick_after tick n long =
         let some : 1 ≤ tick = omega arith in
         omega (arith, mul-le-mul_left (n + 1) some)

@@ -24,7 +24,9 @@ pub record IsFundedPick (scenario : Scenario) (h : List Entry) (e : Entry) (t : 
   pub mark : Bool
   pub keeps : (wide_at scenario h e).keeps ≡ Some (partition, mark)
   pub inside : partition < length t.rows
-  pub ordinary : mark ≡ false → t.shape.parts * window_used t.shape (h ++ e ∷ []) (tick_of t e) partition < (row_or_none t.rows partition).budget * whole t.shape
+  pub ordinary : mark ≡ false
+      → t.shape.parts * window_used t.shape (h ++ e ∷ []) (tick_of t e) partition
+      < (row_or_none t.rows partition).budget * whole t.shape
 
 -- the entry makes no pick, or its pick is such a one
 abbrev pub PicksFunded : Scenario → List Entry → Entry → Type 0

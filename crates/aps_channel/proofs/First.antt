@@ -7,8 +7,10 @@ use Rattle.std.proofs.lemmas.Bool.Decides.{nat_tests}
 use Rattle.aps_laws.specs.Waits.{one_if, times}
 use Rattle.aps_laws.proofs.WaitFacts.{test_eq, test_ne}
 use Rattle.aps_model.specs.Inherit.{top_of}
+use Rattle.aps_model.specs.Limits.{greatest_priority}
 use Rattle.aps_model.specs.Messages.{first_message, higher}
 use Rattle.aps_model.specs.SchedulerState.{Message}
+use Rattle.aps_levels.specs.Levels.{level_count}
 use Rattle.aps_channel.specs.Lines.{first_of}
 use Rattle.aps_channel.specs.Queues.{Records, is_level, level_of, message_of, priority_at}
 use Rattle.aps_channel.proofs.Counts.{one_here}
@@ -47,7 +49,7 @@ higher_over : (p : ℕ) (best : Option Message) (m : Message) → IsUnder p best
 higher_over p None m u e = refl
 higher_over p (Some b) m u e = ap (λ t. Some (cond t m b)) (test_lt b.priority m.priority (omega (arith, u, e)))
 
-rises : (rs : Records) (p x : ℕ) (best : Option Message) (xs : List ℕ) → ((y : ℕ) → priority_at rs y ≤ 255) → p ≤ 255 → IsUnder p best
+rises : (rs : Records) (p x : ℕ) (best : Option Message) (xs : List ℕ) → ((y : ℕ) → priority_at rs y ≤ greatest_priority) → p ≤ greatest_priority → IsUnder p best
     → ((y : ℕ) → 1 ≤ times y xs → priority_at rs y ≤ p) → first_of (filter (is_level rs (level_of p)) xs) ≡ Some x
     → fold higher best (map (message_of rs) xs) ≡ Some (message_of rs x)
 rises rs p x best [] small fits u below first = absurd cc
@@ -79,15 +81,15 @@ none_pass test (x ∷ xs) y e l = by_test (test x) refl e (none_pass test xs y)
     ]
 
 -- the earliest of the least level in use
-pub first_is : (rs : Records) (level x : ℕ) (xs : List ℕ) → ((y : ℕ) → priority_at rs y ≤ 255) → level < 256
+pub first_is : (rs : Records) (level x : ℕ) (xs : List ℕ) → ((y : ℕ) → priority_at rs y ≤ greatest_priority) → level < level_count
     → ((k : ℕ) → k < level → is_some (first_of (filter (is_level rs k) xs)) ≡ false) → first_of (filter (is_level rs level) xs) ≡ Some x
     → first_message (map (message_of rs) xs) ≡ Some (message_of rs x)
 first_is rs level x xs small lt earlier first =
-    let p : ℕ = 255 - level in
+    let p : ℕ = greatest_priority - level in
     let is : level_of p ≡ level = omega (arith, lt) in
     rises rs p x None xs small (omega arith) tt below (subst (λ k. first_of (filter (is_level rs k) xs) ≡ Some x) (sym is) first)
   where
-    below : (y : ℕ) → 1 ≤ times y xs → priority_at rs y ≤ 255 - level
+    below : (y : ℕ) → 1 ≤ times y xs → priority_at rs y ≤ greatest_priority - level
     below y l = elim (cases_lt (level_of (priority_at rs y)) level) [
       | inl less ↦
           absurd (differ (none_pass (is_level rs (level_of (priority_at rs y))) xs y (earlier (level_of (priority_at rs y)) less) l) (test_eq (level_of (priority_at rs y)) (level_of (priority_at rs y)) refl))
@@ -98,7 +100,7 @@ first_is rs level x xs small lt earlier first =
         differ {t} p q = cc
 
 -- nothing waits where no level is in use
-pub first_none : (rs : Records) (xs : List ℕ) → ((k : ℕ) → k < 256 → is_some (first_of (filter (is_level rs k) xs)) ≡ false) → first_message (map (message_of rs) xs) ≡ None
+pub first_none : (rs : Records) (xs : List ℕ) → ((k : ℕ) → k < level_count → is_some (first_of (filter (is_level rs k) xs)) ≡ false) → first_message (map (message_of rs) xs) ≡ None
 first_none rs [] none = refl
 first_none rs (x ∷ xs) none =
     absurd (differ (none_pass (is_level rs (level_of (priority_at rs x))) (x ∷ xs) x (none (level_of (priority_at rs x)) (omega arith)) (one_here x xs)) (test_eq (level_of (priority_at rs x)) (level_of (priority_at rs x)) refl))

@@ -9,6 +9,7 @@ use Rattle.aps_laws.specs.Waits.{one_if, times, times_sent}
 use Rattle.aps_laws.proofs.WaitFacts.{test_eq, test_ne}
 use Rattle.aps_laws.proofs.WaitMoves.{client_added, client_without, times-append}
 use Rattle.aps_model.specs.Inherit.{client_of, without_server}
+use Rattle.aps_model.specs.Limits.{most_threads}
 use Rattle.aps_model.specs.Messages.{higher, without_sender}
 use Rattle.aps_model.specs.SchedulerState.{ChannelNow, Message, Triple, no_channel}
 use Rattle.aps_channel.specs.Channels.{Channels, IsCalm, IsIdle, channel_at, with_channel, with_triple}
@@ -356,7 +357,7 @@ pub joined_none : (n : ℕ) → joined (replicate n []) (replicate n []) ≡ rep
 joined_none zero = refl
 joined_none (suc n) = ap (λ cs. no_channel ∷ cs) (joined_none n)
 
-pub opened : (w : Waiting) (r : Lines) (s : Serving) (n threads : ℕ) → threads ≤ 1024 → w ≡ record { messages = replicate n []; threads = threads } → r ≡ record { lines = replicate n []; numbers = threads }
+pub opened : (w : Waiting) (r : Lines) (s : Serving) (n threads : ℕ) → threads ≤ most_threads → w ≡ record { messages = replicate n []; threads = threads } → r ≡ record { lines = replicate n []; numbers = threads }
     → s ≡ record { triples = []; threads = threads } → AreSeenChannels w r s (record { channels = replicate n no_channel; triples = []; threads = threads })
 opened w r s n threads few ew er es =
     let W : Waiting = record { messages = replicate n []; threads = threads } in

@@ -5,10 +5,11 @@ use Rattle.std.proofs.Math.ListN.{length-set}
 use Rattle.std.proofs.lemmas.List.{append-nil, get_or-map, get_or-replicate, get_or-set_same, get_or-set_other, get_or_past, get_or_read, length-map, length-replicate, map-append, same_lists}
 use Rattle.std.proofs.lemmas.List.Elements.{filter-append}
 use Rattle.std.proofs.lemmas.Bool.{cases_eq, cases_lt}
+use Rattle.aps_model.specs.Limits.{greatest_priority}
 use Rattle.aps_laws.specs.Waits.{one_if, times}
 use Rattle.aps_laws.proofs.WaitFacts.{test_eq, test_ne}
 use Rattle.aps_levels.specs.declared.levels.Levels.{Levels}
-use Rattle.aps_levels.specs.Levels.{has_level}
+use Rattle.aps_levels.specs.Levels.{has_level, level_count}
 use Rattle.aps_model.specs.Messages.{without_sender}
 use Rattle.aps_model.specs.SchedulerState.{Message}
 use Rattle.aps_channel.specs.Lines.{IsInNone, Lines, first_of, line_at, with_line, without}
@@ -45,11 +46,11 @@ times_filtered test x (y ∷ ys) is = by_test (test y) refl (times_filtered test
         differ {t} p q = cc
 
 -- every line of levels belongs to a level of a channel
-nowhere_by_level : (levels : Lines) (n x : ℕ) → length levels.lines ≡ 256 * n → ((c k : ℕ) → c < n → k < 256 → times x (line_at levels.lines (place_of c k)) ≡ 0) → IsInNone levels x
-nowhere_by_level levels n x size each q = elim (cases_lt q (256 * n)) [
+nowhere_by_level : (levels : Lines) (n x : ℕ) → length levels.lines ≡ level_count * n → ((c k : ℕ) → c < n → k < level_count → times x (line_at levels.lines (place_of c k)) ≡ 0) → IsInNone levels x
+nowhere_by_level levels n x size each q = elim (cases_lt q (level_count * n)) [
   | inl lt ↦
-      subst (λ r. times x (line_at levels.lines r) ≡ 0) (let e : place_of (q / 256) (q % 256) ≡ q = omega arith in e)
-      (each (q / 256) (q % 256) (omega (arith, lt)) (omega arith))
+      subst (λ r. times x (line_at levels.lines r) ≡ 0) (let e : place_of (q / level_count) (q % level_count) ≡ q = omega arith in e)
+      (each (q / level_count) (q % level_count) (omega (arith, lt)) (omega arith))
   | inr ge ↦ ap (times x) (get_or_past levels.lines q [] (omega (arith, ge, size)))
 ]
 
@@ -61,12 +62,12 @@ free_of_levels arrivals levels in_use rs x are free =
     let z = free c in
     omega (arith, f, e, z))
 
-pub place_below : (arrivals levels : Lines) (in_use : List Levels) (rs : Records) (c k : ℕ) → AreQueues arrivals levels in_use rs → c < length arrivals.lines → k < 256
+pub place_below : (arrivals levels : Lines) (in_use : List Levels) (rs : Records) (c k : ℕ) → AreQueues arrivals levels in_use rs → c < length arrivals.lines → k < level_count
     → place_of c k < length levels.lines
 place_below arrivals levels in_use rs c k are lt ltk = omega (arith, lt, ltk, are.channels)
 
 -- two places are one only where channel and level are
-place_differs : (c d k l : ℕ) → k < 256 → l < 256 → d ≢ c → place_of d l ≢ place_of c k
+place_differs : (c d k l : ℕ) → k < level_count → l < level_count → d ≢ c → place_of d l ≢ place_of c k
 place_differs c d k l ltk ltl ne e = omega (arith, ltk, ltl, ne, e)
 
 -- ---- another record under one key
@@ -106,8 +107,8 @@ pub record AreQueued (arrivals levels : Lines) (in_use : List Levels) (rs : Reco
 -- one channel's senders change, and at one level alone
 pub record IsTurned (arrivals : Lines) (rs rs' : Records) (old new : Levels) (c level : ℕ) (line queue : List ℕ) (messages : List Message) : Type 0 where
   pub channel : c < length arrivals.lines
-  pub below : level < 256
-  pub small : (y : ℕ) → priority_at rs' y ≤ 255
+  pub below : level < level_count
+  pub small : (y : ℕ) → priority_at rs' y ≤ greatest_priority
   pub elsewhere : (d k : ℕ) → d ≢ c → filter (is_level rs' k) (line_at arrivals.lines d) ≡ filter (is_level rs k) (line_at arrivals.lines d)
   pub at_level : filter (is_level rs' level) line ≡ queue
   pub beside : (k : ℕ) → k ≢ level → filter (is_level rs' k) line ≡ filter (is_level rs k) (line_at arrivals.lines c)
@@ -121,7 +122,7 @@ pub queues_turned : (arrivals levels : Lines) (in_use : List Levels) (rs rs' : R
     → AreQueued (with_line arrivals c line) (with_line levels (place_of c level) queue) (slice_set in_use c new) rs' (slice_set (messages_of rs arrivals.lines) c messages)
 queues_turned arrivals levels in_use rs rs' old new c level line queue messages are read t = record {
   are = record {
-    channels = length-set levels.lines (place_of c level) queue ∙ are.channels ∙ sym (ap (λ n. 256 * n) size);
+    channels = length-set levels.lines (place_of c level) queue ∙ are.channels ∙ sym (ap (λ n. level_count * n) size);
     keys = are.keys;
     sets = length-set in_use c new ∙ are.sets ∙ sym size;
     small = t.small;
@@ -149,7 +150,7 @@ queues_turned arrivals levels in_use rs rs' old new c level line queue messages 
     set_here : (l : Levels) → get_or (slice_set in_use c new) c l ≡ new
     set_here l = get_or-set_same in_use c new l (subst (λ n. c < n) (sym are.sets) t.channel)
 
-    queued_here : (k : ℕ) → k < 256
+    queued_here : (k : ℕ) → k < level_count
         → line_at (slice_set levels.lines (place_of c level) queue) (place_of c k) ≡ filter (is_level rs' k) (line_at (slice_set arrivals.lines c line) c)
     queued_here k ltk = elim (cases_eq k level) [
       | inl e ↦
@@ -160,7 +161,7 @@ queues_turned arrivals levels in_use rs rs' old new c level line queue messages 
           ∙ sym (ap (filter (is_level rs' k)) line_here ∙ t.beside k ne)
     ]
 
-    queued : (d k : ℕ) → d < length arrivals.lines → k < 256
+    queued : (d k : ℕ) → d < length arrivals.lines → k < level_count
         → line_at (slice_set levels.lines (place_of c level) queue) (place_of d k) ≡ filter (is_level rs' k) (line_at (slice_set arrivals.lines c line) d)
     queued d k ltd ltk = elim (cases_eq d c) [
       | inl e ↦
@@ -171,7 +172,7 @@ queues_turned arrivals levels in_use rs rs' old new c level line queue messages 
           ∙ sym (ap (filter (is_level rs' k)) (line_there d ne) ∙ t.elsewhere d k ne)
     ]
 
-    used_here : (k : ℕ) (l : Levels) → k < 256
+    used_here : (k : ℕ) (l : Levels) → k < level_count
         → has_level (get_or (slice_set in_use c new) c l) k ≡ is_some (first_of (line_at (slice_set levels.lines (place_of c level) queue) (place_of c k)))
     used_here k l ltk = ap (λ s. has_level s k) (set_here l) ∙ elim (cases_eq k level) [
       | inl e ↦
@@ -182,7 +183,7 @@ queues_turned arrivals levels in_use rs rs' old new c level line queue messages 
           ∙ sym (ap (λ q. is_some (first_of q)) (queue_there (place_of c k) (λ e. ne (omega (arith, e)))))
     ]
 
-    used : (d k : ℕ) (l : Levels) → d < length arrivals.lines → k < 256
+    used : (d k : ℕ) (l : Levels) → d < length arrivals.lines → k < level_count
         → has_level (get_or (slice_set in_use c new) d l) k ≡ is_some (first_of (line_at (slice_set levels.lines (place_of c level) queue) (place_of d k)))
     used d k l ltd ltk = elim (cases_eq d c) [
       | inl e ↦
@@ -232,7 +233,7 @@ or_false true b e = absurd cc
 or_false false b e = refl
 
 pub queued_more : (arrivals levels : Lines) (in_use : List Levels) (rs rs' : Records) (old new : Levels) (c x : ℕ) (r : MessageRecord) → AreQueues arrivals levels in_use rs
-    → c < length arrivals.lines → r.priority ≤ 255 → IsInNone arrivals x → Updates rs rs' x (Some r) → old ≡ get_or in_use c old → IsMore old new (level_of r.priority)
+    → c < length arrivals.lines → r.priority ≤ greatest_priority → IsInNone arrivals x → Updates rs rs' x (Some r) → old ≡ get_or in_use c old → IsMore old new (level_of r.priority)
     → AreQueued (with_line arrivals c (line_at arrivals.lines c ++ x ∷ []))
     (with_line levels (place_of c (level_of r.priority)) (line_at levels.lines (place_of c (level_of r.priority)) ++ x ∷ [])) (slice_set in_use c new) rs'
     (slice_set (messages_of rs arrivals.lines) c (get_or (messages_of rs arrivals.lines) c [] ++ (record { sender = r.sender; priority = r.priority }) ∷ []))
@@ -266,10 +267,10 @@ queued_more arrivals levels in_use rs rs' old new c x r are lt fits free up read
     mine : priority_at rs' x ≡ r.priority
     mine = ap (λ o. (message_in o).priority) up.changed
 
-    small : (y : ℕ) → priority_at rs' y ≤ 255
+    small : (y : ℕ) → priority_at rs' y ≤ greatest_priority
     small y = elim (cases_eq y x) [
-      | inl e ↦ subst (λ n. n ≤ 255) (sym (ap (priority_at rs') e ∙ mine)) fits
-      | inr ne ↦ subst (λ n. n ≤ 255) (sym (priority_other rs rs' x y up.others ne)) (are.small y)
+      | inl e ↦ subst (λ n. n ≤ greatest_priority) (sym (ap (priority_at rs') e ∙ mine)) fits
+      | inr ne ↦ subst (λ n. n ≤ greatest_priority) (sym (priority_other rs rs' x y up.others ne)) (are.small y)
     ]
 
     -- the keys of a level of this channel, and the new one
@@ -346,7 +347,7 @@ pub record IsAlone (arrivals : Lines) (rs : Records) (c x : ℕ) : Type 0 where
   pub one : (y : ℕ) → 1 ≤ times y (line_at arrivals.lines c) → sender_at rs y ≡ sender_at rs x → y ≡ x
 
 pub queued_less : (arrivals levels : Lines) (in_use : List Levels) (rs rs' : Records) (old new : Levels) (c x level : ℕ) → AreQueues arrivals levels in_use rs
-    → c < length arrivals.lines → level < 256 → is_level rs level x ≡ true → IsAlone arrivals rs c x → Updates rs rs' x None → old ≡ get_or in_use c old
+    → c < length arrivals.lines → level < level_count → is_level rs level x ≡ true → IsAlone arrivals rs c x → Updates rs rs' x None → old ≡ get_or in_use c old
     → IsLess old new level (without x (line_at levels.lines (place_of c level)))
     → AreQueued (with_line arrivals c (without x (line_at arrivals.lines c)))
     (with_line levels (place_of c level) (without x (line_at levels.lines (place_of c level)))) (slice_set in_use c new) rs'
@@ -380,8 +381,8 @@ queued_less arrivals levels in_use rs rs' old new c x level are lt ltl is alone 
     gone : times x (without x (line_at arrivals.lines c)) ≡ 0
     gone = let a = times-without x x (line_at arrivals.lines c) (omega (arith, alone.once)) in omega (arith, a, alone.once, one_same x)
 
-    small : (y : ℕ) → priority_at rs' y ≤ 255
+    small : (y : ℕ) → priority_at rs' y ≤ greatest_priority
     small y = elim (cases_eq y x) [
-      | inl e ↦ subst (λ n. n ≤ 255) (sym (ap (priority_at rs') e ∙ ap (λ o. (message_in o).priority) up.changed)) (omega arith)
-      | inr ne ↦ subst (λ n. n ≤ 255) (sym (priority_other rs rs' x y up.others ne)) (are.small y)
+      | inl e ↦ subst (λ n. n ≤ greatest_priority) (sym (ap (priority_at rs') e ∙ ap (λ o. (message_in o).priority) up.changed)) (omega arith)
+      | inr ne ↦ subst (λ n. n ≤ greatest_priority) (sym (priority_other rs rs' x y up.others ne)) (are.small y)
     ]

@@ -7,8 +7,9 @@ use Rattle.std.proofs.lemmas.Bool.{cases_lt}
 use Rattle.aps_laws.specs.Waits.{times, times_sent}
 use Rattle.aps_levels.specs.declared.levels.Levels.{Levels}
 use Rattle.aps_levels.specs.Bits.{IsLeast}
-use Rattle.aps_levels.specs.Levels.{has_level}
+use Rattle.aps_levels.specs.Levels.{has_level, level_count}
 use Rattle.aps_model.specs.Inherit.{top_of}
+use Rattle.aps_model.specs.Limits.{greatest_priority}
 use Rattle.aps_model.specs.Messages.{first_message, without_sender}
 use Rattle.aps_model.specs.SchedulerState.{Message}
 use Rattle.slab.specs.Slab.{Updates, get}
@@ -54,7 +55,7 @@ pub thread_below : (arrivals : Lines) (rs : Records) (threads : ℕ) (s : Waitin
 thread_below arrivals rs threads s x is lt = subst (λ (t : Waiting). x < t.threads) (sym is) lt
 
 pub seen_more : (arrivals levels arrivals' levels' : Lines) (in_use : List Levels) (rs rs' : Records) (old new : Levels) (c c' key threads : ℕ) (r : MessageRecord) (s : Waiting)
-    → AreKept arrivals levels in_use rs threads → messages_seen arrivals rs threads ≡ s → c' ≡ c → c < length s.messages → r.sender < s.threads → r.priority ≤ 255
+    → AreKept arrivals levels in_use rs threads → messages_seen arrivals rs threads ≡ s → c' ≡ c → c < length s.messages → r.sender < s.threads → r.priority ≤ greatest_priority
     → ((d : ℕ) → times_sent r.sender (messages_at s d) ≡ 0) → get rs key ≡ None → Updates rs rs' key (Some r) → rs'.capacity ≡ rs.capacity
     → old ≡ get_or in_use c' old → IsMore old new (level_of r.priority)
     → arrivals' ≡ with_line arrivals c' (line_at arrivals.lines c' ++ key ∷ [])
@@ -95,19 +96,19 @@ first_in (y ∷ ys) x e = subst (λ k. 1 ≤ times k (y ∷ ys)) (some_same y x 
     some_same a b e = cc
 
 pub first_stands : (arrivals levels : Lines) (in_use : List Levels) (rs : Records) (threads : ℕ) (s : Waiting) (c c' level x : ℕ) → AreQueues arrivals levels in_use rs → messages_seen arrivals rs threads ≡ s → c' ≡ c
-    → c < length s.messages → level < 256 → Some x ≡ first_of (line_at levels.lines (place_of c' level)) → 1 ≤ times x (line_at arrivals.lines c')
+    → c < length s.messages → level < level_count → Some x ≡ first_of (line_at levels.lines (place_of c' level)) → 1 ≤ times x (line_at arrivals.lines c')
 first_stands arrivals levels in_use rs threads s c c' level x are is ec lt ltl first =
     let lt' : c' < length arrivals.lines = subst (λ k. k < length arrivals.lines) (sym ec) (channel_below arrivals rs threads s c is lt) in
     let here = first_in (filter (is_level rs level) (line_at arrivals.lines c')) x (ap first_of (sym (are.queued c' level lt' ltl)) ∙ sym first) in
     omega (arith, here, times_filter (is_level rs level) x (line_at arrivals.lines c'))
 
 empty_below : (arrivals levels : Lines) (in_use : List Levels) (rs : Records) (old : Levels) (c k : ℕ) → AreQueues arrivals levels in_use rs → c < length arrivals.lines → old ≡ get_or in_use c old
-    → k < 256 → has_level old k ≡ false → is_some (first_of (filter (is_level rs k) (line_at arrivals.lines c))) ≡ false
+    → k < level_count → has_level old k ≡ false → is_some (first_of (filter (is_level rs k) (line_at arrivals.lines c))) ≡ false
 empty_below arrivals levels in_use rs old c k are lt read ltk none =
     ap (λ q. is_some (first_of q)) (sym (are.queued c k lt ltk)) ∙ sym (are.used c k old lt ltk) ∙ ap (λ l. has_level l k) (sym read) ∙ none
 
 next_message : (arrivals levels : Lines) (in_use : List Levels) (rs : Records) (threads : ℕ) (s : Waiting) (old : Levels) (c c' level x : ℕ) → AreQueues arrivals levels in_use rs → messages_seen arrivals rs threads ≡ s → c' ≡ c
-    → c < length s.messages → old ≡ get_or in_use c' old → IsLeast 256 (has_level old) level → first_of (line_at levels.lines (place_of c' level)) ≡ Some x
+    → c < length s.messages → old ≡ get_or in_use c' old → IsLeast level_count (has_level old) level → first_of (line_at levels.lines (place_of c' level)) ≡ Some x
     → first_message (messages_at s c) ≡ Some (message_of rs x)
 next_message arrivals levels in_use rs threads s old c c' level x are is ec lt read least first =
     let lt' : c' < length arrivals.lines = subst (λ k. k < length arrivals.lines) (sym ec) (channel_below arrivals rs threads s c is lt) in
@@ -138,7 +139,7 @@ no_top arrivals levels in_use rs threads s old c c' are is ec lt read none =
     sym (top_is_first (messages_at s c) ∙ ap (option_map (λ (m : Message). m.priority)) (no_message arrivals levels in_use rs threads s old c c' are is ec lt read none))
 
 pub next_sender : (arrivals levels : Lines) (in_use : List Levels) (rs : Records) (threads : ℕ) (s : Waiting) (old : Levels) (c c' level x : ℕ) → AreQueues arrivals levels in_use rs → messages_seen arrivals rs threads ≡ s → c' ≡ c
-    → c < length s.messages → old ≡ get_or in_use c' old → IsLeast 256 (has_level old) level → Some x ≡ first_of (line_at levels.lines (place_of c' level))
+    → c < length s.messages → old ≡ get_or in_use c' old → IsLeast level_count (has_level old) level → Some x ≡ first_of (line_at levels.lines (place_of c' level))
     → first_sender (messages_at s c) ≡ Some (sender_at rs x)
 next_sender arrivals levels in_use rs threads s old c c' level x are is ec lt read least first =
     ap (option_map (λ (m : Message). m.sender)) (next_message arrivals levels in_use rs threads s old c c' level x are is ec lt read least (sym first))
@@ -149,14 +150,14 @@ some_first [] e = absurd cc
 some_first (x ∷ xs) e = (x, refl)
 
 pub top_is : (arrivals levels : Lines) (in_use : List Levels) (rs : Records) (threads : ℕ) (s : Waiting) (old : Levels) (c c' level : ℕ) → AreQueues arrivals levels in_use rs → messages_seen arrivals rs threads ≡ s → c' ≡ c
-    → c < length s.messages → old ≡ get_or in_use c' old → IsLeast 256 (has_level old) level → Some (255 - level) ≡ top_of (messages_at s c)
+    → c < length s.messages → old ≡ get_or in_use c' old → IsLeast level_count (has_level old) level → Some (greatest_priority - level) ≡ top_of (messages_at s c)
 top_is arrivals levels in_use rs threads s old c c' level are is ec lt read least =
     let lt' : c' < length arrivals.lines = subst (λ k. k < length arrivals.lines) (sym ec) (channel_below arrivals rs threads s c is lt) in
     let somebody = some_first (line_at levels.lines (place_of c' level)) (sym (are.used c' level old lt' least.below) ∙ ap (λ l. has_level l level) (sym read) ∙ least.here) in
     let x = somebody.0 in
     let at : is_level rs level x ≡ true = first_passes (is_level rs level) (line_at arrivals.lines c') x (ap first_of (sym (are.queued c' level lt' least.below)) ∙ somebody.1) in
     let e : level_of (priority_at rs x) ≡ level = from_test (level_of (priority_at rs x)) level at in
-    let is_priority : 255 - level ≡ priority_at rs x = let small = are.small x in omega (arith, e, small) in
+    let is_priority : greatest_priority - level ≡ priority_at rs x = let small = are.small x in omega (arith, e, small) in
     ap (λ n. Some n) is_priority
     ∙ sym (top_is_first (messages_at s c) ∙ ap (option_map (λ (m : Message). m.priority)) (next_message arrivals levels in_use rs threads s old c c' level x are is ec lt read least somebody.1))
 
@@ -168,7 +169,7 @@ and_true false b e = absurd cc
 
 -- who stands at a level stands once, in the line of its channel alone
 pub stands_alone : (arrivals levels : Lines) (in_use : List Levels) (rs : Records) (threads c level x : ℕ) → AreKept arrivals levels in_use rs threads → AreApart levels.lines
-    → c < length arrivals.lines → level < 256 → is_level rs level x ≡ true → 1 ≤ times x (line_at arrivals.lines c) → IsAlone arrivals rs c x
+    → c < length arrivals.lines → level < level_count → is_level rs level x ≡ true → 1 ≤ times x (line_at arrivals.lines c) → IsAlone arrivals rs c x
 stands_alone arrivals levels in_use rs threads c level x are apart lt ltl passes here = record {
   once = let o = apart.once (place_of c level) x in let e = at_level c lt in omega (arith, o, e, here);
   elsewhere = elsewhere;
@@ -187,7 +188,7 @@ stands_alone arrivals levels in_use rs threads c level x are apart lt ltl passes
     ]
 
 pub seen_less : (arrivals levels arrivals' levels' : Lines) (in_use : List Levels) (rs rs' : Records) (threads : ℕ) (s : Waiting) (old new : Levels) (c c' level x : ℕ) (left : Option ℕ) (is_left : Bool)
-    → AreKept arrivals levels in_use rs threads → messages_seen arrivals rs threads ≡ s → c' ≡ c → c < length s.messages → old ≡ get_or in_use c' old → IsLeast 256 (has_level old) level
+    → AreKept arrivals levels in_use rs threads → messages_seen arrivals rs threads ≡ s → c' ≡ c → c < length s.messages → old ≡ get_or in_use c' old → IsLeast level_count (has_level old) level
     → Some x ≡ first_of (line_at levels.lines (place_of c' level)) → AreApart levels.lines
     → arrivals' ≡ with_line arrivals c' (without x (line_at arrivals.lines c'))
     → levels' ≡ with_line levels (place_of c' level) (without x (line_at levels.lines (place_of c' level)))
@@ -219,12 +220,12 @@ seen_less arrivals levels arrivals' levels' in_use rs rs' threads s old new c c'
 -- ---- at the opening
 
 pub seen_at_opening : (arrivals levels : Lines) (in_use : List Levels) (rs : Records) (set : Levels) (channels threads keys : ℕ)
-    → arrivals ≡ record { lines = replicate channels []; numbers = keys } → levels ≡ record { lines = replicate (256 * channels) []; numbers = keys }
+    → arrivals ≡ record { lines = replicate channels []; numbers = keys } → levels ≡ record { lines = replicate (level_count * channels) []; numbers = keys }
     → in_use ≡ replicate channels set → rs.slots ≡ [] → threads ≤ rs.capacity → keys ≡ rs.capacity → keys < 65536 → ((k : ℕ) → has_level set k ≡ false)
     → AreSeenQueues arrivals levels in_use rs threads (record { messages = replicate channels []; threads = threads })
 seen_at_opening arrivals levels in_use rs set channels threads keys ea el eu empty room named few none =
     let A : Lines = record { lines = replicate channels []; numbers = keys } in
-    let L : Lines = record { lines = replicate (256 * channels) []; numbers = keys } in
+    let L : Lines = record { lines = replicate (level_count * channels) []; numbers = keys } in
     let S : Waiting = record { messages = replicate channels []; threads = threads } in
     let records = records_at_opening arrivals rs channels threads keys ea empty room named few in
     subst (λ a. AreRecords a rs threads → AreSeenQueues a levels in_use rs threads S) (sym ea)
@@ -232,14 +233,14 @@ seen_at_opening arrivals levels in_use rs set channels threads keys ea el eu emp
     (record {
       are = record {
         queues = record {
-          channels = length-replicate (256 * channels) [] ∙ sym (ap (λ n. 256 * n) (length-replicate channels []));
+          channels = length-replicate (level_count * channels) [] ∙ sym (ap (λ n. level_count * n) (length-replicate channels []));
           keys = refl;
           sets = length-replicate channels set ∙ sym (length-replicate channels []);
           small = λ k. let z = ap (λ os. (message_in (get_or os k None)).priority) empty in omega (arith, z);
-          queued = λ c k lt ltk. line_none (256 * channels) (place_of c k) ∙ sym (ap (filter (is_level rs k)) (line_none channels c));
+          queued = λ c k lt ltk. line_none (level_count * channels) (place_of c k) ∙ sym (ap (filter (is_level rs k)) (line_none channels c));
           used = λ c k d lt ltk.
               ap (λ l. has_level l k) (get_or-replicate channels c set d (subst (λ n. c < n) (length-replicate channels []) lt)) ∙ none k
-              ∙ sym (ap (λ q. is_some (first_of q)) (line_none (256 * channels) (place_of c k)));
+              ∙ sym (ap (λ q. is_some (first_of q)) (line_none (level_count * channels) (place_of c k)));
         };
         records = records;
       };

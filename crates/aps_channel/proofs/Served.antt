@@ -7,6 +7,7 @@ use Rattle.aps_laws.specs.Waits.{one_if, times}
 use Rattle.aps_laws.proofs.WaitFacts.{test_eq, test_ne}
 use Rattle.aps_laws.proofs.WaitMoves.{times-append}
 use Rattle.aps_model.specs.Inherit.{client_of, without_server}
+use Rattle.aps_model.specs.Limits.{last_thread}
 use Rattle.aps_model.specs.SchedulerState.{Triple}
 use Rattle.aps_channel.specs.declared.serving.Held.{Held}
 use Rattle.aps_channel.specs.Lines.{IsInNone, Lines, line_at, with_line, without}
@@ -136,7 +137,7 @@ serves_none servers held s x x' are is e none q = elim (cases_lt q 1) [
         clash : {n : ℕ} → Some n ≡ None → ⊥
         clash {n} p = cc
 
-pub begun : (servers servers' : Lines) (held : List (Option Held)) (s : Serving) (x x' y y' c c' : ℕ) → IsServing servers held → served servers held ≡ s → x' ≡ x → y' ≡ y → c' ≡ c → y' ≤ 1023
+pub begun : (servers servers' : Lines) (held : List (Option Held)) (s : Serving) (x x' y y' c c' : ℕ) → IsServing servers held → served servers held ≡ s → x' ≡ x → y' ≡ y → c' ≡ c → y' ≤ last_thread
     → x < s.threads → client_of s.triples x ≡ None → servers' ≡ with_line servers 0 (line_at servers.lines 0 ++ x' ∷ [])
     → AreServed servers' (slice_set held x' (Some (record { client = y'; channel = c' }))) (record s { triples = (record { server = x; client = y; channel = c }) ∷ s.triples })
 begun servers servers' held s x x' y y' c c' are is ex ey ec few lt none moved =
@@ -183,12 +184,12 @@ begun servers servers' held s x x' y y' c c' are is ex ey ec few lt none moved =
           ∙ sym (ap (λ o. one_if (is_some o)) (get_or-set_other held x' z (Some (record { client = y'; channel = c' })) None ne))
     ]
 
-    small : (z : ℕ) → x' < length held → client_in (held_at (slice_set held x' (Some (record { client = y'; channel = c' }))) z) ≤ 1023
+    small : (z : ℕ) → x' < length held → client_in (held_at (slice_set held x' (Some (record { client = y'; channel = c' }))) z) ≤ last_thread
     small z ltx = elim (cases_eq z x') [
       | inl e ↦
-          subst (λ k. client_in (held_at (slice_set held x' (Some (record { client = y'; channel = c' }))) k) ≤ 1023) (sym e)
-          (subst (λ o. client_in o ≤ 1023) (sym (get_or-set_same held x' (Some (record { client = y'; channel = c' })) None ltx)) few)
-      | inr ne ↦ subst (λ o. client_in o ≤ 1023) (sym (get_or-set_other held x' z (Some (record { client = y'; channel = c' })) None ne)) (are.small z)
+          subst (λ k. client_in (held_at (slice_set held x' (Some (record { client = y'; channel = c' }))) k) ≤ last_thread) (sym e)
+          (subst (λ o. client_in o ≤ last_thread) (sym (get_or-set_same held x' (Some (record { client = y'; channel = c' })) None ltx)) few)
+      | inr ne ↦ subst (λ o. client_in o ≤ last_thread) (sym (get_or-set_other held x' z (Some (record { client = y'; channel = c' })) None ne)) (are.small z)
     ]
 
 -- a server stands in the line, once
@@ -245,12 +246,12 @@ ended servers servers' held s x x' are is ex lt some moved =
           ∙ sym (ap (λ o. one_if (is_some o)) (get_or-set_other held x' z None None ne))
     ]
 
-    small : (z : ℕ) → x' < length held → client_in (held_at (slice_set held x' None) z) ≤ 1023
+    small : (z : ℕ) → x' < length held → client_in (held_at (slice_set held x' None) z) ≤ last_thread
     small z ltx = elim (cases_eq z x') [
       | inl e ↦
-          subst (λ k. client_in (held_at (slice_set held x' None) k) ≤ 1023) (sym e)
-          (subst (λ o. client_in o ≤ 1023) (sym (get_or-set_same held x' None None ltx)) (omega arith))
-      | inr ne ↦ subst (λ o. client_in o ≤ 1023) (sym (get_or-set_other held x' z None None ne)) (are.small z)
+          subst (λ k. client_in (held_at (slice_set held x' None) k) ≤ last_thread) (sym e)
+          (subst (λ o. client_in o ≤ last_thread) (sym (get_or-set_same held x' None None ltx)) (omega arith))
+      | inr ne ↦ subst (λ o. client_in o ≤ last_thread) (sym (get_or-set_other held x' z None None ne)) (are.small z)
     ]
 
 -- ---- at the opening
@@ -273,7 +274,7 @@ served_at_opening servers held threads es eh =
         one = refl;
         size = length-replicate threads nobody;
         each = λ x. sym (ap (λ o. one_if (is_some o)) (held_none threads x));
-        small = λ x. subst (λ o. client_in o ≤ 1023) (sym (held_none threads x)) (omega arith);
+        small = λ x. subst (λ o. client_in o ≤ last_thread) (sym (held_none threads x)) (omega arith);
       };
       same = refl;
     }))

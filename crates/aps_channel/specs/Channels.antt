@@ -46,7 +46,8 @@ pub record After (A : Type 0) : Type 0 where
 -- a message of x with this priority comes to a channel with these receivers
 abbrev pub sent : Channels → ℕ → ℕ → ℕ → List ℕ → After Sent
 sent s c x priority [] = record {
-  state = with_channel s c (record (channel_at s c) { messages = (channel_at s c).messages ++ (record { sender = x; priority = priority }) ∷ [] });
+  state = with_channel s c
+      (record (channel_at s c) { messages = (channel_at s c).messages ++ (record { sender = x; priority = priority }) ∷ [] });
   answer = Blocked;
 }
 sent s c x priority (r ∷ rest) = record {
@@ -61,7 +62,8 @@ received_from s c x None = record {
   answer = took.Blocked;
 }
 received_from s c x (Some client) = record {
-  state = with_triple (with_channel s c (record (channel_at s c) { messages = without_sender client (channel_at s c).messages })) x client c;
+  state = with_triple
+      (with_channel s c (record (channel_at s c) { messages = without_sender client (channel_at s c).messages })) x client c;
   answer = took.Got client;
 }
 

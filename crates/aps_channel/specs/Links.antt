@@ -88,4 +88,5 @@ pub record IsLine (links : List Link) (e : Ends) (xs : List ℕ) : Type 0 where
 -- no number stands in two lines
 pub record AreLines (links : List Link) (ends : List Ends) : Type 0 where
   pub each : (q : ℕ) → q < length ends → IsLine links (ends_at ends q) (line_at (lines_of links ends) q)
-  pub apart : (q r x : ℕ) → q < length ends → r < length ends → q ≢ r → 1 ≤ times x (line_at (lines_of links ends) q) → times x (line_at (lines_of links ends) r) ≡ 0
+  pub apart : (q r x : ℕ) → q < length ends → r < length ends → q ≢ r → 1 ≤ times x (line_at (lines_of links ends) q)
+      → times x (line_at (lines_of links ends) r) ≡ 0

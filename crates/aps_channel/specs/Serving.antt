@@ -1,5 +1,6 @@
 -- Who serves whom, as contracts see it and as it is kept.
 use Rattle.std.specs.Prelude.{◌≡◌, ℕ, ◌≤◌, List, [], length, map, reverse, is_some, slice_index_or, Option, Some, None}
+use Rattle.aps_model.specs.Limits.{last_thread}
 use Rattle.aps_laws.specs.Waits.{one_if, times}
 use Rattle.aps_model.specs.SchedulerState.{Triple}
 use Rattle.aps_channel.specs.Lines.{Lines, line_at}
@@ -33,4 +34,4 @@ pub record IsServing (servers : Lines) (held : List (Option Held)) : Type 0 wher
   pub one : length servers.lines ≡ 1
   pub size : length held ≡ servers.numbers
   pub each : (x : ℕ) → times x (line_at servers.lines 0) ≡ one_if (is_some (held_at held x))
-  pub small : (x : ℕ) → client_in (held_at held x) ≤ 1023
+  pub small : (x : ℕ) → client_in (held_at held x) ≤ last_thread

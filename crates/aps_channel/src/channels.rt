@@ -53,7 +53,8 @@ impl Channels {
     /// most 1,024. `NoMemory` comes where there is no such room, or where the slab of the messages' records takes more than
     /// 65,535 places.
     pub fn new(alloc: Global, channels: u16, threads: u16) -> Result<Channels, NoMemory>
-        ensures { IfOk result (λ s. s ≡ record { channels = replicate channels no_channel; triples = []; threads = min threads most_threads }) }
+        ensures { IfOk result
+            (λ s. s ≡ record { channels = replicate channels no_channel; triples = []; threads = min threads most_threads }) }
     {
         let waiting = Waiting::new(alloc, channels, threads)?;
         let receivers = Lines::new(alloc, channels as usize, threads.min(MOST_THREADS))?;

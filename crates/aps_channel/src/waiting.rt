@@ -1,7 +1,7 @@
 //! The messages that wait at channels.
 ghost use Rattle.std.specs.Prelude.{◌≡◌, ◌≢◌, ℕ, ◌<◌, ◌++◌, ◌&&◌, [], ◌∷◌, length, min, replicate, IfOk};
 ghost use Rattle.aps_laws.specs.Waits.{times_sent};
-ghost use Rattle.aps_levels.specs.Levels.{has_level};
+ghost use Rattle.aps_levels.specs.Levels.{has_level, level_count};
 ghost use Rattle.aps_model.specs.Inherit.{top_of};
 ghost use Rattle.aps_model.specs.Limits.{most_threads};
 ghost use Rattle.aps_channel.specs.Waiting.{first_sender, messages_at, with_messages, without_of};
@@ -143,7 +143,7 @@ fn key_count(keys: usize) -> Result<u16, NoMemory>
 
 /// The set of levels, in which this one is kept or not.
 fn kept_if(set: Levels, level: usize, is_kept: bool) -> Levels
-    requires { level < 256 }
+    requires { level < level_count }
     ensures at_level { has_level result level ≡ (has_level set level && is_kept) }
     ensures beside { (k : ℕ) → k ≢ level → has_level result k ≡ has_level set k }
 {

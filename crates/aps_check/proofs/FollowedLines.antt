@@ -11,6 +11,7 @@ use Rattle.aps_model.specs.declared.entry.Entry.{Entry}
 use Rattle.aps_model.specs.History.{IsEntry}
 use Rattle.aps_model.specs.Journal.{done_text, entry_line, journal_text, option_text, IsJournal, IsLine}
 use Rattle.aps_model.specs.Legal.{IsLegal}
+use Rattle.aps_model.specs.Limits.{last_cpu}
 use Rattle.aps_model.specs.Valid.{IsScenario}
 use Rattle.aps_core.specs.Run.{Run, Setup}
 use Rattle.aps_core.specs.Turn.{IsTaken, with_entry}
@@ -82,8 +83,8 @@ line_names e rest line =
     let behind = fields_behind e ++ 10 ∷ rest in
     let parts : entry_line e ++ rest ≡ (decimal e.cpu ++ 32 ∷ []) ++ behind =
     append_assoc (line_body e) (10 ∷ []) rest ∙ append_assoc (decimal e.cpu) (32 ∷ fields_behind e) (10 ∷ rest) ∙ sym (append_assoc (decimal e.cpu) (32 ∷ []) behind) in
-    let read : number_at 15 32 ((decimal e.cpu ++ 32 ∷ []) ++ behind) ≡ Ok (e.cpu, behind) =
-    (IsReader-number 15 32 (omega arith) refl).again (decimal e.cpu ++ 32 ∷ []) e.cpu behind (refl, line.cpu) in
+    let read : number_at last_cpu 32 ((decimal e.cpu ++ 32 ∷ []) ++ behind) ≡ Ok (e.cpu, behind) =
+    (IsReader-number last_cpu 32 (omega arith) refl).again (decimal e.cpu ++ 32 ∷ []) e.cpu behind (refl, line.cpu) in
     ap cpu_of_line parts ∙ ap read_value read
 
 none_apart : (n : ℕ) → (λ (o : Option ℕ). o) None ≡ Some n → ⊥

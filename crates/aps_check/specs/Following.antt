@@ -3,6 +3,7 @@ use Rattle.std.specs.Prelude.{◌≡◌, ℕ, ◌<◌, ◌≤◌, ◌++◌, List
 use Rattle.std.specs.Borrow.{Bor}
 use Rattle.aps_model.specs.declared.entry.Entry.{Entry}
 use Rattle.aps_model.specs.Journal.{entry_line, journal_text, IsJournal, IsLine}
+use Rattle.aps_model.specs.Limits.{greatest_u32}
 use Rattle.aps_core.specs.Run.{Run, Setup}
 use Rattle.aps_core.specs.Turn.{IsTaken, with_entry}
 use Rattle.aps_text.specs.InTime.{IsInTime}
@@ -69,7 +70,7 @@ FollowsLine run later text (Err stop) = StopsAtLine run later text stop
 -- the entry at this place is another than this step of its processor
 pub record IsOtherAt (entries : List Entry) (place : ℕ) (made : Entry) : Type 0 where
   pub there : place < length entries
-  pub small : place ≤ 4294967295
+  pub small : place ≤ greatest_u32
   pub own : (slice_index_or entries place made).cpu ≡ made.cpu
   pub other : ¬ (slice_index_or entries place made ≡ made)
 

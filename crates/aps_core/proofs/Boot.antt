@@ -9,6 +9,7 @@ use Rattle.aps_model.specs.declared.shape.Shape.{Shape}
 use Rattle.aps_model.specs.declared.state.CpuNow.{CpuNow}
 use Rattle.aps_model.specs.After.{After}
 use Rattle.aps_model.specs.Inherit.{Inheritance, inheritance_of}
+use Rattle.aps_model.specs.Limits.{most_commands, most_threads}
 use Rattle.aps_model.specs.Opening.{first_state, opening, stamp_after, start_stamps, start_threads}
 use Rattle.aps_model.specs.Scenario.{Scenario}
 use Rattle.aps_model.specs.SchedulerState.{ChannelNow, SchedulerState, Triple, idle, no_channel}
@@ -16,6 +17,7 @@ use Rattle.aps_model.specs.Valid.{IsScenario}
 use Rattle.aps_model.proofs.AfterLaws.{after_none, legal_none}
 use Rattle.aps_laws.specs.Stamps.{IsStamped}
 use Rattle.aps_laws.proofs.ThreadLaws.{stamps_law}
+use Rattle.aps_core.specs.Room.{changes_of_a_run}
 use Rattle.aps_tasks.specs.Start.{start_table}
 use Rattle.aps_tasks.specs.Table.{Table}
 use Rattle.aps_core.specs.Machine.{IsMachine}
@@ -35,12 +37,12 @@ no_channels [] = refl
 no_channels (name ∷ names) = ap (λ cs. no_channel ∷ cs) (no_channels names)
 
 -- all of its threads can wait
-pub all_threads : (scenario : Scenario) (n : ℕ) → IsScenario scenario → n ≡ min (length scenario.threads) 1024 → n ≡ length (opening scenario).threads
+pub all_threads : (scenario : Scenario) (n : ℕ) → IsScenario scenario → n ≡ min (length scenario.threads) most_threads → n ≡ length (opening scenario).threads
 all_threads scenario n valid is = omega (arith, is, valid.few_threads, threads_length scenario.shape 0 0 scenario.threads)
 
 -- it is one of a machine
 pub machine_opening : (scenario : Scenario) (waiters : ℕ) (inherit : Inheritance) (parts replies changes : ℕ) → IsScenario scenario → waiters ≡ length (opening scenario).threads → inherit ≡ inheritance_of (opening scenario)
-    → parts ≡ scenario.shape.parts → 1024 ≤ replies → 2079 ≤ changes → IsMachine (opening scenario) waiters inherit parts replies changes
+    → parts ≡ scenario.shape.parts → most_commands ≤ replies → changes_of_a_run ≤ changes → IsMachine (opening scenario) waiters inherit parts replies changes
 machine_opening scenario waiters inherit parts replies changes valid all inherits same room more = record {
   shape = valid.shape;
   few_threads = omega (arith, threads_length scenario.shape 0 0 scenario.threads, valid.few_threads);

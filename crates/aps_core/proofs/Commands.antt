@@ -20,6 +20,7 @@ use Rattle.aps_model.specs.declared.shape.Shape.{Shape}
 use Rattle.aps_model.specs.declared.state.ThreadNow.{ThreadNow}
 use Rattle.aps_model.specs.Command.{Performed, perform, shape_set}
 use Rattle.aps_model.specs.Inherit.{Inheritance}
+use Rattle.aps_model.specs.Limits.{most_commands}
 use Rattle.aps_model.specs.Scenario.{Scenario}
 use Rattle.aps_model.specs.SchedulerState.{SchedulerState, no_thread, thread_at}
 use Rattle.aps_model.specs.Shape.{IsShape}
@@ -31,7 +32,7 @@ use Rattle.aps_ctl.proofs.InTurn.{next_first, next_left, none_next}
 use Rattle.aps_core.specs.Calls.{AreInRange, IsInRange, all_done, command_at}
 use Rattle.aps_core.specs.Counts.{Counts}
 use Rattle.aps_core.specs.Machine.{IsMachine}
-use Rattle.aps_core.specs.Room.{HasRoomToWake}
+use Rattle.aps_core.specs.Room.{HasRoomToWake, changes_of_a_run}
 use Rattle.aps_core.proofs.Counting.{counts_resized}
 use Rattle.aps_window.specs.Window.{Window, resized}
 
@@ -231,11 +232,11 @@ none_left h j s pending is = by (all_at j pending) refl
 
 -- the next command has room where all that are still to come have
 pub record HasRoomAt (h : List Entry) (j place : ℕ) (call : Call) (s : SchedulerState) : Type 0 where
-  pub replies : length s.replies < 1024
-  pub changes : length (do_command h j s (command_at j place call)).changes ≤ 2079
+  pub replies : length s.replies < most_commands
+  pub changes : length (do_command h j s (command_at j place call)).changes ≤ changes_of_a_run
 
 pub room_at : (h : List Entry) (j place : ℕ) (call : Call) (s whole : SchedulerState) (pending : List (ℕ × CommandRow)) → IsNext h j s pending place call
-    → all_done h j s pending ≡ whole → length whole.replies ≤ 1024 → length whole.changes ≤ 2079 → HasRoomAt h j place call s
+    → all_done h j s pending ≡ whole → length whole.replies ≤ most_commands → length whole.changes ≤ changes_of_a_run → HasRoomAt h j place call s
 room_at h j place call s whole pending next all replies changes =
     let did = do_command h j s (command_at j place call) in
     let left : all_done h j did (without_next j pending) ≡ whole = sym next.done ∙ all in

@@ -17,6 +17,7 @@ use Rattle.aps_model.specs.Bill.{bankrupt, exceeding}
 use Rattle.aps_model.specs.Budget.{all_parts, no_part, part_facts}
 use Rattle.aps_model.specs.Due.{next_boundary}
 use Rattle.aps_model.specs.History.{IsEntry}
+use Rattle.aps_model.specs.Limits.{longest_window, most_partitions, most_ticks, most_time_of_tick}
 use Rattle.aps_model.specs.Opening.{opening}
 use Rattle.aps_model.specs.Partition.{row_or_none}
 use Rattle.aps_model.specs.Scenario.{Scenario}
@@ -42,7 +43,7 @@ use Rattle.aps_core.specs.Part.{part_of}
 
 -- ---- at the start, later, and with another shape
 
-pub counts_none : (shape : Shape) → shape.window ≤ 400 → Counts shape [] 0 (opened shape.window)
+pub counts_none : (shape : Shape) → shape.window ≤ longest_window → Counts shape [] 0 (opened shape.window)
 counts_none shape short = record {
   tick = refl;
   span = refl;
@@ -80,7 +81,7 @@ counts_later shape h i j w c forward =
       each = c.each;
     }
 
-pub counts_resized : (shape other : Shape) (h : List Entry) (j : ℕ) (w : Window) → Counts shape h j w → other.tick ≡ shape.tick → other.window ≤ 400 → Counts other h j (resized other.window w)
+pub counts_resized : (shape other : Shape) (h : List Entry) (j : ℕ) (w : Window) → Counts shape h j w → other.tick ≡ shape.tick → other.window ≤ longest_window → Counts other h j (resized other.window w)
 counts_resized shape other h j w c same short = record {
   tick = c.tick;
   span = refl;
@@ -181,7 +182,7 @@ ends_soon : (t from to : ℕ) → to ≤ next_boundary t from → to / t ≤ fro
 ends_soon t from to whole = div-le_of_le-mul t (let l : to ≤ (from / t + 1) * t = whole in omega (arith, l))
 
 -- where nothing stands there is nothing
-none_on : (w : Window) (p tick : ℕ) → length w.slots ≡ 32 → 32 ≤ p → billed_on w p tick ≡ 0
+none_on : (w : Window) (p tick : ℕ) → length w.slots ≡ most_partitions → most_partitions ≤ p → billed_on w p tick ≡ 0
 none_on w p tick count past =
     ap (λ (slots : List Slot). (slot_at slots (w.tick - tick)).billed) (get_or_past w.slots p [] (omega (arith, count, past)))
     ∙ ap (λ (slot : Slot). slot.billed) (get_or_past [] (w.tick - tick) no_slot (omega arith))
@@ -199,8 +200,8 @@ own_time tick p k e is at whole =
     within : (k n time : ℕ) → k ≡ n → cond (nat_le k n && nat_lt n (k + 1)) time 0 ≡ time
     within k n time at = grind (arith, nat_tests)
 
-pub can_bill : (shape : Shape) (h : List Entry) (j : ℕ) (w : Window) (e : Entry) → Counts shape h j w → IsShape shape → IsEntry e → IsInOneTick shape.tick e → j ≡ e.to / shape.tick → j ≤ 1000000
-    → ((p k : ℕ) → used shape.tick (h ++ e ∷ []) p k (k + 1) ≤ 160000000) → CanBill shape.tick w e
+pub can_bill : (shape : Shape) (h : List Entry) (j : ℕ) (w : Window) (e : Entry) → Counts shape h j w → IsShape shape → IsEntry e → IsInOneTick shape.tick e → j ≡ e.to / shape.tick → j ≤ most_ticks
+    → ((p k : ℕ) → used shape.tick (h ++ e ∷ []) p k (k + 1) ≤ most_time_of_tick) → CanBill shape.tick w e
 can_bill shape h j w e c sized fits whole at early few =
     let t = shape.tick in
     let k = e.from / t in
@@ -214,7 +215,7 @@ can_bill shape h j w e c sized fits whole at early few =
       past = past;
       recent = recent;
       early = omega (arith, c.tick, early);
-      fits = λ p is. elim (cases_lt p 32) [
+      fits = λ p is. elim (cases_lt p most_partitions) [
         | inl inside ↦
             let before : billed_on w p k ≡ used t h p k (k + 1) =
             billed_on_is w (bills_of t h) p k c.stands inside past (omega (arith, recent)) ∙ used_same t h p k (k + 1) c.each in
@@ -229,14 +230,14 @@ can_bill shape h j w e c sized fits whole at early few =
 
 -- ---- what is read
 
-pub total_used : (shape : Shape) (h : List Entry) (j : ℕ) (w : Window) (p : ℕ) → Counts shape h j w → p < 32 → (total_of w p).billed ≡ window_used shape h j p
+pub total_used : (shape : Shape) (h : List Entry) (j : ℕ) (w : Window) (p : ℕ) → Counts shape h j w → p < most_partitions → (total_of w p).billed ≡ window_used shape h j p
 total_used shape h j w p c inside =
     let bills = bills_of shape.tick h in
     (total_stands w bills p c.whole inside (omega (arith, c.span, c.short)) c.stands).0
     ∙ (λ i. bills_used bills p (c.tick i + 1 - c.span i) (c.tick i + 1))
     ∙ used_same shape.tick h p (j + 1 - shape.window) (j + 1) c.each
 
-pub total_critical : (shape : Shape) (h : List Entry) (j : ℕ) (w : Window) (p : ℕ) → Counts shape h j w → p < 32 → (total_of w p).critical ≡ window_critical shape h j p
+pub total_critical : (shape : Shape) (h : List Entry) (j : ℕ) (w : Window) (p : ℕ) → Counts shape h j w → p < most_partitions → (total_of w p).critical ≡ window_critical shape h j p
 total_critical shape h j w p c inside =
     let bills = bills_of shape.tick h in
     (total_stands w bills p c.whole inside (omega (arith, c.span, c.short)) c.stands).1
@@ -284,7 +285,7 @@ same_below : {X : Type 0} (f g : ℕ → X) (n : ℕ) (d : X) → ((k : ℕ) →
 same_below f g n d each =
     fill_by_all g (map f (range_with_len 0 n)) n d (length-map-range_with_len f 0 n) (λ k lt. get_or-map-range_with_len f 0 n k k d lt (omega arith) ∙ each k lt)
 
-pub parts_are : (shape : Shape) (rows : List PartitionRow) (h : List Entry) (j : ℕ) (w : Window) → Counts shape h j w → length rows ≤ 32
+pub parts_are : (shape : Shape) (rows : List PartitionRow) (h : List Entry) (j : ℕ) (w : Window) → Counts shape h j w → length rows ≤ most_partitions
     → parts_in shape rows w ≡ all_parts shape rows h j
 parts_are shape rows h j w c short =
     same_below (part_in shape rows w) (part_facts shape rows h j) (length rows) no_part
@@ -293,8 +294,8 @@ parts_are shape rows h j w c short =
     let critical = total_critical shape h j w p c (omega (arith, inside, short)) in
     λ i. part_of shape (row_or_none rows p) (spent i) (critical i))
 
-pub used_are : (shape : Shape) (h : List Entry) (j : ℕ) (w : Window) → Counts shape h j w → used_in w ≡ map (window_used shape h j) (range_with_len 0 32)
-used_are shape h j w c = same_below (λ p. (total_of w p).billed) (window_used shape h j) 32 0 (λ p inside. total_used shape h j w p c inside)
+pub used_are : (shape : Shape) (h : List Entry) (j : ℕ) (w : Window) → Counts shape h j w → used_in w ≡ map (window_used shape h j) (range_with_len 0 most_partitions)
+used_are shape h j w c = same_below (λ p. (total_of w p).billed) (window_used shape h j) most_partitions 0 (λ p inside. total_used shape h j w p c inside)
 
-pub critical_are : (shape : Shape) (h : List Entry) (j : ℕ) (w : Window) → Counts shape h j w → critical_in w ≡ map (window_critical shape h j) (range_with_len 0 32)
-critical_are shape h j w c = same_below (λ p. (total_of w p).critical) (window_critical shape h j) 32 0 (λ p inside. total_critical shape h j w p c inside)
+pub critical_are : (shape : Shape) (h : List Entry) (j : ℕ) (w : Window) → Counts shape h j w → critical_in w ≡ map (window_critical shape h j) (range_with_len 0 most_partitions)
+critical_are shape h j w c = same_below (λ p. (total_of w p).critical) (window_critical shape h j) most_partitions 0 (λ p inside. total_critical shape h j w p c inside)

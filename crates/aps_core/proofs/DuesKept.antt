@@ -4,6 +4,7 @@ use Rattle.aps_model.specs.declared.entry.Entry.{Entry}
 use Rattle.aps_model.specs.After.{After}
 use Rattle.aps_model.specs.Due.{due}
 use Rattle.aps_model.specs.History.{History}
+use Rattle.aps_model.specs.Limits.{most_cpus}
 use Rattle.aps_model.specs.SchedulerState.{SchedulerState}
 use Rattle.aps_model.specs.Step.{Step, step}
 use Rattle.aps_laws.specs.Sound.{IsSound}
@@ -43,7 +44,7 @@ own_within run kept state c e left core goes_on turn steps =
 pub dues_more : (run : Run) (kept : History) (state : SchedulerState) (c : ℕ) (e : Entry) (left : After) (dues : List ℕ) (own : ℕ)
     → IsCore run kept state → end_of_run run ≡ None → HasTurnIn run c
     → step run.setup.scenario state run.entries c ≡ record { entry = e; state = left.state; reboot = left.reboot }
-    → length dues ≡ 16 → AreDues state run.entries dues → own ≡ due left.state (run.entries ++ e ∷ []) c → AreDues left.state (run.entries ++ e ∷ []) (dues_after dues e own)
+    → length dues ≡ most_cpus → AreDues state run.entries dues → own ≡ due left.state (run.entries ++ e ∷ []) c → AreDues left.state (run.entries ++ e ∷ []) (dues_after dues e own)
 dues_more run kept state c e left dues own core goes_on turn steps whole before own_is =
     let scenario = run.setup.scenario in
     let order = run.setup.order in

@@ -19,6 +19,7 @@ use Rattle.aps_model.specs.declared.state.Pick.{Pick}
 use Rattle.aps_model.specs.Budget.{part_at}
 use Rattle.aps_model.specs.Due.{due}
 use Rattle.aps_model.specs.Flag.{at_most, flag_for, looked_at, lower_ranked, merit_now, rank_of}
+use Rattle.aps_model.specs.Limits.{greatest_priority, last_cpu, most_cpus}
 use Rattle.aps_model.specs.Merit.{is_below, is_candidate, is_greater}
 use Rattle.aps_model.specs.Pick.{candidates, contenders, greatest, merit_among}
 use Rattle.aps_model.specs.SchedulerState.{SchedulerState, cpu_at}
@@ -30,7 +31,7 @@ use Rattle.aps_ready.specs.Ready.{members, without}
 use Rattle.aps_ready.specs.declared.ahead.Ahead.{Ahead}
 use Rattle.aps_ready.specs.Ahead.{IsAhead, IsAheadOf}
 use Rattle.aps_ready.specs.Gates.{is_first}
-use Rattle.aps_core.specs.Lowest.{IsNoLess, IsRank, IsTold, IsKey, IsLeast, IsLeastOf, height, limit, lowest, rank_now, ranked_at}
+use Rattle.aps_core.specs.Lowest.{IsNoLess, IsRank, IsTold, IsKey, IsLeast, IsLeastOf, height, limit, lowest, rank_now, ranked_at, height_past_all, key_past_all}
 use Rattle.aps_core.specs.Seats.{seats_of}
 use Rattle.aps_core.proofs.Seats.{missing_in}
 
@@ -85,7 +86,7 @@ height_higher (Running (suc zero) priority) (Running (suc zero) other) is_a is_b
 
 -- the key of a processor, if it is another one that isn't due yet
 pub key_of : (s : SchedulerState) (h : List Entry) (parts : List PartFacts) (c now d next own past : ℕ) → (d ≢ c → next ≡ due s h d) → (d ≡ c → next ≤ now)
-    → own ≡ height (rank_now s parts (cpu_at s d).running) * 16 + (15 - d) → (next ≤ now → past ≡ 16000) → (now < next → past ≡ 0) → IsKey (ranked_at s h parts c now d) d (own + past)
+    → own ≡ height (rank_now s parts (cpu_at s d).running) * most_cpus + (last_cpu - d) → (next ≤ now → past ≡ key_past_all) → (now < next → past ≡ 0) → IsKey (ranked_at s h parts c now d) d (own + past)
 key_of s h parts c now d next own past others at is high low = elim (cases_eq d c) [
   | inl same ↦ subst (λ t. IsKey (cond (not t && nat_lt now (due s h d)) (Some rank) None) d (own + past)) (sym (eq_true d c same)) (is_past (at same))
   | inr ne ↦ subst (λ t. IsKey (cond (not t && nat_lt now (due s h d)) (Some rank) None) d (own + past)) (sym (eq_false d c ne))
@@ -104,10 +105,10 @@ key_of s h parts c now d next own past others at is high low = elim (cases_eq d 
     eq_false : (a b : ℕ) → a ≢ b → nat_eq a b ≡ false
     eq_false a b other = grind (arith, nat_tests)
 
-    is_past : next ≤ now → 16000 ≤ own + past
+    is_past : next ≤ now → key_past_all ≤ own + past
     is_past most = let there = high most in omega (arith, there)
 
-    is_later : now < next → own + past ≡ height rank * 16 + (15 - d)
+    is_later : now < next → own + past ≡ height rank * most_cpus + (last_cpu - d)
     is_later less = let there = low less in omega (arith, there, is)
 
 pub rank_of_look : (s : SchedulerState) (h : List Entry) (parts : List PartFacts) (c now d : ℕ) → IsRank (Some (rank_now s parts (cpu_at s d).running)) → IsRank (ranked_at s h parts c now d)
@@ -118,7 +119,7 @@ rank_of_look s h parts c now d is = by_test (not (nat_eq d c) && nat_lt now (due
     by_test false = tt
 
 -- with one processor more
-pub least_more : (d : ℕ) (o : Option Rank) (best : Option (ℕ × Rank)) (least key next : ℕ) → d < 16 → IsLeast best d least → IsRank o → IsKey o d key → next ≡ min least key
+pub least_more : (d : ℕ) (o : Option Rank) (best : Option (ℕ × Rank)) (least key next : ℕ) → d < most_cpus → IsLeast best d least → IsRank o → IsKey o d key → next ≡ min least key
     → IsLeast (lower_ranked d o best) (d + 1) next
 least_more d None None least key next inside told rank is more = omega (arith, told, is, more)
 least_more d None (Some b) least key next inside told rank is more =
@@ -137,7 +138,7 @@ least_more d (Some r) (Some b) least key next inside told rank is more =
       | inr most ↦ subst (λ t. IsLeast (cond t (Some (d, r)) (Some b)) (d + 1) next) (sym (height_lower r b.1 rank told.2 most)) (omega arith, omega (arith, inside, below, there, is, more, most), rank)
     ]
 
-pub least_small : (best : Option (ℕ × Rank)) (count least : ℕ) → IsLeast best count least → least ≤ 16000
+pub least_small : (best : Option (ℕ × Rank)) (count least : ℕ) → IsLeast best count least → least ≤ key_past_all
 least_small None count least told = omega (arith, told)
 least_small (Some b) count least told =
     let small = height_small b.1 told.2 in
@@ -145,8 +146,8 @@ least_small (Some b) count least told =
     omega (arith, small, there)
 
 -- the same, where there may be no such processor
-pub least_of_more : (s : SchedulerState) (h : List Entry) (parts : List PartFacts) (c now d least key next : ℕ) → d < 16 → IsLeastOf s h parts c now d least
-    → (d < length s.cpus → IsRank (ranked_at s h parts c now d)) → (d < length s.cpus → IsKey (ranked_at s h parts c now d) d key) → (length s.cpus ≤ d → 16000 ≤ key)
+pub least_of_more : (s : SchedulerState) (h : List Entry) (parts : List PartFacts) (c now d least key next : ℕ) → d < most_cpus → IsLeastOf s h parts c now d least
+    → (d < length s.cpus → IsRank (ranked_at s h parts c now d)) → (d < length s.cpus → IsKey (ranked_at s h parts c now d) d key) → (length s.cpus ≤ d → key_past_all ≤ key)
     → next ≡ min least key → IsLeastOf s h parts c now (d + 1) next
 least_of_more s h parts c now d least key next below told rank is past more = elim (cases_lt d (length s.cpus)) [
   | inl inside ↦
@@ -166,14 +167,14 @@ least_of_more s h parts c now d least key next below told rank is past more = el
 ]
 
 -- the processor and its height are read from its key
-pub least_told : (best : Option (ℕ × Rank)) (count least : ℕ) → count ≤ 16 → IsLeast best count least → IsTold best (15 - least % 16) (least / 16)
+pub least_told : (best : Option (ℕ × Rank)) (count least : ℕ) → count ≤ most_cpus → IsLeast best count least → IsTold best (last_cpu - least % most_cpus) (least / most_cpus)
 least_told None count least few told = omega (arith, told)
 least_told (Some b) count least few told =
     let below = told.0 in
     let there = told.1 in
     (omega (arith, few, below, there), omega (arith, few, below, there), told.2)
 
-pub least_within : (best : Option (ℕ × Rank)) (count least : ℕ) → count ≤ 16 → IsLeast best count least → least / 16 < 1000 → 15 - least % 16 < count
+pub least_within : (best : Option (ℕ × Rank)) (count least : ℕ) → count ≤ most_cpus → IsLeast best count least → least / most_cpus < height_past_all → last_cpu - least % most_cpus < count
 least_within None count least few told low = absurd (omega (arith, told, low))
 least_within (Some b) count least few told low =
     let below = told.0 in
@@ -284,17 +285,17 @@ all_looked s h parts left c now (d ∷ ds) best =
 
 -- the priority of a candidate has its range, where it counts
 abbrev IsShort : Free → Bool → ℕ → Type 0
-IsShort Priority first priority = priority ≤ 255
-IsShort Ratio true priority = priority ≤ 255
+IsShort Priority first priority = priority ≤ greatest_priority
+IsShort Ratio true priority = priority ≤ greatest_priority
 IsShort Ratio false priority = Unit {0}
 
-pub short_of : (free : Free) (first : Bool) (priority : ℕ) → priority ≤ 255 → IsShort free first priority
+pub short_of : (free : Free) (first : Bool) (priority : ℕ) → priority ≤ greatest_priority → IsShort free first priority
 short_of Priority first priority few = few
 short_of Ratio true priority few = few
 short_of Ratio false priority few = tt
 
 -- a limit is never past all
-pub limit_few : (free : Free) (first : Bool) (priority : ℕ) → priority ≤ 255 → limit free first priority ≤ 512
+pub limit_few : (free : Free) (first : Bool) (priority : ℕ) → priority ≤ greatest_priority → limit free first priority ≤ 512
 limit_few Priority true priority few = omega (arith, few)
 limit_few Priority false priority few = omega (arith, few)
 limit_few Ratio true priority few = omega (arith, few)
@@ -350,7 +351,7 @@ limit_ahead Ratio parts left ahead is =
     by_first true priority = ap (limit Ratio true) (priority refl)
     by_first false priority = refl
 
-pub short_ahead : (free : Free) (parts : List PartFacts) (left : Contender) (ahead : Ahead) → IsAheadOf free parts left ahead → ahead.priority ≤ 255
+pub short_ahead : (free : Free) (parts : List PartFacts) (left : Contender) (ahead : Ahead) → IsAheadOf free parts left ahead → ahead.priority ≤ greatest_priority
     → IsShort free (is_first (part_at parts left.facts.partition) left.facts.critical) left.facts.priority
 short_ahead Priority parts left ahead is few = let same = is.priority refl in omega (arith, few, same)
 short_ahead Ratio parts left ahead is few = by_first (is_first (part_at parts left.facts.partition) left.facts.critical) is.priority
@@ -398,7 +399,7 @@ nobody_told s h parts c now at least left told few high = looked_all s h parts c
 
 -- who is flagged for the greatest of these, by what that is ahead by
 pub flagged_ahead : (s : SchedulerState) (h : List Entry) (parts : List PartFacts) (c now at least : ℕ) (o : Option Contender) (ahead : Ahead)
-    → IsTold (lowest s h parts c now s.shape.cpus) at least → IsAhead s.shape.free parts o (Some ahead) → ahead.priority ≤ 255
+    → IsTold (lowest s h parts c now s.shape.cpus) at least → IsAhead s.shape.free parts o (Some ahead) → ahead.priority ≤ greatest_priority
     → least < limit s.shape.free (nat_eq ahead.class 1) ahead.priority → flag_for s h parts c now o ≡ Some at
 flagged_ahead s h parts c now at least None ahead told is few low = absurd is
 flagged_ahead s h parts c now at least (Some left) ahead told is few low =
@@ -406,7 +407,7 @@ flagged_ahead s h parts c now at least (Some left) ahead told is few low =
     told_flagged s h parts c now at least left told (short_ahead s.shape.free parts left ahead is few) (omega (arith, low, same))
 
 pub nobody_ahead : (s : SchedulerState) (h : List Entry) (parts : List PartFacts) (c now at least : ℕ) (o : Option Contender) (ahead : Ahead)
-    → IsTold (lowest s h parts c now s.shape.cpus) at least → IsAhead s.shape.free parts o (Some ahead) → ahead.priority ≤ 255
+    → IsTold (lowest s h parts c now s.shape.cpus) at least → IsAhead s.shape.free parts o (Some ahead) → ahead.priority ≤ greatest_priority
     → limit s.shape.free (nat_eq ahead.class 1) ahead.priority ≤ least → flag_for s h parts c now o ≡ None
 nobody_ahead s h parts c now at least None ahead told is few high = refl
 nobody_ahead s h parts c now at least (Some left) ahead told is few high =

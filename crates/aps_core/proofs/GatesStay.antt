@@ -3,6 +3,7 @@ use Rattle.std.proofs.Common.{◌≡◌, ◌∙◌, ℕ, ◌<◌, ◌%◌, List,
 use Rattle.std.proofs.lemmas.List.{get_or-set_same, get_or-set_other}
 use Rattle.aps_model.specs.declared.merit.PartFacts.{PartFacts}
 use Rattle.aps_model.specs.Budget.{no_part, part_at}
+use Rattle.aps_model.specs.Limits.{last_partition, most_partitions}
 use Rattle.aps_ready.specs.declared.gates.Gates.{Gates}
 use Rattle.aps_ready.specs.Gates.{AreGates, is_open_first, is_open_second}
 use Rattle.aps_core.specs.Standing.{OpensAlike}
@@ -41,12 +42,12 @@ gates_stay parts p part gates within alike are =
     record {
       first = λ g below.
           are.first g below
-          ∙ kept_in_place (λ a. is_open_first a (nat_lt 31 g)) parts p (g % 32) part within
-          (open_alike (nat_lt 31 g) old.funded part.funded old.standing part.standing old.shut part.shut alike.funded alike.standing alike.shut);
+          ∙ kept_in_place (λ a. is_open_first a (nat_lt last_partition g)) parts p (g % most_partitions) part within
+          (open_alike (nat_lt last_partition g) old.funded part.funded old.standing part.standing old.shut part.shut alike.funded alike.standing alike.shut);
       second = λ g below.
           are.second g below
-          ∙ kept_in_place (λ a. is_open_second a (nat_lt 31 g)) parts p (g % 32) part within
-          (open_alike_second (nat_lt 31 g) old.funded part.funded old.standing part.standing old.shut part.shut alike.funded alike.standing alike.shut);
+          ∙ kept_in_place (λ a. is_open_second a (nat_lt last_partition g)) parts p (g % most_partitions) part within
+          (open_alike_second (nat_lt last_partition g) old.funded part.funded old.standing part.standing old.shut part.shut alike.funded alike.standing alike.shut);
       budgeted = λ q below.
-          are.budgeted q below ∙ ap (λ b. nat_lt q 32 && b) (kept_in_place (λ a. nat_lt 0 a.budget) parts p q part within (ap (nat_lt 0) alike.budget));
+          are.budgeted q below ∙ ap (λ b. nat_lt q most_partitions && b) (kept_in_place (λ a. nat_lt 0 a.budget) parts p q part within (ap (nat_lt 0) alike.budget));
     }

@@ -5,6 +5,7 @@ use Rattle.aps_model.specs.declared.state.Facts.{Facts}
 use Rattle.aps_model.specs.declared.state.Pick.{Pick}
 use Rattle.aps_model.specs.Budget.{part_at}
 use Rattle.aps_model.specs.Inherit.{facts_of}
+use Rattle.aps_model.specs.Limits.{last_partition}
 use Rattle.aps_model.specs.SchedulerState.{SchedulerState}
 use Rattle.aps_levels.specs.Bits.{has}
 use Rattle.aps_ready.specs.Gates.{is_first}
@@ -45,7 +46,7 @@ post_height s parts classes None post are is = by_test (has classes.first post.g
     by_test true = let base = is.base in let more = is.more in omega (arith, base, more)
     by_test false = is.base
 post_height s parts classes (Some p) post are is =
-    ap (λ t. cond t (post.base + post.more) post.base) (are post.group is.below ∙ ap (λ q. is_first (part_at parts q) (nat_lt 31 post.group)) is.partition ∙ ap (is_first (part_at parts facts.partition)) is.critical)
+    ap (λ t. cond t (post.base + post.more) post.base) (are post.group is.below ∙ ap (λ q. is_first (part_at parts q) (nat_lt last_partition post.group)) is.partition ∙ ap (is_first (part_at parts facts.partition)) is.critical)
     ∙ by_test (is_first (part_at parts facts.partition) facts.critical)
   where
     facts : Facts

@@ -7,10 +7,11 @@ use Rattle.std.proofs.lemmas.List.Elements.{All-head, All-tail}
 use Rattle.aps_model.specs.declared.entry.Entry.{Entry}
 use Rattle.aps_model.specs.Due.{last_to}
 use Rattle.aps_model.specs.History.{IsEntry}
+use Rattle.aps_model.specs.Limits.{last_moment, most_cpus}
 use Rattle.aps_laws.proofs.MomentLaws.{last_other, last_own}
 use Rattle.aps_core.specs.LastEnds.{AreEnds}
 
-pub ends_more : (row : List (Option ℕ)) (h : List Entry) (e : Entry) (place : ℕ) → length row ≡ 16 → place ≡ e.cpu → place < 16 → AreEnds h row
+pub ends_more : (row : List (Option ℕ)) (h : List Entry) (e : Entry) (place : ℕ) → length row ≡ most_cpus → place ≡ e.cpu → place < most_cpus → AreEnds h row
     → AreEnds (h ++ e ∷ []) (slice_set row place (Some e.to))
 ends_more row h e place whole at inside ends c small =
     elim (cases_eq c place) [
@@ -25,11 +26,11 @@ ends_more row h e place whole at inside ends c small =
     ]
 
 -- no entry ends late, and so neither does the last one of a processor
-pub ends_early : (h : List Entry) (c : ℕ) → All IsEntry h → IfSome (last_to h c) (λ to. to ≤ 10000000000000)
+pub ends_early : (h : List Entry) (c : ℕ) → All IsEntry h → IfSome (last_to h c) (λ to. to ≤ last_moment)
 ends_early h c all = from h None all tt
   where
     IsEarly : Option ℕ → Type 0
-    IsEarly o = IfSome o (λ to. to ≤ 10000000000000)
+    IsEarly o = IfSome o (λ to. to ≤ last_moment)
 
     next : (b : Bool) (e : Entry) (found : Option ℕ) → IsEntry e → IsEarly found → IsEarly (cond b (Some e.to) found)
     next true e found fits early = fits.to

@@ -13,6 +13,7 @@ use Rattle.aps_model.specs.Bill.{bill_of}
 use Rattle.aps_model.specs.Budget.{all_parts}
 use Rattle.aps_model.specs.Due.{due, due_at, last_end, last_to, left_running}
 use Rattle.aps_model.specs.Flag.{flag_for, with_flag}
+use Rattle.aps_model.specs.Limits.{most_cpus}
 use Rattle.aps_model.specs.Pick.{contenders, greatest}
 use Rattle.aps_model.specs.Scenario.{Scenario}
 use Rattle.aps_model.specs.SchedulerState.{SchedulerState, cpu_at, no_thread, thread_at}
@@ -200,7 +201,7 @@ spare_after n dues e own spare own_within flagged_within d past =
     get_or-set_other (dues_flagged dues e.to e.flagged) e.cpu d own 0 (λ same. absurd (omega (arith, same, past, own_within)))
     ∙ flagged_spare n dues e.to e.flagged spare flagged_within d past
 
-pub row_after : (s t : SchedulerState) (h : List Entry) (c own : ℕ) (e : Entry) (dues : List ℕ) → length dues ≡ 16 → length t.cpus ≤ 16 → length t.cpus ≡ length s.cpus → e.cpu ≡ c → e.to ≡ due s h c
+pub row_after : (s t : SchedulerState) (h : List Entry) (c own : ℕ) (e : Entry) (dues : List ℕ) → length dues ≡ most_cpus → length t.cpus ≤ most_cpus → length t.cpus ≡ length s.cpus → e.cpu ≡ c → e.to ≡ due s h c
     → AreDues s h dues → own ≡ due t (h ++ e ∷ []) c → ((d : ℕ) → d < length s.cpus → d ≢ c → IsDueAfter s h (due s h c) d e t) → AreDues t (h ++ e ∷ []) (dues_after dues e own)
 row_after s t h c own e dues whole few count cpu to before own_is others d inside =
     let row = dues_flagged dues e.to e.flagged in

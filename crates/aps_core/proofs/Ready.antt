@@ -12,6 +12,7 @@ use Rattle.aps_model.specs.After.{After, after, over, state_after}
 use Rattle.aps_model.specs.Bill.{Tested, bill_of}
 use Rattle.aps_model.specs.Due.{HasTurn, due, last_end, next_boundary}
 use Rattle.aps_model.specs.Legal.{IsLegal}
+use Rattle.aps_model.specs.Limits.{last_moment, most_entries, most_time_of_tick}
 use Rattle.aps_model.specs.Scenario.{Scenario}
 use Rattle.aps_model.specs.Shape.{horizon}
 use Rattle.aps_model.specs.Step.{Step, billed, pick, settled, step, tested, unless_rebooted}
@@ -39,13 +40,13 @@ use Rattle.aps_laws.proofs.StepOf.{horizon_same}
 use Rattle.aps_laws.proofs.ThreadFit.{fits_law}
 use Rattle.aps_core.specs.Kept.{IsKept}
 use Rattle.aps_core.specs.Ready.{IsReady}
-use Rattle.aps_core.specs.Room.{CanFinish}
+use Rattle.aps_core.specs.Room.{CanFinish, changes_of_a_run, last_place, stamps_within}
 use Rattle.aps_core.proofs.Frame.{chosen_kept, flagged_kept, kept_self, kept_then, settled_kept, spent_kept}
 use Rattle.aps_core.proofs.Turns.{due_now}
 
 -- threads that stand at an operation of their programs stand at one of the first 256
 few_places : (scenario : Scenario) (rows : ℕ) (threads : List ThreadNow) → IsScenario scenario → length threads ≡ length scenario.threads → Each (IsThreadFit scenario rows) threads
-    → (x : ℕ) → (slice_index_or threads x no_thread).place ≤ 256
+    → (x : ℕ) → (slice_index_or threads x no_thread).place ≤ last_place
 few_places scenario rows threads valid same fit x =
     elim (cases_lt x (length threads)) [
       | inl lt ↦
@@ -55,7 +56,7 @@ few_places scenario rows threads valid same fit x =
       | inr ge ↦ let past = ap (λ (t : ThreadNow). t.place) (get_or_past threads x no_thread ge) in omega (arith, past)
     ]
 
-short_since : (now : ℕ) (threads : List ThreadNow) → now ≤ 10000000000000 → Each (λ x t. t.since ≤ now) threads → (x : ℕ) → (slice_index_or threads x no_thread).since ≤ 10000000000000
+short_since : (now : ℕ) (threads : List ThreadNow) → now ≤ last_moment → Each (λ x t. t.since ≤ now) threads → (x : ℕ) → (slice_index_or threads x no_thread).since ≤ last_moment
 short_since now threads early each x =
     elim (cases_lt x (length threads)) [
       | inl lt ↦ let since = each x lt in omega (arith, since, early)
@@ -63,7 +64,7 @@ short_since now threads early each x =
     ]
 
 -- where a thread runs, and stamps are few, it can end its operation
-room_at : (scenario : Scenario) (now x c : ℕ) (s : SchedulerState) → IsScenario scenario → IsWellFormed scenario now s → s.stamps ≤ 7000000000 → state_at s x ≡ Running c → CanFinish scenario s x
+room_at : (scenario : Scenario) (now x c : ℕ) (s : SchedulerState) → IsScenario scenario → IsWellFormed scenario now s → s.stamps ≤ stamps_within → state_at s x ≡ Running c → CanFinish scenario s x
 room_at scenario now x c s valid well few runs =
     let names = names_channels scenario valid in
     record {
@@ -138,7 +139,7 @@ bill_says c from now (Some pick) = record { cpu = refl; from_is = refl; to_is = 
 -- with it no partition uses more in a tick than all processors have
 bills_fit : (scenario : Scenario) (order : Order) (h : List Entry) (c : ℕ) → IsScenario scenario → IsLegal scenario order h → over (after scenario h) h ≡ None → HasTurn order (state_after scenario h) h c
     → (state_after scenario h).shape.tick ≡ scenario.shape.tick
-    → (p k : ℕ) → used (state_after scenario h).shape.tick (h ++ bill_in (state_after scenario h) h c ∷ []) p k (k + 1) ≤ 160000000
+    → (p k : ℕ) → used (state_after scenario h).shape.tick (h ++ bill_in (state_after scenario h) h c ∷ []) p k (k + 1) ≤ most_time_of_tick
 bills_fit scenario order h c valid legal run turn same p k =
     let s = state_after scenario h in
     let e = bill_in s h c in
@@ -146,9 +147,9 @@ bills_fit scenario order h c valid legal run turn same p k =
     let m = usage_in_hand scenario order h e k (k + 1) valid legal run (subst (HasTurn order s h) (sym says.cpu) turn) (says.from_is ∙ ap (last_end h) (sym says.cpu)) (says.to_is ∙ ap (due s h) (sym says.cpu)) in
     let each = m.each p in
     let all = m.one_tick (omega arith) in
-    subst (λ t. used t (h ++ e ∷ []) p k (k + 1) ≤ 160000000) (sym same) (omega (arith, each, all))
+    subst (λ t. used t (h ++ e ∷ []) p k (k + 1) ≤ most_time_of_tick) (sym same) (omega (arith, each, all))
 
-pub ready : (scenario : Scenario) (order : Order) (h : List Entry) (c : ℕ) → IsScenario scenario → IsLegal scenario order h → length h ≤ 4000000 → over (after scenario h) h ≡ None → HasTurn order (state_after scenario h) h c
+pub ready : (scenario : Scenario) (order : Order) (h : List Entry) (c : ℕ) → IsScenario scenario → IsLegal scenario order h → length h ≤ most_entries → over (after scenario h) h ≡ None → HasTurn order (state_after scenario h) h c
     → IsReady scenario (state_after scenario h) h c
 ready scenario order h c valid legal short run turn =
     let s = state_after scenario h in
@@ -157,7 +158,7 @@ ready scenario order h c valid legal short run turn =
     let counted = counts_law scenario order h valid legal in
     let fits = fits_law scenario order h valid legal in
     let few : s.stamps ≤ 5000000000 = let a = (few_stamps scenario order h valid legal).small in omega (arith, a, short) in
-    let early : due s h c ≤ 10000000000000 = omega (arith, d.to, d.fits.to) in
+    let early : due s h c ≤ last_moment = omega (arith, d.to, d.fits.to) in
     let e = (step scenario s h c).entry in
     let after_step : state_after scenario (h ++ e ∷ []) ≡ (step scenario s h c).state =
     ap (λ (a : After). a.state) (after-append scenario h e) ∙ ap (λ k. (step scenario s h k).state) d.own in
@@ -166,7 +167,7 @@ ready scenario order h c valid legal short run turn =
     let n = next_law scenario order h e valid d.legal in
     let replies = few_answered scenario order (h ++ e ∷ []) valid d.legal in
     let changes = few_changes scenario order (h ++ e ∷ []) valid d.legal in
-    let changes_billed : length (after_bill scenario s h c).changes ≤ 2079 =
+    let changes_billed : length (after_bill scenario s h c).changes ≤ changes_of_a_run =
     omega (arith, changes, ap (λ (t : SchedulerState). length t.changes) after_step, ap length stepped.changes) in
     record {
       exists = d.exists;

@@ -3,10 +3,11 @@ use Rattle.std.proofs.Common.{◌≡◌, ◌⊎◌, ℕ, ◌≤◌, List, All, a
 use Rattle.std.proofs.lemmas.List.Elements.{All-weaker}
 use Rattle.std.proofs.lemmas.Option.{unwrap_or-slice_get}
 use Rattle.aps_model.specs.declared.partition.PartitionRow.{PartitionRow}
+use Rattle.aps_model.specs.Limits.{percent, thousandths}
 use Rattle.aps_model.specs.Partition.{IsFundedRow, IsRow, no_row, row_or_none}
 use Rattle.aps_tree.specs.Tree.{IsTree, Tree}
 
-few_parts : (parts : ℕ) → (parts ≡ 100) ⊎ (parts ≡ 1000) → parts ≤ 1000
+few_parts : (parts : ℕ) → (parts ≡ percent) ⊎ (parts ≡ thousandths) → parts ≤ thousandths
 few_parts parts (inl e) = omega (arith, e)
 few_parts parts (inr e) = omega (arith, e)
 

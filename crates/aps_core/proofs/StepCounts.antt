@@ -9,6 +9,7 @@ use Rattle.aps_model.specs.declared.state.Pick.{Pick}
 use Rattle.aps_model.specs.Bill.{Tested, after_test, bankrupt, bill_of}
 use Rattle.aps_model.specs.Due.{due, last_end, next_boundary}
 use Rattle.aps_model.specs.History.{IsEntry}
+use Rattle.aps_model.specs.Limits.{most_ticks, most_time_of_tick}
 use Rattle.aps_model.specs.Messages.{Effect}
 use Rattle.aps_model.specs.Scenario.{Scenario}
 use Rattle.aps_model.specs.SchedulerState.{SchedulerState, cpu_at, with_cpu}
@@ -71,7 +72,7 @@ same_tick scenario s h c now from tick running s1 s2 e r b t same =
     λ i. b.ends i / (last ∙ sym first) i
 
 pub room_to_bill : (scenario : Scenario) (s : SchedulerState) (h : List Entry) (c now from tick : ℕ) (running : Option Pick) (s1 s2 : SchedulerState) (e : Entry) (w : Window) → IsReady scenario s h c
-    → IsBilling scenario s h c now from tick running s1 s2 e → tick ≤ 1000000 → IsShape s2.shape → IsEntry e → Counts s2.shape h (now / s1.shape.tick) w → CanBill s2.shape.tick w e
+    → IsBilling scenario s h c now from tick running s1 s2 e → tick ≤ most_ticks → IsShape s2.shape → IsEntry e → Counts s2.shape h (now / s1.shape.tick) w → CanBill s2.shape.tick w e
 room_to_bill scenario s h c now from tick running s1 s2 e w r b early sized fits counts =
     let kept : s2.shape.tick ≡ s.shape.tick = tick_kept scenario s h c now from tick running s1 s2 e r b in
     let first : s1.shape.tick ≡ s.shape.tick = ap (λ (u : SchedulerState). u.shape.tick) b.begun in
@@ -80,7 +81,7 @@ room_to_bill scenario s h c now from tick running s1 s2 e w r b early sized fits
     let at : tick ≡ now / s1.shape.tick = b.at_tick ∙ ap (λ n. now / n) (sym first) in
     let same : e ≡ bill_in s h c = b.entry ∙ (λ i. bill_of c (b.from_end i) (b.at_due i) (b.ran i)) in
     can_bill s2.shape h (now / s1.shape.tick) w e counts sized fits whole (sym (same_tick scenario s h c now from tick running s1 s2 e r b s2 refl)) (omega (arith, early, at))
-    (λ p k. subst (λ n. used n (h ++ e ∷ []) p k (k + 1) ≤ 160000000) (sym kept) (subst (λ (x : Entry). used s.shape.tick (h ++ x ∷ []) p k (k + 1) ≤ 160000000) (sym same) (r.bills_fit p k)))
+    (λ p k. subst (λ n. used n (h ++ e ∷ []) p k (k + 1) ≤ most_time_of_tick) (sym kept) (subst (λ (x : Entry). used s.shape.tick (h ++ x ∷ []) p k (k + 1) ≤ most_time_of_tick) (sym same) (r.bills_fit p k)))
 
 -- what adding an entry makes of the counts by a shape that was read
 pub counted_as : (shape read : Shape) (h : List Entry) (j : ℕ) (w w' : Window) (e : Entry) → read ≡ shape

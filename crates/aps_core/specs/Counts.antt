@@ -1,7 +1,7 @@
 -- The window of ticks that is kept beside the entries.
 use Rattle.std.specs.Prelude.{◌≡◌, ℕ, ◌+◌, ◌-◌, ◌/◌, ◌≤◌, List, length, map, Some}
 use Rattle.std.specs.List.{range_with_len}
-use Rattle.aps_model.specs.Limits.{longest_window, most_partitions, most_ticks}
+use Rattle.aps_model.specs.Limits.{longest_window, most_partitions, most_ticks, most_time_of_tick}
 use Rattle.aps_model.specs.declared.entry.Entry.{Entry}
 use Rattle.aps_model.specs.declared.merit.PartFacts.{PartFacts}
 use Rattle.aps_model.specs.declared.partition.PartitionRow.{PartitionRow}
@@ -46,4 +46,4 @@ pub record CanBill (tick : ℕ) (window : Window) (e : Entry) : Type 0 where
   pub past : e.from / tick ≤ window.tick
   pub recent : window.tick ≤ e.from / tick + 1
   pub early : window.tick ≤ most_ticks
-  pub fits : (p : ℕ) → e.billed ≡ Some p → billed_on window p (e.from / tick) + (e.to - e.from) ≤ 160000000
+  pub fits : (p : ℕ) → e.billed ≡ Some p → billed_on window p (e.from / tick) + (e.to - e.from) ≤ most_time_of_tick

@@ -11,6 +11,7 @@ use Rattle.aps_model.specs.declared.shape.Free.TheVariants.{Priority, Ratio}
 use Rattle.aps_model.specs.declared.state.Pick.{Pick}
 use Rattle.aps_model.specs.Due.{due}
 use Rattle.aps_model.specs.Flag.{lower_ranked, merit_now}
+use Rattle.aps_model.specs.Limits.{greatest_priority, last_cpu, most_cpus}
 use Rattle.aps_model.specs.Merit.{is_greater}
 use Rattle.aps_model.specs.Pick.{greatest, merit_among}
 use Rattle.aps_model.specs.SchedulerState.{SchedulerState, cpu_at}
@@ -32,7 +33,8 @@ ranked_at s h parts c now d =
 
 -- what a look at the other processors rests on: what is kept of what they run goes by the state, its keys and the classes by how the
 -- partitions stand, and the dues by these entries
-pub record CanLook (s : SchedulerState) (h : List Entry) (parts : List PartFacts) (c now : ℕ) (kept : List Post) (by : Classes) (row : List ℕ) : Type 0 where
+pub record CanLook (s : SchedulerState) (h : List Entry) (parts : List PartFacts) (c now : ℕ)
+    (kept : List Post) (by : Classes) (row : List ℕ) : Type 0 where
   pub posts : ArePosts s kept
   pub classes : AreClasses parts by
   pub high : AreHigh by kept
@@ -53,26 +55,33 @@ abbrev pub height : Rank → ℕ
 height Idle = 0
 height (Running class priority) = height_of (nat_eq class 1) priority
 
+-- past the height of every rank, and past the key of every processor that has one
+abbrev pub height_past_all : ℕ
+height_past_all = 1000
+
+abbrev pub key_past_all : ℕ
+key_past_all = 16000
+
 -- the processor d of this rank, if it has one, has this key: the lesser the lower it stands, and of equal ones the later it comes
 abbrev pub IsKey : Option Rank → ℕ → ℕ → Type 0
-IsKey None d key = 16000 ≤ key
-IsKey (Some rank) d key = key ≡ height rank * 16 + (15 - d)
+IsKey None d key = key_past_all ≤ key
+IsKey (Some rank) d key = key ≡ height rank * most_cpus + (last_cpu - d)
 
 -- the class and the priority of a rank have their ranges
 abbrev pub IsRank : Option Rank → Type 0
 IsRank None = ⊤
 IsRank (Some Idle) = ⊤
-IsRank (Some (Running class priority)) = (class ≤ 1) × (priority ≤ 255)
+IsRank (Some (Running class priority)) = (class ≤ 1) × (priority ≤ greatest_priority)
 
 -- the processor and the height are those of this one, if there is one; else the height is past all ranks
 abbrev pub IsTold : Option (ℕ × Rank) → ℕ → ℕ → Type 0
-IsTold None d least = least ≡ 1000
+IsTold None d least = least ≡ height_past_all
 IsTold (Some best) d least = (best.0 ≡ d) × (least ≡ height best.1) × IsRank (Some best.1)
 
 -- this is the least key of the first processors, among which this one, if there is one, is lowest
 abbrev pub IsLeast : Option (ℕ × Rank) → ℕ → ℕ → Type 0
-IsLeast None count least = least ≡ 16000
-IsLeast (Some best) count least = (best.0 < count) × (least ≡ height best.1 * 16 + (15 - best.0)) × IsRank (Some best.1)
+IsLeast None count least = least ≡ key_past_all
+IsLeast (Some best) count least = (best.0 < count) × (least ≡ height best.1 * most_cpus + (last_cpu - best.0)) × IsRank (Some best.1)
 
 -- the same, among as many of the first as there are
 abbrev pub IsLeastOf : SchedulerState → List Entry → List PartFacts → ℕ → ℕ → ℕ → ℕ → Type 0
@@ -87,4 +96,5 @@ limit Ratio first priority = if first then height_of first priority else 1
 -- the greatest candidate among these is not greater than this one; and there is none where this is nobody
 abbrev pub IsNoLess : Free → List PartFacts → List Contender → Option Contender → Type 0
 IsNoLess free parts cs None = greatest free parts cs ≡ None
-IsNoLess free parts cs (Some best) = (c : Contender) → greatest free parts cs ≡ Some c → is_greater free (merit_among parts c) (merit_among parts best) ≡ false
+IsNoLess free parts cs (Some best) =
+    (c : Contender) → greatest free parts cs ≡ Some c → is_greater free (merit_among parts c) (merit_among parts best) ≡ false

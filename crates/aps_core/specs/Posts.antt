@@ -3,11 +3,13 @@ use Rattle.std.specs.Prelude.{◌≡◌, ◌≢◌, ℕ, ◌+◌, ◌-◌, ◌*�
 use Rattle.aps_model.specs.declared.state.Facts.{Facts}
 use Rattle.aps_model.specs.declared.state.Pick.{Pick}
 use Rattle.aps_model.specs.Inherit.{facts_of}
-use Rattle.aps_model.specs.Limits.{greatest_priority, most_cpus}
+use Rattle.aps_model.specs.Limits.{greatest_priority, last_cpu, last_partition, most_cpus, most_partitions}
 use Rattle.aps_model.specs.SchedulerState.{SchedulerState, cpu_at}
 use Rattle.aps_levels.specs.Bits.{has}
 use Rattle.aps_core.specs.declared.classes.Classes.{Classes}
 use Rattle.aps_core.specs.declared.posts.Post.{Post}
+use Rattle.aps_levels.specs.Levels.{level_count}
+use Rattle.aps_ready.specs.Group.{group_count}
 
 -- the values now of the thread that a processor runs, if it runs one
 abbrev pub facts_now : SchedulerState → Option Pick → Option Facts
@@ -16,11 +18,11 @@ facts_now s (Some p) = Some (facts_of s p.thread)
 
 -- this is kept of a thread with these values: its group, and where it stands if the group is of class 0
 pub record IsPostOf (facts : Facts) (post : Post) : Type 0 where
-  pub below : post.group < 64
-  pub partition : post.group % 32 ≡ facts.partition
-  pub critical : nat_lt 31 post.group ≡ facts.critical
+  pub below : post.group < group_count
+  pub partition : post.group % most_partitions ≡ facts.partition
+  pub critical : nat_lt last_partition post.group ≡ facts.critical
   pub base : post.base ≡ 1 + facts.priority
-  pub more : post.more ≡ 256
+  pub more : post.more ≡ level_count
   pub few : facts.priority ≤ greatest_priority
 
 -- and this where there is none
@@ -49,9 +51,9 @@ AreOthersPosts s c posts = (d : ℕ) → d < length s.cpus → d ≢ c → IsPos
 
 -- what is kept has its ranges
 pub record IsSmallPost (post : Post) : Type 0 where
-  pub group : post.group < 64
-  pub base : post.base ≤ 256
-  pub more : post.more ≤ 256
+  pub group : post.group < group_count
+  pub base : post.base ≤ level_count
+  pub more : post.more ≤ level_count
 
 -- that of each processor has
 abbrev pub AreSmall : List Post → Type 0
@@ -64,7 +66,7 @@ height_by classes post = if has classes.first post.group then post.base + post.m
 -- what is kept of the processor d has its ranges, and its key goes by these classes
 pub record IsHigh (classes : Classes) (d : ℕ) (post : Post) : Type 0 where
   pub small : IsSmallPost post
-  pub same : post.key ≡ height_by classes post * 16 + (15 - d)
+  pub same : post.key ≡ height_by classes post * most_cpus + (last_cpu - d)
 
 -- that of each processor
 abbrev pub AreHigh : Classes → List Post → Type 0

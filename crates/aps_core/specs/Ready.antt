@@ -3,7 +3,7 @@ use Rattle.aps_model.specs.declared.entry.Entry.{Entry}
 use Rattle.aps_model.specs.declared.state.Pick.{Pick}
 use Rattle.aps_model.specs.declared.state.State.TheVariants.{Running}
 use Rattle.aps_model.specs.Due.{due, last_end, next_boundary}
-use Rattle.aps_model.specs.Limits.{last_moment, longest_tick, most_commands}
+use Rattle.aps_model.specs.Limits.{last_moment, longest_tick, most_commands, most_time_of_tick}
 use Rattle.aps_model.specs.Scenario.{Scenario}
 use Rattle.aps_model.specs.SchedulerState.{SchedulerState, cpu_at, thread_at}
 use Rattle.aps_model.specs.Shape.{horizon}
@@ -39,7 +39,7 @@ pub record IsReady (scenario : Scenario) (s : SchedulerState) (h : List Entry) (
   pub same_tick : (after_tick scenario s h c).shape.tick ≡ s.shape.tick
   pub rises : moment h ≤ due s h c
   pub in_tick : due s h c ≤ next_boundary s.shape.tick (last_end h c)
-  pub bills_fit : (p k : ℕ) → used s.shape.tick (h ++ bill_in s h c ∷ []) p k (k + 1) ≤ 160000000
+  pub bills_fit : (p k : ℕ) → used s.shape.tick (h ++ bill_in s h c ∷ []) p k (k + 1) ≤ most_time_of_tick
   pub others : (d : ℕ) → d ≢ c → due (before_pick scenario s h c) h d ≡ due s h d
   pub same_cpu : (d : ℕ) → d ≢ c → cpu_at (before_pick scenario s h c) d ≡ cpu_at s d
   pub runs : (d : ℕ) (p : Pick) → (cpu_at s d).running ≡ Some p → (thread_at s p.thread).state ≡ Running d

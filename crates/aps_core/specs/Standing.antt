@@ -22,7 +22,8 @@ pub record IsStanding (parts : List PartFacts) (gates : Gates) (classes : Classe
   pub room : most_partitions ≤ space
 
 -- each partition but this one, if there is one, stands by its row and its totals
-pub record DoOthersStand (billed : Option ℕ) (shape : Shape) (rows : List PartitionRow) (window : Window) (parts : List PartFacts) : Type 0 where
+pub record DoOthersStand (billed : Option ℕ) (shape : Shape) (rows : List PartitionRow)
+    (window : Window) (parts : List PartFacts) : Type 0 where
   pub count : length parts ≡ length rows
   pub each : (p : ℕ) → billed ≢ Some p → p < length rows → part_at parts p ≡ part_in shape rows window p
 

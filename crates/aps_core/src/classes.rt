@@ -3,8 +3,10 @@
 ghost use Rattle.std.specs.Prelude.{◌≡◌, ◌<◌, ◌%◌, ◌++◌, [], ◌∷◌, List, length, nat_lt, slice_set};
 ghost use Rattle.aps_model.specs.Budget.{part_at};
 ghost use Rattle.aps_model.specs.declared.merit.PartFacts.{PartFacts as PartFactsOf};
+ghost use Rattle.aps_model.specs.Limits.{last_partition, most_partitions};
 ghost use Rattle.aps_ready.specs.Gates.{is_first};
 ghost use Rattle.aps_core.specs.Classes.{AreClasses};
+ghost use Rattle.aps_ready.specs.Group.{group_count};
 
 use aps_levels::Bits64;
 use aps_model::limits::MOST_PARTITIONS;
@@ -55,9 +57,9 @@ impl Classes {
 /// The group of a thread of this partition, critical or not.
 #[inline(always)]
 pub fn group_of(p: PartitionId, critical: bool) -> usize
-    ensures below { result < 64 }
-    ensures partition { result % 32 ≡ p }
-    ensures critical { nat_lt 31 result ≡ critical }
+    ensures below { result < group_count }
+    ensures partition { result % most_partitions ≡ p }
+    ensures critical { nat_lt last_partition result ≡ critical }
 {
     let place = p.index();
     if critical {

@@ -3,7 +3,7 @@ ghost use Rattle.std.specs.List.{list_any};
 ghost use Rattle.aps_model.specs.declared.entry.Entry.{Entry as EntryOf};
 ghost use Rattle.aps_model.specs.After.{stands_at};
 ghost use Rattle.aps_model.specs.Due.{next_boundary, due_at, or_end};
-ghost use Rattle.aps_model.specs.Limits.{last_moment, longest_tick};
+ghost use Rattle.aps_model.specs.Limits.{last_moment, last_tick, longest_tick};
 ghost use Rattle.aps_model.specs.Shape.{IsShape, horizon};
 ghost use Rattle.aps_core.specs.Rising.{IsRising};
 
@@ -24,7 +24,7 @@ pub fn stands_at(moment: Nanos, last: Option<Nanos>) -> bool
 pub fn tick_of(tick: u64, moment: Nanos, at_hand: u64) -> u64
     requires some { 0 < tick }
     requires short { tick ≤ longest_tick }
-    requires at_hand { at_hand ≤ 100000000 }
+    requires at_hand { at_hand ≤ last_tick }
     requires moment { moment ≤ last_moment }
     ensures { result ≡ moment / tick }
 {

@@ -2,7 +2,7 @@ ghost use Rattle.std.specs.Prelude.{◌≡◌, ◌≢◌, ◌⊎◌, ◌<◌, �
 ghost use Rattle.aps_model.specs.After.{is_at_horizon};
 ghost use Rattle.aps_model.specs.Due.{due, first_due, last_to};
 ghost use Rattle.aps_model.specs.History.{IsEntry};
-ghost use Rattle.aps_model.specs.Limits.{last_moment, most_ticks};
+ghost use Rattle.aps_model.specs.Limits.{last_moment, last_tick, most_ticks};
 ghost use Rattle.aps_model.specs.Shape.{IsShape, horizon};
 ghost use Rattle.aps_core.specs.LastEnds.{AreEnds, IsLast};
 ghost use Rattle.aps_core.specs.NextDues.{AreDues};
@@ -76,7 +76,8 @@ impl Model for Machine {
 
     ghost view = { state_of };
 
-    ghost invariant = { λ m. IsMachine (state_of m) m.channels.threads m.inherit m.tree.parts (vec_capacity m.replies) (vec_capacity m.changes) };
+    ghost invariant = { λ m. IsMachine (state_of m) m.channels.threads m.inherit m.tree.parts
+        (vec_capacity m.replies) (vec_capacity m.changes) };
 }
 
 impl Machine {
@@ -151,7 +152,7 @@ impl Machine {
     /// The tick of a moment. The tick at hand is best that of the moment.
     pub fn tick_of(&self, moment: Nanos, at_hand: u32) -> u64
         requires moment { moment ≤ horizon self.now.shape }
-        requires at_hand { at_hand ≤ 100000000 }
+        requires at_hand { at_hand ≤ last_tick }
         ensures same { result ≡ moment / self.now.shape.tick }
         ensures few { result ≤ most_ticks }
     {

@@ -3,6 +3,8 @@ ghost use Rattle.std.specs.Prelude.{◌≡◌, ◌≢◌, ℕ, ◌+◌, ◌<◌,
 ghost use Rattle.aps_model.specs.Limits.{greatest_priority, most_cpus};
 ghost use Rattle.aps_model.specs.declared.state.Facts.{Facts as FactsOf};
 ghost use Rattle.aps_core.specs.Posts.{AreHigh, AreSmall, IsHigh, IsPost, IsPostOf, post_at};
+ghost use Rattle.aps_levels.specs.Levels.{level_count};
+ghost use Rattle.aps_ready.specs.Group.{group_count};
 
 use crate::classes::{Classes, group_of};
 use aps_model::limits::MOST_CPUS;
@@ -51,9 +53,9 @@ impl Post {
     #[inline(always)]
     fn by(self, classes: Classes, d: usize) -> Post
         requires d { d < most_cpus }
-        requires group { self.group < 64 }
-        requires base { self.base ≤ 256 }
-        requires more { self.more ≤ 256 }
+        requires group { self.group < group_count }
+        requires base { self.base ≤ level_count }
+        requires more { self.more ≤ level_count }
         ensures high { IsHigh classes d result }
         ensures same { (o : Option FactsOf) → IsPost o self → IsPost o result }
     {

@@ -110,7 +110,8 @@ impl Scheduler {
         ensures same { step scenario.now self.old.machine entries.now cpu
             ≡ record { entry = result.entry; state = self.new.machine; reboot = result.reboot } }
         ensures pending { IsPending scenario.now self.old.machine.shape.tick (entries.now ++ result.entry ∷ []) self.new.ctl }
-        ensures counts { Counts self.new.machine.shape (entries.now ++ result.entry ∷ []) (result.entry.to / self.new.machine.shape.tick) self.new.window }
+        ensures counts { Counts self.new.machine.shape (entries.now ++ result.entry ∷ [])
+            (result.entry.to / self.new.machine.shape.tick) self.new.window }
         ensures stands { self.new.standing ≡ parts_in self.new.machine.shape self.new.machine.rows self.new.window }
         ensures kept { result.is_changed ≡ false → IsKept self.old.machine self.new.machine }
         ensures seats { self.new.ready ≡ seats_of self.new.machine }
@@ -169,7 +170,8 @@ impl Scheduler {
         requires ends { AreEnds entries.now self.old.ends }
         requires at_hand { IfSome (last_to entries.now last.now.cpu) (λ to. self.old.window.tick ≡ to / self.old.machine.shape.tick) }
         requires cpu { last.now.cpu < length self.old.machine.cpus }
-        ensures same { self.new ≡ record self.old { dues = dues_after self.old.dues last.now (due self.old.machine entries.now last.now.cpu) } }
+        ensures same { self.new
+            ≡ record self.old { dues = dues_after self.old.dues last.now (due self.old.machine entries.now last.now.cpu) } }
         ensures whole { length self.old.dues ≡ most_cpus }
     {
         let due = self

@@ -9,6 +9,10 @@ use Rattle.aps_lock.specs.Seats.{HasCpu, IsSeatTurn, SeatData, taken}
 use Rattle.aps_cpu.specs.declared.driver.Driven.{Driven}
 use Rattle.aps_cpu.specs.declared.driver.Driven.TheVariants.{Ended, Waited}
 
+-- after how many turns in a row that another seat has, a driver gives up
+abbrev pub most_waited : ℕ
+most_waited = 1000000
+
 -- the same seat, with its dispatcher and its processors, and the run that it had seen further on
 pub record IsOnFrom (seat later : SeatData) : Type 0 where
   pub table : later.table ≡ seat.table
@@ -47,4 +51,4 @@ EndsWith seat answer later =
 abbrev pub IsDriven : SeatData → Driven → SeatData → Type 0
 IsDriven seat (Ended end) later = EndsWith seat (turn.Ended end) later
 IsDriven seat (Waited cpu due) later =
-    EndsWith seat (turn.NotYet cpu due) later × (HasCpu later cpu → ⊥) × (later.waited ≡ 1000000)
+    EndsWith seat (turn.NotYet cpu due) later × (HasCpu later cpu → ⊥) × (later.waited ≡ most_waited)

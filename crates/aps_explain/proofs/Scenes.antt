@@ -5,6 +5,7 @@ use Rattle.std.specs.List.{range_with_len}
 use Rattle.aps_model.specs.declared.merit.PartFacts.{PartFacts}
 use Rattle.aps_model.specs.declared.usage.Usage.{Usage}
 use Rattle.aps_model.specs.Budget.{all_parts, has_standing, in_budget, is_shut, part_facts}
+use Rattle.aps_model.specs.Limits.{most_partitions}
 use Rattle.aps_model.specs.Partition.{row_or_none}
 use Rattle.aps_model.specs.SchedulerState.{Triple}
 use Rattle.aps_model.specs.Sums.{IsUsage}
@@ -16,12 +17,12 @@ use Rattle.aps_explain.specs.Parts.{part_by}
 use Rattle.aps_explain.specs.Ties.{Ties, newest_server}
 use Rattle.aps_explain.proofs.Ranges.{map_range}
 
-pub used_is : (past : Past) (knots : Ties) (j : ℕ) (billed : Usage) (facts : List PartFacts) (p : ℕ) → IsScene past knots j billed facts → p < 32
+pub used_is : (past : Past) (knots : Ties) (j : ℕ) (billed : Usage) (facts : List PartFacts) (p : ℕ) → IsScene past knots j billed facts → p < most_partitions
     → slice_index billed.used p ≡ window_used (state_in past).shape past.entries (tick_in past) p
 used_is past knots j billed facts p scene small =
     scene.usage.used p small ∙ ap (λ k. window_used (state_in past).shape past.entries k p) scene.tick
 
-pub critical_is : (past : Past) (knots : Ties) (j : ℕ) (billed : Usage) (facts : List PartFacts) (p : ℕ) → IsScene past knots j billed facts → p < 32
+pub critical_is : (past : Past) (knots : Ties) (j : ℕ) (billed : Usage) (facts : List PartFacts) (p : ℕ) → IsScene past knots j billed facts → p < most_partitions
     → slice_index billed.critical p ≡ window_critical (state_in past).shape past.entries (tick_in past) p
 critical_is past knots j billed facts p scene small =
     scene.usage.critical p small ∙ ap (λ k. window_critical (state_in past).shape past.entries k p) scene.tick
@@ -39,7 +40,7 @@ server_known threads channels (t ∷ ts) c fit = by_test (nat_eq t.channel c) (a
 pub parts_are : (past : Past) (j : ℕ) (billed : Usage) (facts : List PartFacts)
     → facts ≡ map (part_by (state_in past).shape (state_in past).rows billed) (range_with_len 0 (length (state_in past).rows))
     → IsUsage (state_in past).shape.tick (j + 1 - (state_in past).shape.window) (j + 1) past.entries billed
-    → length (state_in past).rows ≤ 32 → j ≡ tick_in past → facts ≡ parts_in past
+    → length (state_in past).rows ≤ most_partitions → j ≡ tick_in past → facts ≡ parts_in past
 parts_are past j billed facts is usage few at =
     let s = state_in past in
     let made : ℕ → ℕ → ℕ → PartFacts = λ k used critical. record {

@@ -11,9 +11,9 @@ use Rattle.aps_model.specs.SchedulerState.{thread_at}
 use Rattle.aps_model.specs.Valid.{IsScenario}
 use Rattle.aps_laws.proofs.ThreadFacts.{within}
 use Rattle.aps_laws.proofs.ThreadFit.{fits_law}
-use Rattle.aps_explain.specs.Past.{WakesAt, WakesSoon}
+use Rattle.aps_explain.specs.Past.{WakesAt, WakesSoon, last_wake}
 
-wakes_by : (st : State) → ((u : ℕ) → st ≡ Sleeping u → u ≤ 20000000000000) → WakesAt st
+wakes_by : (st : State) → ((u : ℕ) → st ≡ Sleeping u → u ≤ last_wake) → WakesAt st
 wakes_by (Sleeping until) soon = soon until refl
 wakes_by Ready soon = tt
 wakes_by (Running c) soon = tt

@@ -7,6 +7,10 @@ use Rattle.aps_model.specs.SchedulerState.{row_at}
 use Rattle.aps_model.specs.Usage.{window_used}
 use Rattle.aps_explain.specs.Past.{Past, state_in, tick_in}
 
+-- no window that is asked about is at a later tick: it lies more than a window after the last tick
+abbrev pub last_tick_back : ℕ
+last_tick_back = 100001000
+
 -- partition p is in budget in the window at tick k, where nothing more is billed
 abbrev pub is_back : Past → ℕ → ℕ → Bool
 is_back past p k =

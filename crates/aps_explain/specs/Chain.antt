@@ -1,6 +1,7 @@
 -- The threads that are explained: one, the server that it waits for, and so on.
 use Rattle.std.specs.Prelude.{ℕ, ◌<◌, ◌++◌, List, [], ◌∷◌, length, nat_eq, All, if◌then◌else◌, Option, Some, None, IfSome}
 use Rattle.std.specs.List.{fold, list_any, range_with_len}
+use Rattle.aps_model.specs.Limits.{most_threads}
 use Rattle.aps_model.specs.SchedulerState.{thread_at}
 use Rattle.aps_explain.specs.Because.{waits_for}
 use Rattle.aps_explain.specs.Past.{Past, state_in}
@@ -32,4 +33,4 @@ chain_from past x steps =
     fold (λ (chain : Chain) _. gone_on past chain.told chain.next) (record { told = []; next = Some x }) (range_with_len 0 steps)
 
 abbrev pub explained : Past → ℕ → List ℕ
-explained past x = (chain_from past x 1024).told
+explained past x = (chain_from past x most_threads).told

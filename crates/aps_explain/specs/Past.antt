@@ -20,7 +20,7 @@ use Rattle.aps_core.specs.Run.{Run}
 use Rattle.aps_core.specs.Small.{IsSmall}
 use Rattle.aps_lives.specs.Whole.{until}
 use Rattle.aps_explain.specs.Ties.{Ties, ties_of}
-use Rattle.aps_model.specs.Limits.{most_entries}
+use Rattle.aps_model.specs.Limits.{last_tick, most_entries}
 
 -- a scenario, and the entries of its run so far
 pub record Past : Type 0 where
@@ -57,9 +57,13 @@ merit_in past x = merit_now (state_in past) (parts_in past) x
 abbrev pub is_open : Past → ℕ → Bool
 is_open past x = is_candidate (facts_of (state_in past) x) (part_in past (facts_of (state_in past) x).partition)
 
+-- the latest moment that a sleeper waits for, twice that of the longest run
+abbrev pub last_wake : ℕ
+last_wake = 20000000000000
+
 -- a sleeper's moment isn't so late that it couldn't be rounded up
 abbrev pub WakesAt : State → Type 0
-WakesAt (Sleeping until) = until ≤ 20000000000000
+WakesAt (Sleeping until) = until ≤ last_wake
 WakesAt st = ⊤
 
 abbrev pub WakesSoon : SchedulerState → Type 0
@@ -69,7 +73,7 @@ WakesSoon s = (x : ℕ) → WakesAt (thread_at s x).state
 pub record IsScene (past : Past) (knots : Ties) (j : ℕ) (billed : Usage) (facts : List PartFacts) : Type 0 where
   pub tied : knots ≡ ties_of (state_in past)
   pub tick : j ≡ tick_in past
-  pub early : j ≤ 100000000
+  pub early : j ≤ last_tick
   pub few : length past.entries ≤ most_entries
   pub usage : IsUsage (state_in past).shape.tick (j + 1 - (state_in past).shape.window) (j + 1) past.entries billed
   pub parts : facts ≡ parts_in past

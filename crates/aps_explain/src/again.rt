@@ -5,7 +5,8 @@ ghost use Rattle.aps_model.specs.History.{IsEntry};
 ghost use Rattle.aps_model.specs.Shape.{IsShape};
 ghost use Rattle.aps_model.specs.Usage.{window_used};
 ghost use Rattle.aps_explain.specs.Again as spec;
-ghost use Rattle.aps_model.specs.Limits.{most_entries};
+ghost use Rattle.aps_model.specs.Limits.{most_entries, thousandths};
+ghost use Rattle.aps_explain.specs.Again.{last_tick_back};
 
 use crate::scene::Scene;
 use aps_model::{Entry, Nanos, PartitionId, Shape, Usage, has_allowance};
@@ -24,7 +25,7 @@ impl Scene {
     /// The first tick from the last entry's on in whose window the partition is in budget.
     fn tick_back(&self, p: PartitionId) -> Option<u64>
         ensures same { result ≡ spec.tick_back self.now p }
-        ensures early { IfSome result (λ k. k ≤ 100001000) }
+        ensures early { IfSome result (λ k. k ≤ last_tick_back) }
     {
         let shape = self.shape();
         let budget = self.budget(p);
@@ -43,8 +44,8 @@ fn is_back(shape: &Shape, entries: &[Entry], p: PartitionId, budget: u16, tick: 
     requires shape { IsShape shape.now }
     requires entries { All IsEntry entries.now }
     requires few { length entries.now ≤ most_entries }
-    requires budget { budget ≤ 1000 }
-    requires tick { tick ≤ 100001000 }
+    requires budget { budget ≤ thousandths }
+    requires tick { tick ≤ last_tick_back }
     ensures { result ≡ in_budget shape.now (window_used shape.now entries.now tick p) budget }
 {
     let end = tick + 1;

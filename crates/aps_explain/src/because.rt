@@ -2,7 +2,7 @@
 ghost use Rattle.std.specs.Prelude.{◌≡◌, ◌<◌, ◌≤◌, IfOk, IfSome, None, length};
 ghost use Rattle.aps_laws.specs.Ids.{NamesKnown};
 ghost use Rattle.aps_explain.specs.Because as spec;
-ghost use Rattle.aps_explain.specs.Past.{WakesAt};
+ghost use Rattle.aps_explain.specs.Past.{WakesAt, last_wake};
 ghost use Rattle.aps_model.specs.Limits.{longest_tick};
 
 use crate::scene::Scene;
@@ -120,7 +120,7 @@ fn running_by(c: CpuId, pick: &Option<Pick>) -> Because
 fn boundary_from(tick: u64, moment: Nanos) -> Nanos
     requires some { 0 < tick }
     requires short { tick ≤ longest_tick }
-    requires early { moment ≤ 20000000000000 }
+    requires early { moment ≤ last_wake }
     ensures { result ≡ spec.boundary_from tick moment }
 {
     (moment + tick - 1) / tick * tick

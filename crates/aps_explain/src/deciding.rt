@@ -1,5 +1,6 @@
 //! By which test one merit is greater than another.
 ghost use Rattle.std.specs.Prelude.{◌≡◌, ◌≤◌};
+ghost use Rattle.aps_model.specs.Limits.{most_used, thousandths};
 ghost use Rattle.aps_explain.specs.Ahead as spec;
 
 use aps_model::{Free, Merit, less_fraction};
@@ -18,10 +19,10 @@ pub enum Test {
 ///
 /// Used times are at most 100,000,000,000,000 ns and budgets at most 1,000 parts, so that no product overflows.
 pub fn ahead(a: &Merit, b: &Merit, free: Free) -> Option<Test>
-    requires used_a { a.now.used ≤ 100000000000000 }
-    requires budget_a { a.now.budget ≤ 1000 }
-    requires used_b { b.now.used ≤ 100000000000000 }
-    requires budget_b { b.now.budget ≤ 1000 }
+    requires used_a { a.now.used ≤ most_used }
+    requires budget_a { a.now.budget ≤ thousandths }
+    requires used_b { b.now.used ≤ most_used }
+    requires budget_b { b.now.budget ≤ thousandths }
     ensures { result ≡ spec.ahead free a.now b.now }
 {
     let by_stamp = by_stamp(a, b);
@@ -50,10 +51,10 @@ fn by_priority(a: &Merit, b: &Merit, rest: Option<Test>) -> Option<Test>
 }
 
 fn by_fraction(a: &Merit, b: &Merit, rest: Option<Test>) -> Option<Test>
-    requires used_a { a.now.used ≤ 100000000000000 }
-    requires budget_a { a.now.budget ≤ 1000 }
-    requires used_b { b.now.used ≤ 100000000000000 }
-    requires budget_b { b.now.budget ≤ 1000 }
+    requires used_a { a.now.used ≤ most_used }
+    requires budget_a { a.now.budget ≤ thousandths }
+    requires used_b { b.now.used ≤ most_used }
+    requires budget_b { b.now.budget ≤ thousandths }
     ensures { result ≡ spec.by_fraction a.now b.now rest }
 {
     let greater = less_fraction(a.used, a.budget, b.used, b.budget);

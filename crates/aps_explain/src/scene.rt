@@ -18,7 +18,7 @@ ghost use Rattle.aps_core.specs.Small.{IsSmall};
 ghost use Rattle.aps_explain.specs.Past as spec;
 ghost use Rattle.aps_explain.specs.Parts.{part_by, part_by_row};
 ghost use Rattle.aps_explain.specs.Ties.{newest_server, ties_of};
-ghost use Rattle.aps_model.specs.Limits.{last_moment, most_entries, most_partitions};
+ghost use Rattle.aps_model.specs.Limits.{last_moment, last_tick, most_entries, most_partitions, most_used, thousandths};
 
 use crate::ties::Ties;
 use aps_core::Core;
@@ -107,7 +107,7 @@ impl Scene {
     /// The tick in which the last entry ends.
     pub fn tick(&self) -> u64
         ensures same { result ≡ spec.tick_in self.now }
-        ensures early { result ≤ 100000000 }
+        ensures early { result ≤ last_tick }
     {
         self.tick
     }
@@ -136,7 +136,7 @@ impl Scene {
     /// The partition's budget (parts); 0 where there is no such partition.
     pub fn budget(&self, p: PartitionId) -> u16
         ensures same { result ≡ (row_at (spec.state_in self.now) p).budget }
-        ensures few { result ≤ 1000 }
+        ensures few { result ≤ thousandths }
     {
         match self.rows().get(p.index()) {
             Some(row) => row.budget,
@@ -204,8 +204,8 @@ impl Scene {
     /// The merit that the thread has now, ready or not.
     pub fn merit(&self, x: ThreadId) -> Merit
         ensures same { result ≡ spec.merit_in self.now x }
-        ensures used { result.used ≤ 100000000000000 }
-        ensures budget { result.budget ≤ 1000 }
+        ensures used { result.used ≤ most_used }
+        ensures budget { result.budget ≤ thousandths }
     {
         let facts = self.facts_of(x);
         merit_of(facts, self.thread(x).stamp, &self.part(facts.partition))
@@ -224,7 +224,7 @@ impl Scene {
 fn tick_of(core: &Core, moment: Nanos) -> u64
     requires { moment ≤ last_moment }
     ensures same { result ≡ moment / (state_of core.now).shape.tick }
-    ensures early { result ≤ 100000000 }
+    ensures early { result ≤ last_tick }
     ensures wakes { spec.WakesSoon (state_of core.now) }
     ensures known { IsInRange core.now.setup.scenario (state_of core.now) }
 {
@@ -234,7 +234,7 @@ fn tick_of(core: &Core, moment: Nanos) -> u64
 /// The time that a budget allows in a window (ns).
 fn allowance(shape: &Shape, budget: u16) -> Nanos
     requires shape { IsShape shape.now }
-    requires budget { budget ≤ 1000 }
+    requires budget { budget ≤ thousandths }
     ensures { result ≡ allowance shape.now budget }
 {
     u64::from(budget) * shape.whole() / u64::from(shape.parts)
@@ -242,10 +242,10 @@ fn allowance(shape: &Shape, budget: u16) -> Nanos
 
 /// What each partition used in the window at a tick.
 fn usage_at(core: &Core, tick: u64) -> Usage
-    requires early { tick ≤ 100000000 }
+    requires early { tick ≤ last_tick }
     requires few { length core.now.entries ≤ most_entries }
     ensures same { IsUsage (state_of core.now).shape.tick (tick + 1 - (state_of core.now).shape.window) (tick + 1) core.now.entries result }
-    ensures small { IsAtMost 100000000000000 result }
+    ensures small { IsAtMost most_used result }
 {
     let history = core.history();
     let shape = history.shape();
@@ -256,7 +256,7 @@ fn usage_at(core: &Core, tick: u64) -> Usage
 
 /// How each partition stands by what it used.
 fn parts_of(alloc: Global, core: &Core, usage: &Usage) -> Result<Vec<PartFacts>, NoMemory>
-    requires { IsAtMost 100000000000000 usage.now }
+    requires { IsAtMost most_used usage.now }
     ensures same { IfOk result (λ parts. parts.items
         ≡ map (part_by (state_of core.now).shape (state_of core.now).rows usage.now) (range_with_len 0 (length (state_of core.now).rows))) }
     ensures small { IfOk result (λ parts. All IsSmall parts.items) }
@@ -277,7 +277,7 @@ fn part_by(shape: &Shape, row: &PartitionRow, usage: &Usage, p: usize) -> PartFa
     requires shape { IsShape shape.now }
     requires row { IsRow row.now }
     requires p { p < most_partitions }
-    requires small { IsAtMost 100000000000000 usage.now }
+    requires small { IsAtMost most_used usage.now }
     ensures same { result ≡ part_by_row shape.now row.now usage.now p }
     ensures small { IsSmall result }
 {

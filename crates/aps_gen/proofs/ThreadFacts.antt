@@ -7,6 +7,7 @@ use Rattle.std.specs.Str.{bytes_eq}
 use Rattle.aps_model.specs.Name.{IsName}
 use Rattle.aps_model.specs.declared.scenario.ThreadRow.{ThreadRow}
 use Rattle.aps_model.specs.declared.program.Op.TheVariants.{Forever}
+use Rattle.aps_model.specs.Limits.{last_cpu, most_cpus, most_partitions, most_threads}
 use Rattle.aps_model.specs.Program.{IsOp}
 use Rattle.aps_model.specs.Valid.{IsThreadRow}
 use Rattle.aps_gen.specs.Draws.{next, drawn}
@@ -21,7 +22,7 @@ name_of row = row.name
 drawn-below : (n state : ℕ) → 0 < n → drawn n state < n
 drawn-below n state some = omega arith
 
-module _ (k : ℕ) (few : k ≤ 32) (names : List (List ℕ)) where
+module _ (k : ℕ) (few : k ≤ most_partitions) (names : List (List ℕ)) where
   -- threads of the first k partitions, whose places rise from low to high, at most so many
   record AreGood (low high most : ℕ) (rows : List ThreadRow) : Type 0 where
     pub each : All (IsThreadRow k 1 names) rows
@@ -50,7 +51,7 @@ module _ (k : ℕ) (few : k ≤ 32) (names : List (List ℕ)) where
 
   -- ---- one thread
 
-  endless-valid : (i j state : ℕ) → i < k → j ≤ 15 → IsThreadRow k 1 names (endless i j state)
+  endless-valid : (i j state : ℕ) → i < k → j ≤ last_cpu → IsThreadRow k 1 names (endless i j state)
   endless-valid i j state within few_j =
       let below = drawn-below 8 (next state) (omega arith) in
       record {
@@ -91,7 +92,7 @@ module _ (k : ℕ) (few : k ≤ 32) (names : List (List ℕ)) where
 
   -- ---- many
 
-  endless-good : (i left j state : ℕ) → i < k → j + left ≤ 16 → AreGood (1 + 100 * i + j) (51 + 100 * i) left (endless_from i j left state)
+  endless-good : (i left j state : ℕ) → i < k → j + left ≤ most_cpus → AreGood (1 + 100 * i + j) (51 + 100 * i) left (endless_from i j left state)
   unfolding endless_from
   endless-good i zero j state within fits = good-none (1 + 100 * i + j) (51 + 100 * i) (omega arith)
   endless-good i (suc left) j state within fits =
@@ -110,7 +111,7 @@ module _ (k : ℕ) (few : k ≤ 32) (names : List (List ℕ)) where
       let place : thread_place (client (suc i) state).name ≡ 52 + 100 * suc i = client_place (suc i) (omega arith) in
       good-one _ _ (client (suc i) state) (client-valid (suc i) state within) (omega arith) (omega arith)
 
-  partition-good : (m i state : ℕ) → i < k → m ≤ 16 → AreGood (1 + 100 * i) (1 + 100 * (i + 1)) 18 (partition_threads m i state)
+  partition-good : (m i state : ℕ) → i < k → m ≤ most_cpus → AreGood (1 + 100 * i) (1 + 100 * (i + 1)) 18 (partition_threads m i state)
   partition-good m i state within few_m =
       let first : AreGood (1 + 100 * i + 0) (51 + 100 * i) m (endless_from i 0 m state) = endless-good i m 0 state within (omega arith) in
       let place : thread_place (worker i (after_endless m state)).name ≡ 51 + 100 * i = worker_place i (omega arith) in
@@ -121,7 +122,7 @@ module _ (k : ℕ) (few : k ≤ 32) (names : List (List ℕ)) where
       let count = all.count in
       record { each = all.each; rising = Rising-lower thread_place (1 + 100 * i) (1 + 100 * i + 0) _ _ (omega arith) all.rising; count = omega arith }
 
-  threads-good : (m left i state : ℕ) → m ≤ 16 → i + left ≤ k → AreGood (1 + 100 * i) (1 + 100 * (i + left)) (18 * left) (threads_from m i left state)
+  threads-good : (m left i state : ℕ) → m ≤ most_cpus → i + left ≤ k → AreGood (1 + 100 * i) (1 + 100 * (i + left)) (18 * left) (threads_from m i left state)
   unfolding threads_from
   threads-good m zero i state few_m within = record { each = All-nil (IsThreadRow k 1 names); rising = omega arith; count = omega arith }
   threads-good m (suc left) i state few_m within =
@@ -136,9 +137,9 @@ module _ (k : ℕ) (few : k ≤ 32) (names : List (List ℕ)) where
   pub record AreThreads (rows : List ThreadRow) : Type 0 where
     pub each : All (IsThreadRow k 1 names) rows
     pub distinct : IsDistinct bytes_eq (map name_of rows)
-    pub count : length rows ≤ 1024
+    pub count : length rows ≤ most_threads
 
-  pub threads-valid : (m state : ℕ) → m ≤ 16 → 1 ≤ k → AreThreads (server ∷ threads_from m 0 k state)
+  pub threads-valid : (m state : ℕ) → m ≤ most_cpus → 1 ≤ k → AreThreads (server ∷ threads_from m 0 k state)
   threads-valid m state few_m some =
       let named : IsName server.name = record { some = omega arith; few = omega arith; bytes = refl } in
       let valid : IsThreadRow k 1 names server = record {

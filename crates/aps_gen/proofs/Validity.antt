@@ -3,6 +3,7 @@ use lib.Chars.{codes}
 use Rattle.std.proofs.Common.{◌≡◌, [], ◌∷◌, length, inl, refl, arith}
 use Rattle.std.proofs.lemmas.List.Elements.{All-nil, All-from_recursion}
 use Rattle.std.specs.List.{IsDistinct}
+use Rattle.aps_model.specs.Limits.{percent}
 use Rattle.aps_model.specs.Name.{IsName}
 use Rattle.aps_model.specs.Valid.{IsCommand, joinable}
 use Rattle.aps_gen.specs.Generated.{generated, rows}
@@ -39,5 +40,5 @@ generated_valid seed m k ticks some_cpu few_cpus some_partition few_partitions s
       threads = rw count threads.each;
       thread_names = threads.distinct;
       few_commands = omega arith;
-      commands = All-nil (IsCommand 100 ticks (length (generated seed m k ticks).threads));
+      commands = All-nil (IsCommand percent ticks (length (generated seed m k ticks).threads));
     }

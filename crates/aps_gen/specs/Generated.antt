@@ -9,6 +9,7 @@ use Rattle.aps_model.specs.declared.scenario.Policy.{Policy}
 use Rattle.aps_model.specs.declared.scenario.Policy.TheVariants.{Fifo, Rr}
 use Rattle.aps_model.specs.declared.program.Op.{Op}
 use Rattle.aps_model.specs.declared.program.Op.TheVariants.{Run, Forever, Sleep, Send, Receive, Reply, Repeat}
+use Rattle.aps_model.specs.Limits.{percent}
 use Rattle.aps_model.specs.Scenario.{Scenario}
 use Rattle.aps_gen.specs.Draws.{next, drawn}
 use Rattle.aps_gen.specs.Names.{partition_name, endless_name, worker_name, client_name}
@@ -16,7 +17,14 @@ use Rattle.aps_gen.specs.Names.{partition_name, endless_name, worker_name, clien
 -- ---- threads
 
 abbrev pub thread : List ℕ → ℕ → ℕ → Policy → List Op → ThreadRow
-thread name partition priority policy program = record { name = name; partition = partition; priority = priority; policy = policy; critical = false; program = program }
+thread name partition priority policy program = record {
+  name = name;
+  partition = partition;
+  priority = priority;
+  policy = policy;
+  critical = false;
+  program = program;
+}
 
 abbrev pub server : ThreadRow
 server = thread (codes "srv") 0 20 Fifo (Receive 0 ∷ Run 50000 ∷ Reply ∷ Repeat ∷ [])
@@ -41,7 +49,8 @@ after_endless (suc left) state = after_endless left (next (next state))
 -- the worker of partition i: a draw for its run, then one for its sleep
 abbrev pub worker : ℕ → ℕ → ThreadRow
 worker i state =
-    thread (worker_name i) i 18 Fifo (Run (100000 + drawn 900000 (next state)) ∷ Sleep (1 + drawn 5000000 (next (next state))) ∷ Repeat ∷ [])
+    thread (worker_name i) i 18 Fifo
+    (Run (100000 + drawn 900000 (next state)) ∷ Sleep (1 + drawn 5000000 (next (next state))) ∷ Repeat ∷ [])
 
 -- the client of partition i: a draw for its sleep
 abbrev pub client : ℕ → ℕ → ThreadRow
@@ -76,15 +85,15 @@ threads_from m i (suc left) state = partition_threads m i state ++ threads_from 
 
 -- the budget of each partition but the root
 abbrev pub share : ℕ → ℕ
-share k = 100 / k
+share k = percent / k
 
 abbrev pub row : List ℕ → ℕ → PartitionRow
-row name budget = record { name = name; parent = 0; budget = budget; critical = 0; max = 100 }
+row name budget = record { name = name; parent = 0; budget = budget; critical = 0; max = percent }
 
 -- k partitions: the root has what the others leave
 abbrev pub rows : ℕ → List PartitionRow
 rows k =
-    row (codes "System") (100 - (k - 1) * share k)
+    row (codes "System") (percent - (k - 1) * share k)
     ∷ map (λ i. row (partition_name i) (share k)) (range_with_len 1 (k - 1))
 
 -- ---- the whole
@@ -93,7 +102,7 @@ rows k =
 abbrev pub generated : ℕ → ℕ → ℕ → ℕ → Scenario
 generated seed m k ticks = record {
   shape = record {
-    parts = 100;
+    parts = percent;
     cpus = m;
     tick = 1000000;
     window = 100;

@@ -1,5 +1,6 @@
 //! The names of partitions and threads.
 ghost use Rattle.std.specs.Prelude.{◌≡◌, ◌≤◌, IfOk, codes, string_bytes};
+ghost use Rattle.aps_model.specs.Limits.{last_cpu, last_partition};
 ghost use Rattle.aps_model.specs.Name.{IsName};
 ghost use Rattle.aps_gen.specs.Names as spec;
 
@@ -18,7 +19,7 @@ fn name_of(text: &String) -> Name
 
 #[tactic(auto, using(crate::proofs::NameFacts::is_partition_name))]
 pub fn partition_name(alloc: Global, i: u8) -> Result<Name, NoMemory>
-    requires { i ≤ 31 }
+    requires { i ≤ last_partition }
     ensures { IfOk result (λ name. name ≡ spec.partition_name i) }
 {
     let text = format!(in alloc; "P{i}")?;
@@ -27,8 +28,8 @@ pub fn partition_name(alloc: Global, i: u8) -> Result<Name, NoMemory>
 
 #[tactic(auto, using(crate::proofs::NameFacts::is_endless_name))]
 pub fn endless_name(alloc: Global, i: u8, j: u8) -> Result<Name, NoMemory>
-    requires partition { i ≤ 31 }
-    requires thread { j ≤ 15 }
+    requires partition { i ≤ last_partition }
+    requires thread { j ≤ last_cpu }
     ensures { IfOk result (λ name. name ≡ spec.endless_name i j) }
 {
     let text = format!(in alloc; "t{i}_{j}")?;
@@ -37,7 +38,7 @@ pub fn endless_name(alloc: Global, i: u8, j: u8) -> Result<Name, NoMemory>
 
 #[tactic(auto, using(crate::proofs::NameFacts::is_worker_name))]
 pub fn worker_name(alloc: Global, i: u8) -> Result<Name, NoMemory>
-    requires { i ≤ 31 }
+    requires { i ≤ last_partition }
     ensures { IfOk result (λ name. name ≡ spec.worker_name i) }
 {
     let text = format!(in alloc; "w{i}")?;
@@ -46,7 +47,7 @@ pub fn worker_name(alloc: Global, i: u8) -> Result<Name, NoMemory>
 
 #[tactic(auto, using(crate::proofs::NameFacts::is_client_name))]
 pub fn client_name(alloc: Global, i: u8) -> Result<Name, NoMemory>
-    requires { i ≤ 31 }
+    requires { i ≤ last_partition }
     ensures { IfOk result (λ name. name ≡ spec.client_name i) }
 {
     let text = format!(in alloc; "cl{i}")?;

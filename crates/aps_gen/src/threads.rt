@@ -2,7 +2,7 @@
 ghost use Rattle.std.specs.Prelude.{◌≡◌, ◌<◌, ◌≤◌, ◌++◌, [], ◌∷◌, OnOk, IfOk};
 ghost use Rattle.aps_gen.specs.Draws.{next};
 ghost use Rattle.aps_gen.specs.Generated as spec;
-ghost use Rattle.aps_model.specs.Limits.{most_cpus, most_partitions};
+ghost use Rattle.aps_model.specs.Limits.{last_cpu, last_partition, most_cpus, most_partitions};
 
 use crate::draws::Draws;
 use crate::names::{client_name, endless_name, worker_name};
@@ -32,8 +32,8 @@ fn server(alloc: Global) -> Result<ThreadRow, NoMemory>
 
 /// Endless thread `j` of partition `i`.
 fn endless(alloc: Global, draws: &mut Draws, i: u8, j: u8) -> Result<ThreadRow, NoMemory>
-    requires partition { i ≤ 31 }
-    requires thread { j ≤ 15 }
+    requires partition { i ≤ last_partition }
+    requires thread { j ≤ last_cpu }
     ensures thread { IfOk result (λ thread. thread ≡ spec.endless i j draws.old.state) }
     ensures drawn { OnOk result (draws.new.state ≡ next (next draws.old.state)) }
 {
@@ -57,7 +57,7 @@ fn endless(alloc: Global, draws: &mut Draws, i: u8, j: u8) -> Result<ThreadRow, 
 
 /// The worker of partition `i`, which runs and sleeps by turns.
 fn worker(alloc: Global, draws: &mut Draws, i: u8) -> Result<ThreadRow, NoMemory>
-    requires { i ≤ 31 }
+    requires { i ≤ last_partition }
     ensures thread { IfOk result (λ thread. thread ≡ spec.worker i draws.old.state) }
     ensures drawn { OnOk result (draws.new.state ≡ spec.after_worker draws.old.state) }
 {
@@ -77,7 +77,7 @@ fn worker(alloc: Global, draws: &mut Draws, i: u8) -> Result<ThreadRow, NoMemory
 
 /// The client of partition `i`, which asks the server and sleeps by turns.
 fn client(alloc: Global, draws: &mut Draws, i: u8) -> Result<ThreadRow, NoMemory>
-    requires { i ≤ 31 }
+    requires { i ≤ last_partition }
     ensures thread { IfOk result (λ thread. thread ≡ spec.client i draws.old.state) }
     ensures drawn { OnOk result (draws.new.state ≡ next draws.old.state) }
 {
@@ -103,7 +103,7 @@ fn add_endless(
     i: u8,
 ) -> Result<(), NoMemory>
     requires cpus { cpus ≤ most_cpus }
-    requires partition { i ≤ 31 }
+    requires partition { i ≤ last_partition }
     ensures threads { OnOk result (threads.new.items ≡ threads.old.items ++ spec.endless_from i 0 cpus draws.old.state) }
     ensures drawn { OnOk result (draws.new.state ≡ spec.after_endless cpus draws.old.state) }
 {
@@ -120,7 +120,7 @@ fn add_client(
     draws: &mut Draws,
     i: u8,
 ) -> Result<(), NoMemory>
-    requires { i ≤ 31 }
+    requires { i ≤ last_partition }
     ensures threads { OnOk result (threads.new.items ≡ threads.old.items ++ spec.clients i draws.old.state) }
     ensures drawn { OnOk result (draws.new.state ≡ spec.after_clients i draws.old.state) }
 {
@@ -139,7 +139,7 @@ fn add_partition(
     i: u8,
 ) -> Result<(), NoMemory>
     requires cpus { cpus ≤ most_cpus }
-    requires partition { i ≤ 31 }
+    requires partition { i ≤ last_partition }
     ensures threads { OnOk result (threads.new.items ≡ threads.old.items ++ spec.partition_threads cpus i draws.old.state) }
     ensures drawn { OnOk result (draws.new.state ≡ spec.after_partition cpus i draws.old.state) }
 {

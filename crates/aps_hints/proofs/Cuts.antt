@@ -3,15 +3,15 @@ use Rattle.std.proofs.Common.{◌≡◌, ℕ, zero, suc, ◌+◌, ◌≤◌, ◌
 use Rattle.std.specs.List.{list_all}
 use Rattle.std.proofs.lemmas.List.{take_all, take-append-le, map_more, map-append}
 use Rattle.std.proofs.lemmas.List.Folds.{list_all-append}
-use Rattle.aps_hints.specs.Line.{is_shown, shown, shown_text, cut, IsLine}
+use Rattle.aps_hints.specs.Line.{is_shown, shown, shown_text, most_bytes, cut, IsLine}
 
 -- one byte more, where there is room
-pub cut_more : (old : List ℕ) (x : ℕ) → length old < 600 → cut (old ++ (x ∷ [])) ≡ old ++ (x ∷ [])
-cut_more old x room = take_all 600 (old ++ (x ∷ [])) (omega (arith, length-append old (x ∷ [])))
+pub cut_more : (old : List ℕ) (x : ℕ) → length old < most_bytes → cut (old ++ (x ∷ [])) ≡ old ++ (x ∷ [])
+cut_more old x room = take_all most_bytes (old ++ (x ∷ [])) (omega (arith, length-append old (x ∷ [])))
 
 -- nothing more, where there is none
-pub cut_full : (old more : List ℕ) → 600 ≤ length old → length old ≤ 600 → cut (old ++ more) ≡ old
-cut_full old more full short = take-append-le 600 old more full ∙ take_all 600 old short
+pub cut_full : (old more : List ℕ) → most_bytes ≤ length old → length old ≤ most_bytes → cut (old ++ more) ≡ old
+cut_full old more full short = take-append-le most_bytes old more full ∙ take_all most_bytes old short
 
 take_cut : (n : ℕ) (a b : List ℕ) → take n (take n a ++ b) ≡ take n (a ++ b)
 take_cut zero a b = refl
@@ -20,7 +20,7 @@ take_cut (suc n) (x ∷ a) b = ap (λ rest. x ∷ rest) (take_cut n a b)
 
 -- a text that is cut twice
 pub cut_again : (a b : List ℕ) → cut (cut a ++ b) ≡ cut (a ++ b)
-cut_again a b = take_cut 600 a b
+cut_again a b = take_cut most_bytes a b
 
 pub shown_is_shown : (x : ℕ) → is_shown (shown x) ≡ true
 shown_is_shown x = by_test (is_shown x) refl where
@@ -33,7 +33,7 @@ pub shown_more : (old : List ℕ) (x : ℕ) → list_all is_shown old ≡ true �
 shown_more old x h = list_all-append is_shown old (shown x ∷ []) ∙ grind (arith, h, shown_is_shown x)
 
 -- a line to which such a byte was written, if there was memory
-pub line_more : (old new : List ℕ) (x : ℕ) (written : Bool) → IsLine old → length old < 600
+pub line_more : (old new : List ℕ) (x : ℕ) (written : Bool) → IsLine old → length old < most_bytes
     → new ≡ (if written then old ++ (shown x ∷ []) else old) → IsLine new
 line_more old new x true is room same = subst IsLine (sym same) (record {
   short = omega (arith, room, length-append old (shown x ∷ []));
@@ -53,13 +53,13 @@ text_more old text i mid new h was now =
 -- nothing written so far
 pub text_none : (old items : List ℕ) → old ≡ items → IsLine items → old ≡ cut (old ++ [])
 text_none old items same is =
-    sym (ap cut (append-nil old) ∙ take_all 600 old (subst (λ (l : List ℕ). length l ≤ 600) (sym same) is.short))
+    sym (ap cut (append-nil old) ∙ take_all most_bytes old (subst (λ (l : List ℕ). length l ≤ most_bytes) (sym same) is.short))
 
 -- a full line
-pub line_full : (old items more : List ℕ) → old ≡ items → IsLine items → 600 ≤ length items → old ≡ cut (old ++ more)
+pub line_full : (old items more : List ℕ) → old ≡ items → IsLine items → most_bytes ≤ length items → old ≡ cut (old ++ more)
 line_full old items more same is full =
-    sym (cut_full old more (subst (λ (l : List ℕ). 600 ≤ length l) (sym same) full)
-    (subst (λ (l : List ℕ). length l ≤ 600) (sym same) is.short))
+    sym (cut_full old more (subst (λ (l : List ℕ). most_bytes ≤ length l) (sym same) full)
+    (subst (λ (l : List ℕ). length l ≤ most_bytes) (sym same) is.short))
 
 -- one text more behind what is shown
 pub shown_step : (text piece mid new : List ℕ) → mid ≡ cut (shown_text text) → new ≡ cut (mid ++ shown_text piece)

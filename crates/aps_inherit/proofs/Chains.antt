@@ -5,6 +5,7 @@ use Rattle.std.proofs.lemmas.List.{get_or-set_same, get_or-set_other, get_or-rep
 use Rattle.std.proofs.lemmas.List.Sums.{sum_by-set, count_by-le-length}
 use Rattle.std.proofs.lemmas.List.Folds.{sum_by-replicate}
 use Rattle.std.proofs.lemmas.Bool.{cases_eq, cases_lt}
+use Rattle.aps_model.specs.Limits.{last_thread, most_threads}
 use Rattle.aps_inherit.specs.declared.order.Link.{Link}
 use Rattle.aps_inherit.specs.Order.{AreApart, after_in, first_of, has, without}
 use Rattle.aps_inherit.specs.Links.{IsLinked, after_link, chain, next_first, link_at, link_in, listed, put_after, put_before, with_after, with_before}
@@ -226,7 +227,7 @@ second_is x (z ∷ zs) y = by (nat_eq z y)
     by false = refl
 
 pub IsLinked-first : (links : List (Option Link)) (first : Option ℕ) (xs : List ℕ) (x : ℕ)
-    → IsLinked links first xs → has xs x ≡ false → x < 1024
+    → IsLinked links first xs → has xs x ≡ false → x < most_threads
     → IsLinked (slice_set (with_before links first (Some x)) x (Some (record { before = None; after = first }))) (Some x) (x ∷ xs)
 IsLinked-first links first xs x h new lt = record {
   begins = refl;
@@ -489,7 +490,7 @@ after_in-link before (x ∷ xs) y = by (nat_eq x y) ∙ ap (λ (o : Option ℕ).
 
 -- ---- no links
 
-pub IsLinked-none : (links : List (Option Link)) (n : ℕ) → links ≡ replicate n None → n ≡ 1024 → IsLinked links None []
+pub IsLinked-none : (links : List (Option Link)) (n : ℕ) → links ≡ replicate n None → n ≡ most_threads → IsLinked links None []
 IsLinked-none links n e few = record {
   begins = refl;
   places = λ y. nothing y (cases_lt y n);
@@ -506,7 +507,7 @@ IsLinked-none links n e few = record {
 -- ---- what the calls leave, from what their callees say
 
 pub put_first_linked : (links moved : List (Option Link)) (first : Option ℕ) (xs : List ℕ) (x place : ℕ)
-    → IsLinked links first (listed links first) → listed links first ≡ xs → has xs x ≡ false → place ≡ x → place ≤ 1023
+    → IsLinked links first (listed links first) → listed links first ≡ xs → has xs x ≡ false → place ≡ x → place ≤ last_thread
     → moved ≡ with_before links first (Some x)
     → IsLinked (slice_set moved place (Some (record { before = None; after = first }))) (Some x) (x ∷ xs)
 put_first_linked links moved first xs x place linked is new at_x small e =

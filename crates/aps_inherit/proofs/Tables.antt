@@ -4,6 +4,7 @@ use Rattle.std.proofs.lemmas.Bool.{cases_eq}
 use Rattle.std.proofs.lemmas.List.{get_or-set_same, get_or-set_other, length-set}
 use Rattle.aps_model.specs.SchedulerState.{Triple}
 use Rattle.aps_model.specs.Inherit.{IsFree, triple_of, without_server}
+use Rattle.aps_model.specs.Limits.{last_thread}
 use Rattle.aps_inherit.specs.Order.{AreApart, has, without}
 use Rattle.aps_inherit.specs.Serving.{server_of, servers}
 use Rattle.aps_inherit.specs.Table.{IsTable, no_triple, tabled}
@@ -61,7 +62,7 @@ pub IsTable-add : (order order' : List ℕ) (by_server : List (Option Triple)) (
     → IsTable order by_server by_client (tabled by_server order) → tabled by_server order ≡ ts
     → IsFree ts t.server → server_of ts t.client ≡ None → t.server ≢ t.client
     → order' ≡ server ∷ order → server ≡ t.server
-    → server_place ≡ server → server_place ≤ 1023 → client_place ≡ t.client → client_place ≤ 1023
+    → server_place ≡ server → server_place ≤ last_thread → client_place ≡ t.client → client_place ≤ last_thread
     → IsTable order' (slice_set by_server server_place (Some t)) (slice_set by_client client_place (Some server)) (t ∷ ts)
 IsTable-add order order' by_server by_client ts t server server_place client_place table is free alone other e1 e2 e3 small_s e4 small_c =
     rw (e3, e2, e4) (record {
@@ -87,7 +88,7 @@ pub IsTable-without : (order order' : List ℕ) (by_server : List (Option Triple
     (server_place client_place : ℕ)
     → IsTable order by_server by_client (tabled by_server order) → tabled by_server order ≡ ts
     → triple_of ts x ≡ Some t → order' ≡ without order x
-    → server_place ≡ x → server_place ≤ 1023 → client_place ≡ t.client → client_place ≤ 1023
+    → server_place ≡ x → server_place ≤ last_thread → client_place ≡ t.client → client_place ≤ last_thread
     → IsTable order' (slice_set by_server server_place None) (slice_set by_client client_place None) (without_server ts x)
 IsTable-without order order' by_server by_client ts x t server_place client_place table is found e1 e2 small_s e3 small_c =
     rw (e2, e3) (record {

@@ -13,6 +13,7 @@ use Rattle.aps_model.specs.declared.state.State.{State}
 use Rattle.aps_model.specs.declared.state.State.TheVariants.{Running, Sending, Replying}
 use Rattle.aps_model.specs.After.{state_after}
 use Rattle.aps_model.specs.History.{IsEntry}
+use Rattle.aps_model.specs.Limits.{longest_tick, most_entries}
 use Rattle.aps_model.specs.Report.{length_of}
 use Rattle.aps_model.specs.Scenario.{Scenario, op_at}
 use Rattle.aps_model.specs.SchedulerState.{thread_at}
@@ -82,24 +83,24 @@ news_small n k calls moment (Served ns) short small =
 news_small n k calls moment (Answered ns) short small = tt
 
 from_small : (scenario : Scenario) (x n : ℕ) (calls : Calls) (h es : List Entry) → AllByRecursion IsEntry es → IsServedAtMost n calls.current
-    → IsServedAtMost (n + length es * 10000000) (calls_from scenario x calls h es).current
-from_small scenario x n calls h [] entries small = at_most_more n (n + 0 * 10000000) calls.current (omega arith) small
+    → IsServedAtMost (n + length es * longest_tick) (calls_from scenario x calls h es).current
+from_small scenario x n calls h [] entries small = at_most_more n (n + 0 * longest_tick) calls.current (omega arith) small
 from_small scenario x n calls h (e ∷ es) entries small =
     let s = state_after scenario h in
     let time = time_in scenario x (thread_at s x).place (thread_at s x).state e in
     let short = entries.0.short in
     let next = with_next scenario s x calls e in
-    let here : IsServedAtMost (n + 10000000) next.current = news_small n 10000000 calls e.to (news_of scenario s x e) (omega (arith, time, short)) small in
-    at_most_more (n + 10000000 + length es * 10000000) (n + length (e ∷ es) * 10000000) (calls_from scenario x next (h ++ e ∷ []) es).current (omega arith)
-    (from_small scenario x (n + 10000000) next (h ++ e ∷ []) es entries.1 here)
+    let here : IsServedAtMost (n + longest_tick) next.current = news_small n longest_tick calls e.to (news_of scenario s x e) (omega (arith, time, short)) small in
+    at_most_more (n + longest_tick + length es * longest_tick) (n + length (e ∷ es) * longest_tick) (calls_from scenario x next (h ++ e ∷ []) es).current (omega arith)
+    (from_small scenario x (n + longest_tick) next (h ++ e ∷ []) es entries.1 here)
 
-pub calls_small : (scenario : Scenario) (h : List Entry) (x : ℕ) → All IsEntry h → length h ≤ 4000000 → HasRoom (calls_of scenario h x).current
+pub calls_small : (scenario : Scenario) (h : List Entry) (x : ℕ) → All IsEntry h → length h ≤ most_entries → HasRoom (calls_of scenario h x).current
 unfolding calls_of
 calls_small scenario h x entries few =
-    at_most_more (0 + length h * 10000000) 9223372036854775808 (calls_from scenario x no_calls [] h).current (omega (arith, few))
+    at_most_more (0 + length h * longest_tick) 9223372036854775808 (calls_from scenario x no_calls [] h).current (omega (arith, few))
     (from_small scenario x 0 no_calls [] h (recursion_from_All IsEntry h entries) tt)
 
-pub have_room : (scenario : Scenario) (h : List Entry) (calls : List Calls) → AreCalls scenario h calls → All IsEntry h → length h ≤ 4000000 → HaveRoom calls
+pub have_room : (scenario : Scenario) (h : List Entry) (calls : List Calls) → AreCalls scenario h calls → All IsEntry h → length h ≤ most_entries → HaveRoom calls
 have_room scenario h calls are entries few =
     λ x less. let count = are.count in
     subst (λ (c : Calls). HasRoom c.current) (sym (are.each x (omega (arith, less, count)))) (calls_small scenario h x entries few)

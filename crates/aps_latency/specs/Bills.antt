@@ -47,7 +47,8 @@ pub record AreBilled (before : List Usage) (e : Entry) (after : List Usage) : Ty
   pub count : length after ≡ length before
   pub each : (x p : ℕ) → x < most_threads → p < most_partitions → bill_at after x p ≡ bill_at before x p + billed_in x p e
   pub critical : (x p : ℕ) → x < most_threads → p < most_partitions → critical_at after x p ≡ critical_at before x p + critical_in x p e
-  pub small : (most x : ℕ) → x < most_threads → IsAtMost most (slice_index_or before x no_bills) → IsAtMost (most + length_of e) (slice_index_or after x no_bills)
+  pub small : (most x : ℕ) → x < most_threads → IsAtMost most (slice_index_or before x no_bills)
+      → IsAtMost (most + length_of e) (slice_index_or after x no_bills)
 
 -- the time of one entry more can be added to each
 pub record HaveRoom (bills : List Usage) : Type 0 where

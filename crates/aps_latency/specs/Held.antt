@@ -15,5 +15,7 @@ pub record IsHeldByState (s : SchedulerState) : Type 0 where
 
 -- an entry's time counts as served for the client that its thread holds, and for nobody else
 pub record IsCountedOnce (scenario : Scenario) (s : SchedulerState) (e : Entry) : Type 0 where
-  pub client : (server client : ℕ) → e.ran ≡ Some server → client_of s.triples server ≡ Some client → time_of (news_of scenario s client e) ≡ length_of e
-  pub nobody_else : (x : ℕ) → 0 < time_of (news_of scenario s x e) → (server : ℕ) × (e.ran ≡ Some server) × (client_of s.triples server ≡ Some x)
+  pub client : (server client : ℕ) → e.ran ≡ Some server → client_of s.triples server ≡ Some client
+      → time_of (news_of scenario s client e) ≡ length_of e
+  pub nobody_else : (x : ℕ) → 0 < time_of (news_of scenario s x e)
+      → (server : ℕ) × (e.ran ≡ Some server) × (client_of s.triples server ≡ Some x)

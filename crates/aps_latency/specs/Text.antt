@@ -49,7 +49,8 @@ bill_lines billed = flat_map (λ p. bill_line p (billed p)) (range_with_len 0 mo
 
 abbrev pub tally_lines : Waits → Tally → List ℕ
 tally_lines waits cycles =
-    codes "wake " ++ (tally_text waits.wake ++ (codes "preempted " ++ (tally_text waits.preempted ++ (codes "cycle " ++ tally_text cycles))))
+    codes "wake " ++ (tally_text waits.wake
+    ++ (codes "preempted " ++ (tally_text waits.preempted ++ (codes "cycle " ++ tally_text cycles))))
 
 abbrev pub open_ready : Segment → List ℕ
 open_ready segment = codes "open ready " ++ (decimal (segment.to - segment.from) ++ (codes " at " ++ (decimal segment.from ++ codes "\n")))
@@ -95,7 +96,9 @@ answered_lines c name answered =
 abbrev pub open_call : ℕ → ℕ → List ℕ → Asked → List ℕ
 open_call end c name asked =
     if nat_eq asked.channel c
-    then codes "open call " ++ (decimal c ++ (codes " " ++ (name ++ (codes " " ++ (decimal (end - asked.begin) ++ (codes " at " ++ (decimal asked.begin ++ codes "\n")))))))
+    then codes "open call "
+    ++ (decimal c ++ (codes " "
+    ++ (name ++ (codes " " ++ (decimal (end - asked.begin) ++ (codes " at " ++ (decimal asked.begin ++ codes "\n")))))))
     else []
 
 abbrev pub current_line : ℕ → ℕ → List ℕ → Option Asked → List ℕ

@@ -1,7 +1,7 @@
 //! What each thread ran on the bill of each partition.
 ghost use Rattle.std.specs.Prelude.{◌≡◌, ◌≤◌, ◌-◌, All, length, replicate, IfOk};
 ghost use Rattle.aps_model.specs.History.{IsEntry};
-ghost use Rattle.aps_model.specs.Limits.{most_threads};
+ghost use Rattle.aps_model.specs.Limits.{greatest_u32, most_threads};
 ghost use Rattle.aps_latency.specs.Bills as spec;
 
 use aps_model::limits::{MOST_PARTITIONS, MOST_THREADS};
@@ -12,7 +12,7 @@ use std::alloc::Global;
 /// a place for each number that a thread can have. `NoMemory` comes where memory runs out.
 pub fn bills(alloc: Global, entries: &[Entry]) -> Result<Vec<Usage>, NoMemory>
     requires entries { All IsEntry entries.now }
-    requires few { length entries.now ≤ 4294967295 }
+    requires few { length entries.now ≤ greatest_u32 }
     ensures { IfOk result (λ bills. spec.AreBills entries.now bills.items) }
 {
     let mut bills = nothing(alloc)?;

@@ -9,6 +9,7 @@ use Rattle.aps_model.specs.declared.state.CpuNow.{CpuNow}
 use Rattle.aps_model.specs.declared.state.Pick.{Pick}
 use Rattle.aps_model.specs.declared.state.State.TheVariants.{Running}
 use Rattle.aps_model.specs.declared.state.ThreadNow.{ThreadNow}
+use Rattle.aps_model.specs.Limits.{greatest_priority}
 use Rattle.aps_laws.specs.Between.{IsBetween, IsWellFormed, after_bill, after_tick, before_pick}
 use Rattle.aps_laws.specs.Moments.{IsGrounded}
 use Rattle.aps_laws.specs.Sizes.{IsSameSizes}
@@ -65,7 +66,7 @@ well scenario now s plain threads cpus sizes fit since stamped lists = record {
   messages = lists.messages;
   inherited = λ x below.
       facts_fit s (length s.rows) x (λ y l. let f = fit y l in record { partition = f.partition; priority = f.priority })
-      (λ d. all_more (λ (k : Message). IsPriority k.priority) (λ (k : Message). k.priority ≤ 255) (channel_at s d).messages (λ k f. f.few) (lists.messages d))
+      (λ d. all_more (λ (k : Message). IsPriority k.priority) (λ (k : Message). k.priority ≤ greatest_priority) (channel_at s d).messages (λ k f. f.few) (lists.messages d))
       (all_more (λ (t : Triple). (t.server < length s.threads) × (t.client < length s.threads)) (λ (t : Triple). t.client < length s.threads) s.triples (λ t f. f.1) (pairs_within s plain.waiting)) below;
 }
 

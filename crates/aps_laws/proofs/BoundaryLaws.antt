@@ -9,6 +9,7 @@ use Rattle.std.proofs.lemmas.List.Sums.{AllPass-from_list_all}
 use Rattle.std.proofs.lemmas.List.Folds.{list_any-append, Any-from_list_any}
 use Rattle.aps_model.specs.declared.entry.Entry.{Entry}
 use Rattle.aps_model.specs.declared.entry.Order.{Order}
+use Rattle.aps_model.specs.Limits.{longest_tick, most_ticks}
 use Rattle.aps_laws.specs.Boundaries.{IsInTick, MeetsBoundaries, is_met, steps_at, ticks_begun}
 use Rattle.aps_laws.specs.Moments.{moment}
 use Rattle.aps_laws.specs.Sound.{IsNext}
@@ -100,9 +101,9 @@ entries_fit scenario order h r legal =
         let sizes = (sound scenario order r g (legal_last scenario order g e l).0).grounded.sizes in
         let near = boundary_near s.shape.tick e.from in
         let short = n.short in
-        let ticks : s.shape.ticks ≤ 1000000 = let a = r.shape.few_ticks in omega (arith, a, sizes.ticks) in
-        let tick : s.shape.tick ≤ 10000000 = let a = r.shape.tick_short in omega (arith, a, sizes.tick) in
-        let long : s.shape.ticks * s.shape.tick ≤ 1000000 * 10000000 = mul-le-mul ticks tick in
+        let ticks : s.shape.ticks ≤ most_ticks = let a = r.shape.few_ticks in omega (arith, a, sizes.ticks) in
+        let tick : s.shape.tick ≤ longest_tick = let a = r.shape.tick_short in omega (arith, a, sizes.tick) in
+        let long : s.shape.ticks * s.shape.tick ≤ most_ticks * longest_tick = mul-le-mul ticks tick in
         record {
           forward = n.forward;
           to = let w = n.within in omega (arith, w, long);

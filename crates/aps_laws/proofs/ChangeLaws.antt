@@ -15,6 +15,7 @@ use Rattle.aps_model.specs.declared.entry.Entry.{Entry}
 use Rattle.aps_model.specs.declared.entry.Order.{Order}
 use Rattle.aps_model.specs.declared.partition.PartitionRow.{PartitionRow}
 use Rattle.aps_model.specs.declared.shape.Shape.{Shape}
+use Rattle.aps_model.specs.Limits.{last_partition, most_partitions}
 use Rattle.aps_laws.specs.Changes.{AreInTicks, HasRoomForChanges, OnlyGrow, open_rows}
 use Rattle.aps_laws.specs.Grown.{AllAt}
 use Rattle.aps_laws.specs.Moments.{moment}
@@ -214,7 +215,7 @@ room scenario order h r legal =
     h legal (omega arith)
 
 -- the root has no critical budget at the start
-open_at_start : (rows : List PartitionRow) → (row_or_none rows 0).critical ≡ 0 → length rows ≤ 32 → open_rows rows ≤ 31
+open_at_start : (rows : List PartitionRow) → (row_or_none rows 0).critical ≡ 0 → length rows ≤ most_partitions → open_rows rows ≤ last_partition
 open_at_start [] none few = omega arith
 open_at_start (row ∷ rows) none few =
     let first : is_open row ≡ 0 = ap (λ n. cond (nat_lt 0 n) 1 0) none in

@@ -10,6 +10,7 @@ use Rattle.aps_model.specs.declared.state.CpuNow.{CpuNow}
 use Rattle.aps_model.specs.declared.state.Pick.{Pick}
 use Rattle.aps_model.specs.declared.state.State.{State}
 use Rattle.aps_model.specs.declared.state.State.TheVariants.{Ready, Running, Sleeping, Sending, Receiving, Replying, Gone}
+use Rattle.aps_model.specs.Limits.{greatest_priority}
 use Rattle.aps_laws.specs.Ids.{AreFactsFit, IsInRange, IsMessageFit, IsTripleFit, NamesKnown}
 use Rattle.aps_laws.specs.Sound.{IsSound}
 use Rattle.aps_laws.specs.ThreadFits.{Each, StandsAt}
@@ -77,7 +78,7 @@ inherited_fit : (scenario : Scenario) (a : After) (h : List Entry) → IsSound s
     → (x : ℕ) → x < length a.state.threads → AreFactsFit (length a.state.rows) (facts_of a.state x)
 inherited_fit scenario a h m fit lists x below =
     let s = a.state in
-    facts_fit s (length s.rows) x (own_fit scenario a h fit) (λ d. all_more (λ (k : Message). IsPriority k.priority) (λ (k : Message). k.priority ≤ 255) (channel_at s d).messages (λ k f. f.few) (lists.messages d))
+    facts_fit s (length s.rows) x (own_fit scenario a h fit) (λ d. all_more (λ (k : Message). IsPriority k.priority) (λ (k : Message). k.priority ≤ greatest_priority) (channel_at s d).messages (λ k f. f.few) (lists.messages d))
     (all_more (λ (t : Triple). (t.server < length s.threads) × (t.client < length s.threads)) (λ (t : Triple). t.client < length s.threads) s.triples (λ t f. f.1) (pairs_within s m.grounded.plain.waiting)) below
 
 -- all that is carried

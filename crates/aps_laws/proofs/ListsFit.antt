@@ -12,6 +12,7 @@ use Rattle.aps_model.specs.declared.program.Op.TheVariants.{Run, Forever, Sleep,
 use Rattle.aps_model.specs.declared.state.Pick.{Pick}
 use Rattle.aps_model.specs.declared.state.State.{State}
 use Rattle.aps_model.specs.declared.state.State.TheVariants.{Ready, Running, Sleeping, Sending, Receiving, Replying, Gone}
+use Rattle.aps_model.specs.Limits.{greatest_priority}
 use Rattle.aps_laws.specs.Bears.{NamesChannels}
 use Rattle.aps_laws.specs.Ids.{AreFactsFit}
 use Rattle.aps_laws.specs.ThreadFits.{Each}
@@ -246,6 +247,6 @@ step_lists scenario s h c rows st own m =
     let q = chosen r ps c best in
     lists_same channels r _ (lists_trans r q _ (chosen_lists r ps c best) (flagged_lists q now (flag_for q h ps c now (greatest r.shape.free ps (contenders q)))))
     (settled_lists scenario st.names s3 now running (λ p e.
-    (facts_fit s3 rows p.thread own3 (λ d. all_more (λ (k : Message). IsPriority k.priority) (λ (k : Message). k.priority ≤ 255) (channel_at s3 d).messages (λ k f. f.few) (lists.messages d))
+    (facts_fit s3 rows p.thread own3 (λ d. all_more (λ (k : Message). IsPriority k.priority) (λ (k : Message). k.priority ≤ greatest_priority) (channel_at s3 d).messages (λ k f. f.few) (lists.messages d))
     (all_more (λ (t : Triple). (t.server < length s3.threads) × (t.client < length s3.threads)) (λ (t : Triple). t.client < length s3.threads) s3.triples (λ t f. f.1) (pairs_within s3 mid.mid.plain.waiting))
     (running_within s3 p.thread c (mid.runs p e))).priority) lists))

@@ -11,6 +11,7 @@ use Rattle.aps_model.specs.declared.shape.Shape.{Shape}
 use Rattle.aps_model.specs.declared.state.State.{State}
 use Rattle.aps_model.specs.declared.state.State.TheVariants.{Ready, Running, Sleeping, Sending, Receiving, Replying, Gone}
 use Rattle.aps_model.specs.declared.state.ThreadNow.{ThreadNow}
+use Rattle.aps_model.specs.Limits.{last_moment, longest_call}
 use Rattle.aps_laws.specs.Stamps.{IsActive}
 use Rattle.aps_laws.specs.ThreadFits.{IsAwake, IsThreadFit, StandsAt}
 use Rattle.aps_laws.proofs.EachThread.{awake_in, sleep_or_awake}
@@ -89,13 +90,13 @@ after_fits scenario r x place CriticalOff inside is no_exit no_end = next_fits s
 -- the time of a system call
 pub record IsCallTime (shape : Shape) : Type 0 where
   pub some : 1 ≤ shape.call_ns
-  pub short : shape.call_ns ≤ 100000
+  pub short : shape.call_ns ≤ longest_call
 
 -- what an operation takes: nothing exactly where it has no end, and else not too long
 record IsTaken (op : Op) (o : Option ℕ) : Type 0 where
   endless : o ≡ None → op ≡ Forever
   forever : op ≡ Forever → o ≡ None
-  small : (n : ℕ) → o ≡ Some n → n ≤ 10000000000000
+  small : (n : ℕ) → o ≡ Some n → n ≤ last_moment
   some : IsAwake op → o ≢ Some 0
 
 taken_call : (shape : Shape) (op : Op) → IsCallTime shape → op ≢ Forever → IsTaken op (Some shape.call_ns)
@@ -160,7 +161,7 @@ awake_now : (st : State) (u : ℕ) → IsActive st → st ≡ Sleeping u → ⊥
 awake_now st u a e = subst IsActive e a
 
 -- a sleep that begins now is over before twice the longest time
-wakes_in : (channels : ℕ) (names : List (List ℕ)) (op : Op) (now : ℕ) (st : State) (u : ℕ) → IsOp channels names op → now ≤ 10000000000000 → IsActive st → state_in op now st ≡ Sleeping u → u ≤ 20000000000000
+wakes_in : (channels : ℕ) (names : List (List ℕ)) (op : Op) (now : ℕ) (st : State) (u : ℕ) → IsOp channels names op → now ≤ last_moment → IsActive st → state_in op now st ≡ Sleeping u → u ≤ 20000000000000
 wakes_in channels names op now st u fits small a e = elim (sleep_or_awake op) [
   | inl s ↦ by_sleep s.0 (subst (IsOp channels names) s.1 fits) (sym (ap (λ o. state_in o now st) s.1) ∙ e)
   | inr w ↦ absurd (awake_now st u a (sym (awake_in op now st w) ∙ e))
@@ -173,7 +174,7 @@ wakes_in channels names op now st u fits small a e = elim (sleep_or_awake op) [
     by_sleep ns f k = let same = moment_same (now + ns) u k in omega (arith, same, f.short, small)
 
 -- a thread at the begin of an operation fits
-pub fit_of : (scenario : Scenario) → IsScenario scenario → (shape : Shape) → IsCallTime shape → (rows x now : ℕ) (st : State) (t : ThreadNow) → IsActive st → now ≤ 10000000000000
+pub fit_of : (scenario : Scenario) → IsScenario scenario → (shape : Shape) → IsCallTime shape → (rows x now : ℕ) (st : State) (t : ThreadNow) → IsActive st → now ≤ last_moment
     → t.place < length (thread_row scenario x).program → t.left ≡ duration shape (op_at scenario x t.place) → t.state ≡ state_in (op_at scenario x t.place) now st
     → IsPriority t.own.priority → t.own.partition < rows → IsThreadFit scenario rows x t
 fit_of scenario r shape c rows x now st t active small place left state priority partition =

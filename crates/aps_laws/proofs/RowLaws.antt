@@ -9,6 +9,7 @@ use Rattle.aps_model.specs.declared.partition.PartitionRow.{PartitionRow}
 use Rattle.aps_model.specs.declared.shape.Bankruptcy.{Bankruptcy}
 use Rattle.aps_model.specs.declared.shape.Free.{Free}
 use Rattle.aps_model.specs.declared.shape.Shape.{Shape}
+use Rattle.aps_model.specs.Limits.{percent, thousandths}
 use Rattle.aps_laws.specs.Rows.{AreInOrder, AreKept, IsNamedTree}
 use Rattle.aps_laws.specs.Sizes.{IsSameSizes}
 use Rattle.aps_laws.proofs.Books.{KeepsBooks, OfBooks, entry_books}
@@ -105,13 +106,13 @@ pub in_range : (scenario : Scenario) (order : Order) (h : List Entry) → IsScen
 in_range scenario order h r legal =
     All-weaker (IsFundedRow scenario.shape.parts) IsRow
     (λ row m.
-    let few : scenario.shape.parts ≤ 1000 = by_parts r.shape.parts in
+    let few : scenario.shape.parts ≤ thousandths = by_parts r.shape.parts in
     let max = m.max in
     let budget = m.budget in
     record { budget = omega (arith, budget, max, few); critical = m.critical; max = omega (arith, max, few) })
     (state_after scenario h).rows (in_order scenario order h r legal).funded.each
   where
-    by_parts : (scenario.shape.parts ≡ 100) ⊎ (scenario.shape.parts ≡ 1000) → scenario.shape.parts ≤ 1000
+    by_parts : (scenario.shape.parts ≡ percent) ⊎ (scenario.shape.parts ≡ thousandths) → scenario.shape.parts ≤ thousandths
     by_parts (inl e) = omega (arith, e)
     by_parts (inr e) = omega (arith, e)
 

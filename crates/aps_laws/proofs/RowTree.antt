@@ -9,6 +9,7 @@ use Rattle.std.proofs.lemmas.List.Elements.{All-get_or, All-map, All-push, All-s
 use Rattle.std.proofs.lemmas.List.Sums.{fails_before_first, sum-map, sum_by-set, sum_by_push}
 use Rattle.aps_model.specs.declared.partition.PartitionRow.{PartitionRow}
 use Rattle.aps_model.specs.declared.partition.TreeRefusal.{TreeRefusal}
+use Rattle.aps_model.specs.Limits.{most_critical, most_partitions}
 use Rattle.aps_laws.specs.Rows.{AreKept, IsNamedTree}
 use Rattle.aps_model.specs.Name.{IsName}
 use Rattle.aps_model.specs.Partition.{AreRows, IsFundedRow, no_row, partition_named, row_or_none}
@@ -28,9 +29,9 @@ none_found (Some n) e = absurd cc
 record MayCreate (parts : ℕ) (rows : List PartitionRow) (name : List ℕ) (p budget critical max : ℕ) : Type 0 where
   place : p < length rows
   free : partition_named rows name ≡ None
-  room : length rows < 32
+  room : length rows < most_partitions
   has : budget ≤ (row_or_none rows p).budget
-  few : critical ≤ 64000000000
+  few : critical ≤ most_critical
   within : budget ≤ max
   whole : max ≤ parts
 
@@ -38,16 +39,16 @@ may_create : (parts : ℕ) (rows : List PartitionRow) (name : List ℕ) (p budge
 may_create parts rows name p budget critical max e =
     let a = no_cause (nat_le (length rows) p) _ _ e in
     let b = no_cause (is_some (partition_named rows name)) _ _ a.1 in
-    let c = no_cause (nat_le 32 (length rows)) _ _ b.1 in
+    let c = no_cause (nat_le most_partitions (length rows)) _ _ b.1 in
     let d = no_cause (nat_lt (row_or_none rows p).budget budget) _ _ c.1 in
-    let f = no_cause (nat_lt 64000000000 critical) _ _ d.1 in
+    let f = no_cause (nat_lt most_critical critical) _ _ d.1 in
     let g = or_parts (nat_lt max budget) (nat_lt parts max) (no_cause (nat_lt max budget || nat_lt parts max) _ _ f.1).0 in
     record {
       place = leb-false (length rows) p a.0;
       free = none_found (partition_named rows name) b.0;
-      room = leb-false 32 (length rows) c.0;
+      room = leb-false most_partitions (length rows) c.0;
       has = ltb-false (row_or_none rows p).budget budget d.0;
-      few = ltb-false 64000000000 critical f.0;
+      few = ltb-false most_critical critical f.0;
       within = ltb-false max budget g.0;
       whole = ltb-false parts max g.1;
     }
@@ -56,7 +57,7 @@ record MayModify (parts : ℕ) (rows : List PartitionRow) (p : ℕ) (budget crit
   place : p < length rows
   root : p ≡ 0 → budget ≡ None
   has : unwrap_or budget (row_or_none rows p).budget - (row_or_none rows p).budget ≤ (row_or_none rows (row_or_none rows p).parent).budget
-  few : unwrap_or critical 0 ≤ 64000000000
+  few : unwrap_or critical 0 ≤ most_critical
   within : (row_or_none (rows_modified rows p budget critical max) p).budget ≤ (row_or_none (rows_modified rows p budget critical max) p).max
   parent_within : (row_or_none (rows_modified rows p budget critical max) (row_or_none rows p).parent).budget ≤ (row_or_none (rows_modified rows p budget critical max) (row_or_none rows p).parent).max
   whole : unwrap_or max 0 ≤ parts
@@ -69,7 +70,7 @@ may_modify parts rows p budget critical max e =
     let a = no_cause (nat_le (length rows) p) _ _ e in
     let b = no_cause (is_some budget && nat_eq p 0) _ _ a.1 in
     let c = no_cause (nat_lt parent.budget (unwrap_or budget row.budget - row.budget)) _ _ b.1 in
-    let d = no_cause (nat_lt 64000000000 (unwrap_or critical 0)) _ _ c.1 in
+    let d = no_cause (nat_lt most_critical (unwrap_or critical 0)) _ _ c.1 in
     let f = no_cause (is_over_max (row_or_none after p)) _ _ d.1 in
     let g = no_cause (is_over_max (row_or_none after row.parent)) _ _ f.1 in
     let i = no_cause (nat_lt parts (unwrap_or max 0)) _ _ g.1 in
@@ -80,7 +81,7 @@ may_modify parts rows p budget critical max e =
         | inr not_zero ↦ absurd (eqb-false p 0 not_zero zero)
       ];
       has = ltb-false parent.budget (unwrap_or budget row.budget - row.budget) c.0;
-      few = ltb-false 64000000000 (unwrap_or critical 0) d.0;
+      few = ltb-false most_critical (unwrap_or critical 0) d.0;
       within = ltb-false (row_or_none after p).max (row_or_none after p).budget f.0;
       parent_within = ltb-false (row_or_none after row.parent).max (row_or_none after row.parent).budget g.0;
       whole = ltb-false parts (unwrap_or max 0) i.0;
@@ -163,7 +164,7 @@ free_name rows name free =
     by_test true e f = absurd cc
     by_test false e f = f refl
 
-push_named : (rows : List PartitionRow) (row : PartitionRow) → row.parent < length rows → length rows < 32 → IsFree rows row.name → IsNamedTree rows → IsNamedTree (rows ++ row ∷ [])
+push_named : (rows : List PartitionRow) (row : PartitionRow) → row.parent < length rows → length rows < most_partitions → IsFree rows row.name → IsNamedTree rows → IsNamedTree (rows ++ row ∷ [])
 push_named rows row parent room free m =
     let k = push_kept rows row in
     let n = length-append rows (row ∷ []) in
@@ -219,7 +220,7 @@ created_tree parts rows name p budget critical max named none tree funded =
     let total = sum_by_push (λ (r : PartitionRow). r.budget) mid row in
     let free : IsFree mid name =
     subst (AllByRecursion (λ other. bytes_eq other name ≡ false)) (sym (map-set_same (λ (r : PartitionRow). r.name) rows p giver no_row refl)) (free_name rows name m.free) in (
-      push_named mid row (subst (λ k. p < k) (sym n) m.place) (subst (λ k. k < 32) (sym n) m.room) free (set_named rows p giver refl refl tree),
+      push_named mid row (subst (λ k. p < k) (sym n) m.place) (subst (λ k. k < most_partitions) (sym n) m.room) free (set_named rows p giver refl refl tree),
       rows_of parts (mid ++ row ∷ []) (record {
         each = All-push (IsFundedRow parts) mid row
             (All-set (IsFundedRow parts) rows p giver (record { name = was.name; budget = less; max = was.max; critical = was.critical }) f.each)
@@ -272,7 +273,7 @@ modified_child parts rows p budget critical max pos m tree funded =
       set_named mid p row (ap (λ (r : PartitionRow). r.name) (sym at_p)) (ap (λ (r : PartitionRow). r.parent) (sym at_p)) (set_named rows q giver refl refl tree),
       rows_of parts (slice_set mid p row) (record {
         each = All-set (IsFundedRow parts) mid p row
-            (record { name = was_p.name; budget = row_within; max = given_or max old.max parts m.whole was_p.max; critical = given_or critical old.critical 64000000000 m.few was_p.critical })
+            (record { name = was_p.name; budget = row_within; max = given_or max old.max parts m.whole was_p.max; critical = given_or critical old.critical most_critical m.few was_p.critical })
             (All-set (IsFundedRow parts) rows q giver (record { name = was_q.name; budget = giver_within; max = was_q.max; critical = was_q.critical }) f.each);
         total = let h = m.has in let t = f.total in omega (arith, sum_q, sum_p, h, t);
       }),
@@ -291,7 +292,7 @@ modified_root parts rows critical max m tree funded =
     let within : row.budget ≤ row.max = subst (λ (r : PartitionRow). r.budget ≤ r.max) after m.within in
     subst (λ l. IsNamedTree l × AreRows parts l) (sym whole)
     (set_tree parts rows 0 row m.place refl refl refl
-    (λ was. record { name = was.name; budget = within; max = given_or max old.max parts m.whole was.max; critical = given_or critical old.critical 64000000000 m.few was.critical })
+    (λ was. record { name = was.name; budget = within; max = given_or max old.max parts m.whole was.max; critical = given_or critical old.critical most_critical m.few was.critical })
     tree funded)
 
 pub modified_tree : (parts : ℕ) (rows : List PartitionRow) (p : ℕ) (budget critical max : Option ℕ) → modify_refusal parts rows p budget critical max ≡ None

@@ -9,6 +9,7 @@ use Rattle.std.proofs.lemmas.List.Sums.{sum_by-append, sum_by-cons}
 use Rattle.aps_model.specs.declared.entry.Entry.{Entry}
 use Rattle.aps_model.specs.declared.entry.Order.{Order}
 use Rattle.aps_model.specs.declared.shape.Shape.{Shape}
+use Rattle.aps_model.specs.Limits.{last_moment, longest_tick, longest_window, most_cpus, most_critical, most_time_of_run, most_time_of_tick}
 use Rattle.aps_laws.specs.Moments.{IsTimely, moment}
 use Rattle.aps_laws.specs.Numbers.{AreMomentsSmall, FitsWindow, IsEntrySmall, IsUsageSmall, time_within}
 use Rattle.aps_laws.specs.Sizes.{IsSameSizes}
@@ -203,9 +204,9 @@ moments_small scenario order h r legal =
     let t = m.sound.timely in
     let far = horizon_small scenario r in
     let end = horizon_same scenario.shape s.shape g.sizes in
-    let tick : s.shape.tick ≤ 10000000 = let l = r.shape.tick_short in omega (arith, l, g.sizes.tick) in
-    let last : moment h ≤ 10000000000000 = let l = t.moment_within in omega (arith, l, end, far) in
-    let ends : (c : ℕ) → last_end h c ≤ 10000000000000 = λ c. ended s h c t far end (last_to h c) refl in
+    let tick : s.shape.tick ≤ longest_tick = let l = r.shape.tick_short in omega (arith, l, g.sizes.tick) in
+    let last : moment h ≤ last_moment = let l = t.moment_within in omega (arith, l, end, far) in
+    let ends : (c : ℕ) → last_end h c ≤ last_moment = λ c. ended s h c t far end (last_to h c) refl in
     record {
       entries = λ k d below. same_shape scenario.shape s.shape (slice_index_or h k d) g.sizes.cpus g.sizes.tick (m.entries k d below);
       last = last;
@@ -215,39 +216,39 @@ moments_small scenario order h r legal =
       flags = λ c f is. let l = t.flag_now c f is in omega (arith, l, last);
     }
   where
-    ended : (s : SchedulerState) (h : List Entry) (c : ℕ) → IsTimely s h → horizon scenario.shape ≤ 10000000000000 → horizon s.shape ≡ horizon scenario.shape → (last : Option ℕ) → last_to h c ≡ last → last_end h c ≤ 10000000000000
+    ended : (s : SchedulerState) (h : List Entry) (c : ℕ) → IsTimely s h → horizon scenario.shape ≤ last_moment → horizon s.shape ≡ horizon scenario.shape → (last : Option ℕ) → last_to h c ≡ last → last_end h c ≤ last_moment
     ended s h c t far end None is = omega (arith, ap (λ o. unwrap_or o 0) is)
     ended s h c t far end (Some z) is = let b = t.within c z is in omega (arith, ap (λ o. unwrap_or o 0) is, b, end, far)
 
-    due_small : (s : SchedulerState) (h : List Entry) (c : ℕ) → IsTimely s h → s.shape.tick ≤ 10000000 → last_end h c ≤ 10000000000000 → (last : Option ℕ) → last_to h c ≡ last → due s h c ≤ 10000010000000
+    due_small : (s : SchedulerState) (h : List Entry) (c : ℕ) → IsTimely s h → s.shape.tick ≤ longest_tick → last_end h c ≤ last_moment → (last : Option ℕ) → last_to h c ≡ last → due s h c ≤ 10000010000000
     due_small s h c t tick l None is = omega (arith, first_is_due s h c is)
     due_small s h c t tick l (Some z) is = let b = t.soon c z is in let n = boundary_near s.shape.tick z in omega (arith, ap (λ o. unwrap_or o 0) is, b, n, l, tick)
 
 -- where all that is billed is what the processors have passed
-usage_of : (scenario : Scenario) → IsScenario scenario → (h : List Entry) (a b : ℕ) → time_within scenario.shape.tick h a b ≡ sum_by (passed scenario.shape.tick a b h) (range_with_len 0 scenario.shape.cpus) → ((c : ℕ) → last_end h c ≤ 10000000000000)
+usage_of : (scenario : Scenario) → IsScenario scenario → (h : List Entry) (a b : ℕ) → time_within scenario.shape.tick h a b ≡ sum_by (passed scenario.shape.tick a b h) (range_with_len 0 scenario.shape.cpus) → ((c : ℕ) → last_end h c ≤ last_moment)
     → IsUsageSmall scenario.shape h a b
 usage_of scenario r h a b passes ends =
     let tick = scenario.shape.tick in
     let cpus = scenario.shape.cpus in
     let time : time_within tick h a b ≤ cpus * ((b - a) * tick) = let l = sum_bounded (passed tick a b h) ((b - a) * tick) cpus 0 (λ c. overlap_bounded tick a b (last_end h c)) in omega (arith, passes, l) in
-    let run : time_within tick h a b ≤ cpus * 10000000000000 = let l = sum_bounded (passed tick a b h) 10000000000000 cpus 0 (λ c. let o = overlap_small tick a b (last_end h c) in let f = ends c in omega (arith, o, f)) in omega (arith, passes, l) in
-    let few : cpus ≤ 16 = r.shape.few_cpus in
-    let short : tick ≤ 10000000 = r.shape.tick_short in
+    let run : time_within tick h a b ≤ cpus * last_moment = let l = sum_bounded (passed tick a b h) last_moment cpus 0 (λ c. let o = overlap_small tick a b (last_end h c) in let f = ends c in omega (arith, o, f)) in omega (arith, passes, l) in
+    let few : cpus ≤ most_cpus = r.shape.few_cpus in
+    let short : tick ≤ longest_tick = r.shape.tick_short in
     record {
       time = time;
       one_tick = λ near. let l = product cpus (b - a) tick 1 few (omega (arith, near)) short in omega (arith, time, l);
-      window = λ near. let l = product cpus (b - a) tick 400 few (omega (arith, near)) short in omega (arith, time, l);
+      window = λ near. let l = product cpus (b - a) tick longest_window few (omega (arith, near)) short in omega (arith, time, l);
       run = omega (arith, run, few);
       each = λ p. sum_less (billed_by tick p a b) (λ (e : Entry). overlap tick a b e.from e.to) h (λ e. (billed_less tick p a b e).0);
       critical = λ p. sum_less (critical_by tick p a b) (billed_by tick p a b) h (λ e. (billed_less tick p a b e).1);
       all = λ n. used_once tick a b n h;
     }
   where
-    product : (cpus ticks tick most : ℕ) → cpus ≤ 16 → ticks ≤ most → tick ≤ 10000000 → cpus * (ticks * tick) ≤ 16 * (most * 10000000)
+    product : (cpus ticks tick most : ℕ) → cpus ≤ most_cpus → ticks ≤ most → tick ≤ longest_tick → cpus * (ticks * tick) ≤ most_cpus * (most * longest_tick)
     product cpus ticks tick most few near short =
         let x : ticks * tick ≤ most * tick = mul-le-mul_right tick near in
-        let y : most * tick ≤ most * 10000000 = mul-le-mul_left most short in
-        let z : cpus * (ticks * tick) ≤ 16 * (ticks * tick) = mul-le-mul_right (ticks * tick) few in
+        let y : most * tick ≤ most * longest_tick = mul-le-mul_left most short in
+        let z : cpus * (ticks * tick) ≤ most_cpus * (ticks * tick) = mul-le-mul_right (ticks * tick) few in
         omega (arith, x, y, z)
 
 pub usage_small : (scenario : Scenario) (order : Order) (h : List Entry) (a b : ℕ) → IsScenario scenario → IsLegal scenario order h → IsUsageSmall scenario.shape h a b
@@ -263,7 +264,7 @@ usage_in_hand scenario order h e a b r legal running turn from to =
     let st = sound_step_of scenario order s h e.cpu r m.sound turn in
     let d = added scenario order (after scenario h) h e.cpu r m.sound running turn in
     let exists : e.cpu < scenario.shape.cpus = subst (λ n. e.cpu < n) m.sound.grounded.sizes.cpus turn.exists in
-    let small : e.to ≤ 10000000000000 = let l = d.small.small in omega (arith, l, st.to, to) in
+    let small : e.to ≤ last_moment = let l = d.small.small in omega (arith, l, st.to, to) in
     let forward : e.from ≤ e.to = let l = d.small.forward in omega (arith, l, st.to, to, st.from, from) in
     let ends = (moments_small scenario order h r legal).ends in
     usage_of scenario r (h ++ e ∷ []) a b (within_passed scenario.shape.tick a b scenario.shape.cpus h e exists from forward (m.passes a b))
@@ -289,9 +290,9 @@ usage_like shape other h a b sizes m =
     let t = sym sizes.tick in
     record {
       time = subst (λ n. time_within other.tick h a b ≤ n * ((b - a) * other.tick)) (sym sizes.cpus) (subst (λ n. time_within n h a b ≤ shape.cpus * ((b - a) * n)) t m.time);
-      one_tick = subst (λ n. b ≤ a + 1 → time_within n h a b ≤ 160000000) t m.one_tick;
-      window = subst (λ n. b ≤ a + 400 → time_within n h a b ≤ 64000000000) t m.window;
-      run = subst (λ n. time_within n h a b ≤ 160000000000000) t m.run;
+      one_tick = subst (λ n. b ≤ a + 1 → time_within n h a b ≤ most_time_of_tick) t m.one_tick;
+      window = subst (λ n. b ≤ a + longest_window → time_within n h a b ≤ most_critical) t m.window;
+      run = subst (λ n. time_within n h a b ≤ most_time_of_run) t m.run;
       each = subst (λ n. (p : ℕ) → used n h p a b ≤ time_within n h a b) t m.each;
       critical = subst (λ n. (p : ℕ) → critical_used n h p a b ≤ used n h p a b) t m.critical;
       all = subst (λ n. (k : ℕ) → sum_by (λ p. used n h p a b) (range_with_len 0 k) ≤ time_within n h a b) t m.all;

@@ -11,6 +11,7 @@ use Rattle.aps_model.specs.declared.shape.Shape.{Shape}
 use Rattle.aps_model.specs.declared.state.State.{State}
 use Rattle.aps_model.specs.declared.state.State.TheVariants.{Ready, Running, Sleeping, Sending, Receiving, Replying, Gone}
 use Rattle.aps_model.specs.declared.state.ThreadNow.{ThreadNow}
+use Rattle.aps_model.specs.Limits.{last_moment, most_ticks}
 use Rattle.aps_laws.specs.Moments.{moment}
 use Rattle.aps_laws.specs.Sound.{IsSound}
 use Rattle.aps_laws.specs.ThreadFits.{Each, IsAwake, IsThreadFit, IsThreadTimed, StandsAt}
@@ -47,7 +48,7 @@ call_time scenario r shape call = let a = r.shape.some_call in let b = r.shape.s
 -- the step's numbers: its moment is small, and its processor is not at the horizon yet
 pub record IsMoving (scenario : Scenario) (s : SchedulerState) (h : List Entry) (c : ℕ) : Type 0 where
   pub valid : IsScenario scenario
-  pub small : due s h c ≤ 10000000000000
+  pub small : due s h c ≤ last_moment
   pub early : last_to h c ≢ Some (horizon scenario.shape)
   pub forward : last_end h c + spent_at s h c ≤ due s h c
 
@@ -84,13 +85,13 @@ goes_further scenario y place (Running c) may stands = absurd may
 goes_further scenario y place (Sending d) may stands = absurd may
 goes_further scenario y place Gone may stands = absurd may
 
-fit_readies : (scenario : Scenario) → IsScenario scenario → (shape : Shape) (rows y n now : ℕ) (t : ThreadNow) → shape.call_ns ≡ scenario.shape.call_ns → now ≤ 10000000000000 → IsThreadFit scenario rows y t → MayGoOn t.state
+fit_readies : (scenario : Scenario) → IsScenario scenario → (shape : Shape) (rows y n now : ℕ) (t : ThreadNow) → shape.call_ns ≡ scenario.shape.call_ns → now ≤ last_moment → IsThreadFit scenario rows y t → MayGoOn t.state
     → IsAwake (op_at scenario y (t.place + 1)) → IsThreadFit scenario rows y (record t { place = t.place + 1; left = duration shape (op_at scenario y (t.place + 1)); state = Ready; stamp = n; since = 0 })
 fit_readies scenario r shape rows y n now t call small f may awake =
     fit_of scenario r shape (call_time scenario r shape call) rows y now Ready (record t { place = t.place + 1; left = duration shape (op_at scenario y (t.place + 1)); state = Ready; stamp = n; since = 0 }) tt small
     (next_fits scenario r y t.place f.place (goes_further scenario y t.place t.state may f.stands)) refl (sym (awake_in (op_at scenario y (t.place + 1)) now Ready awake)) f.priority f.partition
 
-fit_sleeps : (scenario : Scenario) → IsScenario scenario → (rows y ns now : ℕ) (t : ThreadNow) → now ≤ 10000000000000 → IsThreadFit scenario rows y t → MayGoOn t.state
+fit_sleeps : (scenario : Scenario) → IsScenario scenario → (rows y ns now : ℕ) (t : ThreadNow) → now ≤ last_moment → IsThreadFit scenario rows y t → MayGoOn t.state
     → op_at scenario y (t.place + 1) ≡ Sleep ns → IsThreadFit scenario rows y (record t { place = t.place + 1; left = Some 0; state = Sleeping (now + ns) })
 fit_sleeps scenario r rows y ns now t small f may is =
     fit_of scenario r scenario.shape (call_time scenario r scenario.shape refl) rows y now Ready (record t { place = t.place + 1; left = Some 0; state = Sleeping (now + ns) }) tt small
@@ -120,20 +121,20 @@ fit_spent scenario rows y ns t f = record {
     some_same : (a b : ℕ) → Some a ≡ Some b → a ≡ b
     some_same a b e = cc
 
-    less : (o : Option ℕ) → ((n : ℕ) → o ≡ Some n → n ≤ 10000000000000) → (n : ℕ) → option_map (λ (left : ℕ). left - ns) o ≡ Some n → n ≤ 10000000000000
+    less : (o : Option ℕ) → ((n : ℕ) → o ≡ Some n → n ≤ last_moment) → (n : ℕ) → option_map (λ (left : ℕ). left - ns) o ≡ Some n → n ≤ last_moment
     less None f n e = absurd cc
     less (Some m) f n e = let l = f m refl in let same = some_same (m - ns) n e in omega (arith, l, same)
 
 -- ---- the moves
 
 -- fitting alone is borne by each move, at a moment of the run
-pub fits_go_on : (scenario : Scenario) → IsScenario scenario → (now rows : ℕ) → now ≤ 10000000000000 → GoesOn scenario now (IsThreadFit scenario rows)
+pub fits_go_on : (scenario : Scenario) → IsScenario scenario → (now rows : ℕ) → now ≤ last_moment → GoesOn scenario now (IsThreadFit scenario rows)
 fits_go_on scenario r now rows small = record {
   readies = λ shape y n t call f may awake. fit_readies scenario r shape rows y n now t call small f may awake;
   sleeps = λ y ns t f may is. fit_sleeps scenario r rows y ns now t small f may is;
 }
 
-pub fits_bear : (scenario : Scenario) → IsScenario scenario → (now c x rows : ℕ) → now ≤ 10000000000000 → ThreadBears scenario now c x rows (IsThreadFit scenario rows) (IsThreadFit scenario rows)
+pub fits_bear : (scenario : Scenario) → IsScenario scenario → (now c x rows : ℕ) → now ≤ last_moment → ThreadBears scenario now c x rows (IsThreadFit scenario rows) (IsThreadFit scenario rows)
 fits_bear scenario r now c x rows small = record {
   going = fits_go_on scenario r now rows small;
   delivered = λ y d t f st. fit_state scenario rows y (Replying x) t f (d, at y t (Sending d) st f.stands) (λ u e. cc);
@@ -263,9 +264,9 @@ fit_more scenario few rows y t l f =
     record { place = f.place; stands = f.stands; endless = f.endless; forever = f.forever; left_small = f.left_small; wakes_soon = f.wakes_soon; priority = f.priority; partition = let p = f.partition in omega (arith, p, l) }
 
 -- the end of the run is not far
-pub horizon_small : (scenario : Scenario) → IsScenario scenario → horizon scenario.shape ≤ 10000000000000
+pub horizon_small : (scenario : Scenario) → IsScenario scenario → horizon scenario.shape ≤ last_moment
 horizon_small scenario r =
-    let a : scenario.shape.ticks * scenario.shape.tick ≤ 1000000 * scenario.shape.tick = mul-le-mul_right scenario.shape.tick r.shape.few_ticks in
+    let a : scenario.shape.ticks * scenario.shape.tick ≤ most_ticks * scenario.shape.tick = mul-le-mul_right scenario.shape.tick r.shape.few_ticks in
     let b = r.shape.tick_short in
     omega (arith, a, b)
 

@@ -54,7 +54,8 @@ pub record IsBetween (scenario : Scenario) (s : SchedulerState) (h : List Entry)
   pub settled' : IsWellFormed scenario (due s h c) (before_pick scenario s h c)
   pub runs_ticked : (p : Pick) → (cpu_at s c).running ≡ Some p → state_at (after_tick scenario s h c) p.thread ≡ Running c
   pub runs_billed : (p : Pick) → (cpu_at s c).running ≡ Some p → state_at (after_bill scenario s h c) p.thread ≡ Running c
-  pub exact : (p : Pick) (n : ℕ) → (cpu_at s c).running ≡ Some p → (thread_at (after_tick scenario s h c) p.thread).left ≡ Some n → due s h c ≤ last_end h c + n
+  pub exact : (p : Pick) (n : ℕ) → (cpu_at s c).running ≡ Some p → (thread_at (after_tick scenario s h c) p.thread).left ≡ Some n
+      → due s h c ≤ last_end h c + n
   pub vacant : (x : ℕ) → state_at (before_pick scenario s h c) x ≢ Running c
   pub ready : Each (λ x t. t.state ≡ Ready → t.left ≢ Some 0) (before_pick scenario s h c).threads
   pub stamps_ticked : (after_tick scenario s h c).stamps ≤ s.stamps + length s.threads

@@ -7,7 +7,9 @@ use Rattle.aps_model.specs.Scenario.{Scenario}
 
 -- the first history leaves the rows and the shape of tick a of the second
 abbrev pub HasRowsOfTick : Scenario → List Entry → List Entry → ℕ → Type 0
-HasRowsOfTick scenario g h a = ((state_after scenario g).rows ≡ (state_of_tick scenario h a).rows) × ((state_after scenario g).shape ≡ (state_of_tick scenario h a).shape)
+HasRowsOfTick scenario g h a =
+    ((state_after scenario g).rows ≡ (state_of_tick scenario h a).rows)
+    × ((state_after scenario g).shape ≡ (state_of_tick scenario h a).shape)
 
 -- each entry that ends in ticks a to b-1 leaves the rows and the shape of tick a
 abbrev pub HoldsRows : Scenario → List Entry → ℕ → ℕ → Type 0

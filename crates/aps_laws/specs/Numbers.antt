@@ -8,7 +8,7 @@ use Rattle.aps_model.specs.Due.{due, last_end, next_boundary}
 use Rattle.aps_model.specs.SchedulerState.{SchedulerState, cpu_at}
 use Rattle.aps_model.specs.Shape.{whole}
 use Rattle.aps_model.specs.Usage.{critical_used, overlap, used, window_critical, window_used}
-use Rattle.aps_model.specs.Limits.{last_moment, longest_window, most_critical}
+use Rattle.aps_model.specs.Limits.{last_moment, longest_window, most_critical, most_time_of_run, most_time_of_tick}
 
 -- an entry of one of the processors, within a tick, before the end of the longest run
 pub record IsEntrySmall (shape : Shape) (e : Entry) : Type 0 where
@@ -34,9 +34,9 @@ time_within tick h a b = sum_by (λ (e : Entry). overlap tick a b e.from e.to) h
 -- time, and for all partitions together; in one tick, in the longest window, and in the longest run
 pub record IsUsageSmall (shape : Shape) (h : List Entry) (a b : ℕ) : Type 0 where
   pub time : time_within shape.tick h a b ≤ shape.cpus * ((b - a) * shape.tick)
-  pub one_tick : b ≤ a + 1 → time_within shape.tick h a b ≤ 160000000
+  pub one_tick : b ≤ a + 1 → time_within shape.tick h a b ≤ most_time_of_tick
   pub window : b ≤ a + longest_window → time_within shape.tick h a b ≤ most_critical
-  pub run : time_within shape.tick h a b ≤ 160000000000000
+  pub run : time_within shape.tick h a b ≤ most_time_of_run
   pub each : (p : ℕ) → used shape.tick h p a b ≤ time_within shape.tick h a b
   pub critical : (p : ℕ) → critical_used shape.tick h p a b ≤ used shape.tick h p a b
   pub all : (n : ℕ) → sum_by (λ p. used shape.tick h p a b) (range_with_len 0 n) ≤ time_within shape.tick h a b

@@ -9,4 +9,5 @@ use Rattle.aps_model.specs.SchedulerState.{SchedulerState, no_thread}
 pub record HasFewStamps (s : SchedulerState) (h : List Entry) : Type 0 where
   pub next : s.stamps ≤ length s.threads + (length s.threads + 2) * length h
   pub small : s.stamps ≤ 1024 + 1026 * length h
-  pub active : (x : ℕ) → IsActive (slice_index_or s.threads x no_thread).state → (slice_index_or s.threads x no_thread).stamp < 1024 + 1026 * length h
+  pub active : (x : ℕ) → IsActive (slice_index_or s.threads x no_thread).state
+      → (slice_index_or s.threads x no_thread).stamp < 1024 + 1026 * length h

@@ -1,4 +1,5 @@
--- Who waits at a channel and who serves whom, by counts, so that one equation says that a thread stands there exactly where its state says so, and at most once.
+-- Who waits at a channel and who serves whom, by counts, so that one equation says that a thread stands there exactly where its state
+-- says so, and at most once.
 use Rattle.std.specs.Prelude.{◌≡◌, ◌⊎◌, ℕ, ◌+◌, List, [], ◌∷◌, Bool, true, false, nat_eq, ◌&&◌, None, length}
 use Rattle.aps_model.specs.declared.state.State.{State}
 use Rattle.aps_model.specs.declared.state.State.TheVariants.{Ready, Running, Sleeping, Sending, Receiving, Replying, Gone}
@@ -23,7 +24,8 @@ times_sent x (m ∷ ms) = one_if (nat_eq m.sender x) + times_sent x ms
 -- how many of these pairs are these two
 abbrev pub times_paired : ℕ → ℕ → List Triple → ℕ
 times_paired server client [] = 0
-times_paired server client (pair ∷ older) = one_if (nat_eq pair.server server && nat_eq pair.client client) + times_paired server client older
+times_paired server client (pair ∷ older) =
+    one_if (nat_eq pair.server server && nat_eq pair.client client) + times_paired server client older
 
 abbrev pub is_sending : ℕ → State → ℕ
 is_sending d (Sending c) = one_if (nat_eq c d)

@@ -1,7 +1,7 @@
 //! Sets of levels, which are numbers below 256, in four words.
 ghost use Rattle.std.specs.Prelude.{◌≡◌, ℕ, ◌+◌, ◌*◌, ◌<◌, ◌||◌, ◌&&◌, not, nat_eq, IfSome, IfNone, false};
 ghost use Rattle.aps_levels.specs.Bits.{IsLeast, has};
-ghost use Rattle.aps_levels.specs.Levels.{has_level};
+ghost use Rattle.aps_levels.specs.Levels.{has_level, level_count};
 
 use crate::bits::Bits64;
 
@@ -36,7 +36,7 @@ impl Levels {
     /// Whether the level is in.
     #[inline(always)]
     pub fn has(self, level: usize) -> bool
-        requires { level < 256 }
+        requires { level < level_count }
         ensures { result ≡ has_level self level }
     {
         if level < 64 {
@@ -70,7 +70,7 @@ impl Levels {
     /// The set with this level.
     #[inline(always)]
     pub fn with(self, level: usize) -> Levels
-        requires { level < 256 }
+        requires { level < level_count }
         ensures { (k : ℕ) → has_level result k ≡ (nat_eq k level || has_level self k) }
     {
         let mut set = self;
@@ -81,7 +81,7 @@ impl Levels {
     /// The set without this level.
     #[inline(always)]
     pub fn without(self, level: usize) -> Levels
-        requires { level < 256 }
+        requires { level < level_count }
         ensures { (k : ℕ) → has_level result k ≡ (not (nat_eq k level) && has_level self k) }
     {
         let mut set = self;
@@ -92,7 +92,7 @@ impl Levels {
     /// The level comes in, if it isn't in. One word alone is written.
     #[inline(always)]
     pub fn insert(&mut self, level: usize)
-        requires { level < 256 }
+        requires { level < level_count }
         ensures { (k : ℕ) → has_level self.new k ≡ (nat_eq k level || has_level self.old k) }
     {
         if level < 64 {
@@ -109,7 +109,7 @@ impl Levels {
     /// The level goes, if it is in. One word alone is written.
     #[inline(always)]
     pub fn remove(&mut self, level: usize)
-        requires { level < 256 }
+        requires { level < level_count }
         ensures { (k : ℕ) → has_level self.new k ≡ (not (nat_eq k level) && has_level self.old k) }
     {
         if level < 64 {
@@ -126,7 +126,7 @@ impl Levels {
     /// The least level of the set; none exactly where the set is empty.
     #[inline(always)]
     pub fn least(self) -> Option<usize>
-        ensures some { IfSome result (IsLeast 256 (has_level self)) }
+        ensures some { IfSome result (IsLeast level_count (has_level self)) }
         ensures none { IfNone result ((k : ℕ) → has_level self k ≡ false) }
     {
         match self.first.least() {

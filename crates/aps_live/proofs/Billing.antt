@@ -6,6 +6,7 @@ use Rattle.std.proofs.lemmas.Bool.{cases_lt}
 use Rattle.std.proofs.lemmas.Bool.Decides.{nat_tests}
 use Rattle.std.proofs.lemmas.List.Sums.{sum_by-append, sum_by-cons}
 use Rattle.aps_model.specs.declared.entry.Entry.{Entry}
+use Rattle.aps_model.specs.Limits.{longest_window, most_partitions, most_time_of_tick}
 use Rattle.aps_model.specs.Usage.{billed_by, critical_by, critical_used, names, overlap, used}
 use Rattle.aps_window.specs.Bills.{Bill, all_time, bills_critical, bills_used, critical_time, time_in}
 use Rattle.aps_window.specs.StandsFor.{StandsFor}
@@ -54,7 +55,7 @@ one_more tick a b k from to = by_tests (nat_le a k) (nat_lt k b) refl refl
         omega (arith, is)
 
 -- nothing before the tick in which the interval begins, nor before the oldest that is kept
-none_yet : (tick a b first from now to : ℕ) → (first ≡ from / tick) ⊎ (first + 399 ≡ now) → now < a + 400 → overlap tick a (min b first) from to ≡ 0
+none_yet : (tick a b first from now to : ℕ) → (first ≡ from / tick) ⊎ (first + 399 ≡ now) → now < a + longest_window → overlap tick a (min b first) from to ≡ 0
 none_yet tick a b first from now to (inl is) near =
     let low : first * tick ≤ from = subst (λ n. n * tick ≤ from) (sym is) (div-mul-le_self from tick) in
     let less : min b first * tick ≤ first * tick = mul-le-mul_right tick (omega arith) in
@@ -170,8 +171,9 @@ billed_nobody tick window h e m is = record {
 same_number : (q : ℕ) → nat_eq q q ≡ true
 same_number q = grind (arith, nat_tests)
 
-pub fits_tick : (tick : ℕ) (window : Window) (h : List Entry) (e : Entry) (q k ns : ℕ) → IsBilledTo tick window h e q k → e.billed ≡ Some q → q < 32 → k ≤ window.tick → window.tick < k + 400
-    → ns ≡ overlap tick k (k + 1) e.from e.to → FitsTicks tick (h ++ e ∷ []) → billed_on window q k + ns ≤ 160000000
+pub fits_tick : (tick : ℕ) (window : Window) (h : List Entry) (e : Entry) (q k ns : ℕ) → IsBilledTo tick window h e q k → e.billed ≡ Some q → q < most_partitions
+    → k ≤ window.tick → window.tick < k + longest_window
+    → ns ≡ overlap tick k (k + 1) e.from e.to → FitsTicks tick (h ++ e ∷ []) → billed_on window q k + ns ≤ most_time_of_tick
 fits_tick tick window h e q k ns m is small past near ns_is fits =
     let age = window.tick - k in
     let slot = m.stands.used q age small (omega (arith, past, near)) in

@@ -9,6 +9,7 @@ use Rattle.aps_model.specs.declared.entry.Entry.{Entry}
 use Rattle.aps_model.specs.declared.merit.PartFacts.{PartFacts}
 use Rattle.aps_model.specs.declared.partition.PartitionRow.{PartitionRow}
 use Rattle.aps_model.specs.Due.{last_end}
+use Rattle.aps_model.specs.Limits.{last_moment, most_entries, thousandths}
 use Rattle.aps_model.specs.Partition.{IsRow}
 use Rattle.aps_model.specs.Scenario.{Scenario}
 use Rattle.aps_model.specs.Usage.{billed_by, critical_by}
@@ -102,7 +103,7 @@ bill_fits run c now keeps exists later =
 pub rows_fit : (scenario : Scenario) → IsScenario scenario → All IsRow scenario.partitions
 rows_fit scenario r = λ k d inside.
     let row = r.tree.funded.each k d inside in
-    let few : scenario.shape.parts ≤ 1000 = elim r.shape.parts [
+    let few : scenario.shape.parts ≤ thousandths = elim r.shape.parts [
       | inl is ↦ omega (arith, is)
       | inr is ↦ omega (arith, is)
     ] in record {
@@ -121,7 +122,7 @@ step_is run c now event e is =
 pub core_more : (run : LiveRun) (s t : LiveState) (window new : Window) (lasts : List ℕ) (moment : ℕ) (parts later_parts : List PartFacts) (entries : List Entry) (events : List LiveEvent)
     (c now : ℕ) (event : LiveEvent) (taken : Entry)
     → IsCore run s window lasts moment parts entries events
-    → c < run.setup.scenario.shape.cpus → now ≤ 10000000000000 → NamesThread run.setup.scenario event → latest (entries_of run.steps) ≤ now → length run.steps < run.setup.limit
+    → c < run.setup.scenario.shape.cpus → now ≤ last_moment → NamesThread run.setup.scenario event → latest (entries_of run.steps) ≤ now → length run.steps < run.setup.limit
     → live_step run.setup.scenario s (entries_of run.steps) c now event ≡ record { entry = taken; state = t }
     → IsTied run.setup.scenario.shape.tick new (entries_of run.steps ++ live_bill s (entries_of run.steps) c now ∷ []) → new.tick ≡ now / run.setup.scenario.shape.tick → new.span ≡ window.span
     → length later_parts ≡ length parts
@@ -180,7 +181,7 @@ as_many run s window lasts moment parts entries events m =
     let b = ap length m.told ∙ length_events run.steps in
     (a ∙ sym b, a)
 
-pub core_start : (scenario : Scenario) (limit : ℕ) (window : Window) (lasts : List ℕ) (parts : List PartFacts) → IsScenario scenario → 1 ≤ limit → limit ≤ 4000000
+pub core_start : (scenario : Scenario) (limit : ℕ) (window : Window) (lasts : List ℕ) (parts : List PartFacts) → IsScenario scenario → 1 ≤ limit → limit ≤ most_entries
     → IsAt scenario.shape.tick scenario.shape.window scenario.shape.cpus [] window lasts 0 → length parts ≡ length scenario.partitions
     → IsCore (record { setup = record { scenario = scenario; limit = limit }; steps = [] }) (live_opening scenario) window lasts 0 parts [] []
 core_start scenario limit window lasts parts valid some few stands room = record {

@@ -5,6 +5,7 @@ use Rattle.std.proofs.lemmas.List.FromFn.{get_or-map-range_with_len, length-map-
 use Rattle.std.proofs.lemmas.List.{length-replicate}
 use Rattle.aps_model.specs.declared.merit.Contender.{Contender}
 use Rattle.aps_model.specs.declared.state.Pick.{Pick}
+use Rattle.aps_model.specs.Limits.{most_cpus, most_threads}
 use Rattle.aps_model.specs.Scenario.{Scenario}
 use Rattle.aps_live.specs.declared.thread.LiveThread.{LiveThread}
 use Rattle.aps_live.specs.LiveState.{live_cpu_at, live_opening, live_start, no_live_thread}
@@ -42,7 +43,7 @@ numbered_start scenario n =
     at x inside = get_or-map-range_with_len (live_start scenario) 0 n x x no_live_thread inside (omega arith)
 
 -- all of it, where nobody is ready
-pub machine_start : (scenario : Scenario) (seats : List (Option Contender)) → length scenario.threads ≤ 1024 → scenario.shape.cpus ≤ 16 → seats ≡ replicate (length scenario.threads) None → IsMachine (live_opening scenario) seats
+pub machine_start : (scenario : Scenario) (seats : List (Option Contender)) → length scenario.threads ≤ most_threads → scenario.shape.cpus ≤ most_cpus → seats ≡ replicate (length scenario.threads) None → IsMachine (live_opening scenario) seats
 machine_start scenario seats few few_cpus is =
     let n = length scenario.threads in record {
       row = is ∙ sym (row_empty (live_start scenario) (range_with_len 0 n) (λ x. refl) ∙ all_empty n 0);

@@ -8,6 +8,7 @@ use Rattle.aps_model.specs.declared.state.Pick.{Pick}
 use Rattle.aps_model.specs.Bill.{bill_of}
 use Rattle.aps_model.specs.Budget.{all_parts}
 use Rattle.aps_model.specs.Due.{last_end}
+use Rattle.aps_model.specs.Limits.{last_moment, most_entries}
 use Rattle.aps_window.specs.Window.{Window}
 use Rattle.aps_live.specs.declared.event.LiveEvent.{LiveEvent}
 use Rattle.aps_live.specs.declared.event.LiveEvent.TheVariants.{Stay, Block, Wake}
@@ -40,7 +41,7 @@ module _ (run : LiveRun) (s : LiveState) (window : Window) (lasts : List ℕ) (m
   pub core_sound : IsSound run.setup.scenario s h
   core_sound = subst (λ (x : LiveState). IsSound run.setup.scenario x h) (sym m.machine) (sound run.setup.scenario run.steps m.keeps.live)
 
-  pub few_stamps : s.stamps ≤ 4000000
+  pub few_stamps : s.stamps ≤ most_entries
   few_stamps = let k = as_many run s window lasts moment parts entries events m in omega (arith, core_sound.stamps, k.1, ap length m.recorded, m.keeps.fits, m.keeps.few)
 
   pub named_thread : (event : LiveEvent) → NamesThread run.setup.scenario event → (x : ℕ) → event ≡ Wake x → x < length s.threads
@@ -75,7 +76,7 @@ module _ (run : LiveRun) (s : LiveState) (window : Window) (lasts : List ℕ) (m
 
   -- all of it
   pub took : (settled t : LiveState) (new : Window) (later_parts : List PartFacts) (c now : ℕ) (event : LiveEvent) (shape : Shape) (rows : List PartitionRow) (e taken : Entry) (es gs : List Entry)
-      → c < run.setup.scenario.shape.cpus → now ≤ 10000000000000 → NamesThread run.setup.scenario event → latest h ≤ now → length run.steps < run.setup.limit
+      → c < run.setup.scenario.shape.cpus → now ≤ last_moment → NamesThread run.setup.scenario event → latest h ≤ now → length run.steps < run.setup.limit
       → e ≡ live_bill s h c now → shape ≡ run.setup.scenario.shape → rows ≡ run.setup.scenario.partitions → es ≡ entries → gs ≡ entries
       → IsTied shape.tick new (es ++ e ∷ []) → new.tick ≡ e.to / shape.tick → new.span ≡ window.span
       → settled ≡ live_settled s c event

@@ -6,6 +6,7 @@ use Rattle.std.proofs.Math.Nat.{mul-le-mul_left}
 use Rattle.std.proofs.lemmas.List.Sums.{fold-append, sum_by-append, sum_by-cons}
 use Rattle.aps_model.specs.declared.entry.Entry.{Entry}
 use Rattle.aps_model.specs.Due.{last_end, last_to}
+use Rattle.aps_model.specs.Limits.{longest_tick, most_cpus, most_time_of_tick}
 use Rattle.aps_model.specs.Usage.{billed_by, names, overlap, used}
 use Rattle.aps_laws.specs.Numbers.{time_within}
 use Rattle.aps_laws.proofs.MomentLaws.{last_other, last_own}
@@ -85,18 +86,18 @@ billed_less tick p a b e = by_test (names e.billed p)
     by_test false = omega arith
 
 -- no partition is billed more than the time of all processors
-pub tiled_fits : (tick cpus : ℕ) (h : List Entry) → tick ≤ 10000000 → cpus ≤ 16 → AreTiled tick cpus h → FitsTicks tick h
+pub tiled_fits : (tick cpus : ℕ) (h : List Entry) → tick ≤ longest_tick → cpus ≤ most_cpus → AreTiled tick cpus h → FitsTicks tick h
 tiled_fits tick cpus h short few m p k =
     let less = sum_less (billed_by tick p k (k + 1)) (λ (e : Entry). overlap tick k (k + 1) e.from e.to) h (billed_less tick p k (k + 1)) in
     let all = sum_bounded (passed tick k (k + 1) h) ((k + 1 - k) * tick) cpus 0 (λ c. overlap_bounded tick k (k + 1) (last_end h c)) in
     let one : (k + 1 - k) * tick ≡ tick = ap (λ n. n * tick) (one_tick k) ∙ omega arith in
-    let most : cpus * ((k + 1 - k) * tick) ≤ 160000000 = product cpus ((k + 1 - k) * tick) few (omega (arith, one, short)) in
+    let most : cpus * ((k + 1 - k) * tick) ≤ most_time_of_tick = product cpus ((k + 1 - k) * tick) few (omega (arith, one, short)) in
     omega (arith, less, all, most, m k (k + 1))
   where
     one_tick : (k : ℕ) → k + 1 - k ≡ 1
     one_tick k = omega arith
 
-    product : (cpus tick : ℕ) → cpus ≤ 16 → tick ≤ 10000000 → cpus * tick ≤ 160000000
+    product : (cpus tick : ℕ) → cpus ≤ most_cpus → tick ≤ longest_tick → cpus * tick ≤ most_time_of_tick
     product cpus tick few short =
-        let y : cpus * tick ≤ cpus * 10000000 = mul-le-mul_left cpus short in
+        let y : cpus * tick ≤ cpus * longest_tick = mul-le-mul_left cpus short in
         omega (arith, y, few)

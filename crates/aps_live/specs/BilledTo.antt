@@ -14,4 +14,5 @@ pub record IsBilledTo (tick : ℕ) (window : Window) (h : List Entry) (e : Entry
   pub used : (p a b : ℕ) → window.tick < a + longest_window
       → bills_used bills p a b ≡ used tick h p a b + (if nat_eq q p then overlap tick a (min b k) e.from e.to else 0)
   pub critical : (p a b : ℕ) → window.tick < a + longest_window
-      → bills_critical bills p a b ≡ critical_used tick h p a b + (if nat_eq q p && e.critical then overlap tick a (min b k) e.from e.to else 0)
+      → bills_critical bills p a b
+      ≡ critical_used tick h p a b + (if nat_eq q p && e.critical then overlap tick a (min b k) e.from e.to else 0)

@@ -26,10 +26,12 @@ pub record IsAt (tick span cpus : ℕ) (h : List Entry) (window : Window) (lasts
   pub is_latest : moment ≡ latest h
 
 -- what each core keeps: its parts stand for its run
-pub record IsCore (run : LiveRun) (state : LiveState) (window : Window) (lasts : List ℕ) (moment : ℕ) (parts : List PartFacts) (entries : List Entry) (events : List LiveEvent) : Type 0 where
+pub record IsCore (run : LiveRun) (state : LiveState) (window : Window) (lasts : List ℕ) (moment : ℕ) (parts : List PartFacts)
+    (entries : List Entry) (events : List LiveEvent) : Type 0 where
   pub keeps : IsLiveRun run
   pub machine : state ≡ live_state_of run
-  pub stands : IsAt run.setup.scenario.shape.tick run.setup.scenario.shape.window run.setup.scenario.shape.cpus (entries_of run.steps) window lasts moment
+  pub stands : IsAt run.setup.scenario.shape.tick run.setup.scenario.shape.window run.setup.scenario.shape.cpus
+      (entries_of run.steps) window lasts moment
   pub room : length parts ≡ length run.setup.scenario.partitions
   pub recorded : entries ≡ entries_of run.steps
   pub told : events ≡ events_of run.steps

@@ -5,6 +5,7 @@ use Rattle.aps_live.specs.LiveHistory.{Taken}
 use Rattle.aps_model.specs.declared.shape.Bankruptcy.TheVariants.{Basic}
 use Rattle.aps_model.specs.declared.shape.Free.TheVariants.{Priority}
 use Rattle.aps_model.specs.declared.shape.Shape.{Shape}
+use Rattle.aps_model.specs.Limits.{percent}
 use Rattle.aps_model.specs.Scenario.{Scenario}
 use Rattle.aps_live.specs.LiveRun.{LiveRun}
 use Rattle.aps_live.specs.declared.view.Before.{Before}
@@ -40,7 +41,8 @@ TakesTicket step me found now = now ≡ (record me.0 { ticket = Waiting found },
 -- where its ticket is served, the seat has the core, and has seen all of its run
 abbrev pub Looks : Step (Option LiveRun) → Seated → ℕ → Seated → Type 0
 Looks step me found now = (t : ℕ) → me.0.ticket ≡ Waiting t
-    → (found ≡ t → (run : LiveRun) × IsSeenIn me.0.first me.0.after me.0.seen run × (now ≡ (record me.0 { seen = run; ticket = Served t }, (0, Some run) ∷ me.1)))
+    → (found ≡ t → (run : LiveRun) × IsSeenIn me.0.first me.0.after me.0.seen run
+    × (now ≡ (record me.0 { seen = run; ticket = Served t }, (0, Some run) ∷ me.1)))
     × (found ≢ t → now ≡ me)
 
 -- the same run, or the run with one entry more, of a processor from first on and before after
@@ -86,7 +88,17 @@ abbrev pub no_run : LiveRun
 no_run = record { setup = record { scenario = no_scenario; limit = 0 }; steps = [] }
   where
     no_shape : Shape
-    no_shape = record { parts = 100; cpus = 0; tick = 0; window = 0; ticks = 0; call_ns = 0; free = Priority; limit = false; bankruptcy = Basic }
+    no_shape = record {
+      parts = percent;
+      cpus = 0;
+      tick = 0;
+      window = 0;
+      ticks = 0;
+      call_ns = 0;
+      free = Priority;
+      limit = false;
+      bankruptcy = Basic;
+    }
 
     no_scenario : Scenario
     no_scenario = record { shape = no_shape; partitions = []; channels = []; threads = []; commands = [] }

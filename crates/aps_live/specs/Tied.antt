@@ -1,6 +1,6 @@
 -- What a window has to do with the entries of a history.
 use Rattle.std.specs.Prelude.{◌≡◌, ℕ, ◌+◌, ◌<◌, ◌≤◌, List}
-use Rattle.aps_model.specs.Limits.{longest_window}
+use Rattle.aps_model.specs.Limits.{longest_window, most_time_of_tick}
 use Rattle.aps_model.specs.declared.entry.Entry.{Entry}
 use Rattle.aps_model.specs.Usage.{critical_used, used}
 use Rattle.aps_window.specs.Bills.{Bill, bills_critical, bills_used}
@@ -16,4 +16,4 @@ pub record IsTied (tick : ℕ) (window : Window) (h : List Entry) : Type 0 where
 
 -- in no tick is a partition billed more than the time of 16 processors in the longest tick
 abbrev pub FitsTicks : ℕ → List Entry → Type 0
-FitsTicks tick h = (p k : ℕ) → used tick h p k (k + 1) ≤ 160000000
+FitsTicks tick h = (p k : ℕ) → used tick h p k (k + 1) ≤ most_time_of_tick

@@ -6,7 +6,7 @@ ghost use Rattle.aps_model.specs.Shape.{IsShape};
 ghost use Rattle.aps_ready.specs.Small.{IsSmall};
 ghost use Rattle.aps_live.specs.Part.{part_of};
 ghost use Rattle.aps_live.specs.Tied.{FitsTicks, IsTied};
-ghost use Rattle.aps_model.specs.Limits.{last_moment, longest_tick, longest_window, most_critical, most_partitions};
+ghost use Rattle.aps_model.specs.Limits.{last_moment, longest_tick, longest_window, most_critical, most_partitions, shortest_tick};
 
 use aps_model::limits::LONGEST_WINDOW;
 use aps_model::{
@@ -33,7 +33,7 @@ fn first_tick(from_tick: u64, now_tick: u64) -> u64
 pub fn bill_entry(window: &mut Window, _before: &[Entry], tick: u64, e: &Entry)
     requires tied { IsTied tick window.old _before.now }
     requires fits { FitsTicks tick (_before.now ++ e.now ∷ []) }
-    requires some { 100000 ≤ tick }
+    requires some { shortest_tick ≤ tick }
     requires short { tick ≤ longest_tick }
     requires forward { e.now.from ≤ e.now.to }
     requires early { e.now.to ≤ last_moment }
@@ -51,7 +51,7 @@ pub fn bill_entry(window: &mut Window, _before: &[Entry], tick: u64, e: &Entry)
 fn bill_ticks(window: &mut Window, _before: &[Entry], tick: u64, e: &Entry, p: PartitionId)
     requires tied { IsTied tick window.old _before.now }
     requires fits { FitsTicks tick (_before.now ++ e.now ∷ []) }
-    requires some { 100000 ≤ tick }
+    requires some { shortest_tick ≤ tick }
     requires short { tick ≤ longest_tick }
     requires forward { e.now.from ≤ e.now.to }
     requires early { e.now.to ≤ last_moment }

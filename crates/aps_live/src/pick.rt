@@ -7,7 +7,7 @@ ghost use Rattle.aps_live.specs.declared.event.LiveEvent.TheVariants.{Wake};
 ghost use Rattle.aps_live.specs.LiveState.{live_cpu_at};
 ghost use Rattle.aps_live.specs.LiveStep.{live_pick, live_settled};
 ghost use Rattle.aps_live.specs.Tied.{FitsTicks, IsTied};
-ghost use Rattle.aps_model.specs.Limits.{last_moment, longest_tick, most_entries, most_partitions};
+ghost use Rattle.aps_model.specs.Limits.{last_moment, last_tick, longest_tick, most_entries, most_partitions, shortest_tick};
 
 use crate::bills::bill_entry;
 use crate::event::LiveEvent;
@@ -43,7 +43,7 @@ pub fn bill_of(cpu: CpuId, from: Nanos, now: Nanos, running: Option<Pick>) -> En
 pub fn bill_now(window: &mut Window, before: &[Entry], tick: u64, was: Nanos, e: &Entry)
     requires tied { IsTied tick window.old before.now }
     requires fits { FitsTicks tick (before.now ++ e.now ∷ []) }
-    requires some { 100000 ≤ tick }
+    requires some { shortest_tick ≤ tick }
     requires short { tick ≤ longest_tick }
     requires forward { e.now.from ≤ e.now.to }
     requires early { e.now.to ≤ last_moment }
@@ -62,7 +62,7 @@ fn advance_to(window: &mut Window, _before: &[Entry], _tick: u64, was_tick: u64,
     requires tied { IsTied _tick window.old _before.now }
     requires was { window.old.tick ≡ was_tick }
     requires later { was_tick ≤ now_tick }
-    requires early { now_tick ≤ 100000000 }
+    requires early { now_tick ≤ last_tick }
     ensures tied { IsTied _tick window.new _before.now }
     ensures tick { window.new.tick ≡ now_tick }
     ensures span { window.new.span ≡ window.old.span }

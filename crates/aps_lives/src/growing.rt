@@ -119,7 +119,8 @@ fn pass(
     ensures lives { length lives.new.items ≡ length lives.old.items }
     ensures aside { length aside.new.items ≡ length aside.old.items }
     ensures passed { OnOk result ((x : ℕ) → x < length lives.old.items
-        → IsPassed until from (spec.doing_of (state_of core.now) x) (slice_index_or lives.old.items x []) (slice_index_or aside.old.items x nothing_aside)
+        → IsPassed until from (spec.doing_of (state_of core.now) x) (slice_index_or lives.old.items x [])
+        (slice_index_or aside.old.items x nothing_aside)
         (slice_index_or lives.new.items x []) (slice_index_or aside.new.items x nothing_aside)) }
 {
     let mut x = next_other(aside, core, 0, until, from);

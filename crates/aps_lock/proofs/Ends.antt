@@ -3,6 +3,7 @@ use Rattle.std.proofs.Common.{Option, Some, ◌≡◌, ℕ, zero, suc, ◌-◌, 
 use mathlib.Core.Option.{some, some-ne-none, some-injective}
 use lib.ListN.{get_elem?}
 use Rattle.std.proofs.Common.{lit<, subst₂, le_refl, zero-le}
+use Rattle.aps_model.specs.Limits.{most_cpus}
 use Rattle.atomic_table.specs.Table.{opening, Final, Seen}
 use Rattle.aps_core.specs.Run.{Run}
 use Rattle.aps_lock.specs.declared.view.View.{View}
@@ -14,7 +15,7 @@ use Rattle.aps_lock.specs.Kinds.{started}
 use Rattle.aps_lock.proofs.Others.{seen_self, seen_whole}
 use Rattle.aps_lock.proofs.Queue.{unserved, Out}
 
-pub begins : (c : Run) (words : List ℕ) → (cpus_of c) ≤ 16 → words ≡ 0 ∷ 0 ∷ length c.entries ∷ [] → KeepsRule (opening words (Some c ∷ []) (started c))
+pub begins : (c : Run) (words : List ℕ) → (cpus_of c) ≤ most_cpus → words ≡ 0 ∷ 0 ∷ length c.entries ∷ [] → KeepsRule (opening words (Some c ∷ []) (started c))
 begins c words few is = record {
   run = c;
   serving = 0;

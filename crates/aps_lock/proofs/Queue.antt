@@ -3,6 +3,7 @@ use Rattle.std.proofs.Common.{Option, ◌≡◌, ◌≢◌, ℕ, ◌+◌, ◌-�
 use mathlib.Core.Option.{some, some-injective}
 use lib.ListN.{get_elem?}
 use Rattle.std.proofs.Math.Nat.{mod-add-mod}
+use Rattle.aps_model.specs.Limits.{most_cpus}
 use Rattle.atomic_table.specs.Table.{State}
 use Rattle.atomic_table.proofs.Lists.{set_else, at_longer}
 use Rattle.aps_core.specs.Run.{Run}
@@ -19,7 +20,7 @@ ticket_le serving queued waiter j size (Waiting t) h = h.0
 ticket_le serving queued waiter j size (Served t) h = h.0
 
 -- so there are no more tickets than processors
-pub few_queued : (s : State (Option Run) View) (k : KeepsRule s) → k.queued ≤ 16
+pub few_queued : (s : State (Option Run) View) (k : KeepsRule s) → k.queued ≤ most_cpus
 few_queued s k = omega (arith, k.counted, k.shared_out, k.few, sum_le tickets room s.views (λ j v at. ticket_le k.serving k.queued k.waiter j (room v) v.ticket (k.seats j v at).place))
 
 pub served_first : (serving queued : ℕ) (waiter : ℕ → ℕ) (j size : ℕ) (ticket : Ticket) → HasPlace serving queued waiter j size ticket → IsServed ticket → (0 < queued) × (waiter 0 ≡ j)
@@ -51,7 +52,7 @@ place_sooner serving queued waiter id j size (Waiting t) head other someone h =
     (h.0, (p - 1, omega arith, h.1.2 ∙ ap (λ (n : ℕ). n % 2 ^ 64) (sym next) ∙ sym (mod-add-mod (serving + 1) (2 ^ 64) (p - 1)), ap waiter back ∙ h.1.3))
 place_sooner serving queued waiter id j size (Served t) head other someone h = absurd (other (sym h.3 ∙ head))
 
-pub waits_at : (serving queued : ℕ) (waiter : ℕ → ℕ) (j size t : ℕ) → serving < 2 ^ 64 → queued ≤ 16 → serving ≡ t → HasPlace serving queued waiter j size (Waiting t) → (0 < size) × (0 < queued) × (waiter 0 ≡ j)
+pub waits_at : (serving queued : ℕ) (waiter : ℕ → ℕ) (j size t : ℕ) → serving < 2 ^ 64 → queued ≤ most_cpus → serving ≡ t → HasPlace serving queued waiter j size (Waiting t) → (0 < size) × (0 < queued) × (waiter 0 ≡ j)
 waits_at serving queued waiter j size t fits few_queued same h =
     let p = h.1.0 in
     let near : p < queued = h.1.1 in

@@ -6,6 +6,7 @@ use Rattle.aps_model.specs.declared.entry.Order.TheVariants.{Free}
 use Rattle.aps_model.specs.declared.shape.Bankruptcy.TheVariants.{Basic}
 use Rattle.aps_model.specs.declared.shape.Free.TheVariants.{Priority}
 use Rattle.aps_model.specs.declared.shape.Shape.{Shape}
+use Rattle.aps_model.specs.Limits.{percent}
 use Rattle.aps_model.specs.Scenario.{Scenario}
 use Rattle.aps_core.specs.Run.{Run}
 use Rattle.aps_core.specs.Turn.{with_entry}
@@ -42,7 +43,8 @@ TakesTicket step me found now = now ≡ (record me.0 { ticket = Waiting found },
 -- where its ticket is served, the seat has the core, and has seen all of its run
 abbrev pub Looks : Step (Option Run) → Seated → ℕ → Seated → Type 0
 Looks step me found now = (t : ℕ) → me.0.ticket ≡ Waiting t
-    → (found ≡ t → (run : Run) × IsSeenIn me.0.first me.0.after me.0.seen run × (now ≡ (record me.0 { seen = run; ticket = Served t }, (0, Some run) ∷ me.1)))
+    → (found ≡ t → (run : Run) × IsSeenIn me.0.first me.0.after me.0.seen run
+    × (now ≡ (record me.0 { seen = run; ticket = Served t }, (0, Some run) ∷ me.1)))
     × (found ≢ t → now ≡ me)
 
 -- the same run, or the run with one entry more, of a processor from first on and before after
@@ -92,7 +94,17 @@ abbrev pub no_run : Run
 no_run = record { setup = record { scenario = no_scenario; order = Free; limit = 0 }; entries = [] }
   where
     no_shape : Shape
-    no_shape = record { parts = 100; cpus = 0; tick = 0; window = 0; ticks = 0; call_ns = 0; free = Priority; limit = false; bankruptcy = Basic }
+    no_shape = record {
+      parts = percent;
+      cpus = 0;
+      tick = 0;
+      window = 0;
+      ticks = 0;
+      call_ns = 0;
+      free = Priority;
+      limit = false;
+      bankruptcy = Basic;
+    }
 
     no_scenario : Scenario
     no_scenario = record { shape = no_shape; partitions = []; channels = []; threads = []; commands = [] }

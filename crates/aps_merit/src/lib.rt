@@ -6,6 +6,7 @@
 #![tactic(auto)]
 
 ghost use Rattle.std.specs.Prelude.{◌≡◌, ◌≤◌};
+ghost use Rattle.aps_model.specs.Limits.{most_used, thousandths};
 ghost use Rattle.aps_model.specs.Merit.{merit_of, is_critical_pick, is_candidate, is_greater, is_below};
 
 use aps_model::{Facts, Free, Merit, PartFacts, less_fraction};
@@ -50,10 +51,10 @@ pub fn is_candidate(facts: Facts, part: &PartFacts) -> bool
 ///
 /// Used times are at most 100,000,000,000,000 ns and budgets at most 1,000 parts, so that no product overflows.
 pub fn is_greater(a: &Merit, b: &Merit, free: Free) -> bool
-    requires used_a { a.now.used ≤ 100000000000000 }
-    requires budget_a { a.now.budget ≤ 1000 }
-    requires used_b { b.now.used ≤ 100000000000000 }
-    requires budget_b { b.now.budget ≤ 1000 }
+    requires used_a { a.now.used ≤ most_used }
+    requires budget_a { a.now.budget ≤ thousandths }
+    requires used_b { b.now.used ≤ most_used }
+    requires budget_b { b.now.budget ≤ thousandths }
     ensures { result ≡ is_greater free a.now b.now }
 {
     let a_smaller = less_fraction(a.used, a.budget, b.used, b.budget);

@@ -3,6 +3,7 @@ use Rattle.std.proofs.Common.{◌≡◌, ℕ, zero, suc, ◌+◌, ◌<◌, ◌�
 use Rattle.std.specs.Prelude.{if◌then◌else◌, Option, Some, None}
 use Rattle.std.specs.List.{fold, range_with_len}
 use Rattle.aps_model.specs.declared.entry.Entry.{Entry}
+use Rattle.aps_model.specs.Limits.{most_partitions}
 use Rattle.aps_model.specs.Scenario.{Scenario}
 use Rattle.aps_model.proofs.Ranges.{fold_more}
 use Rattle.aps_samples.specs.declared.sample.Sample.{Sample}
@@ -13,7 +14,8 @@ use Rattle.aps_pictures.specs.declared.survey.Survey.{Survey}
 use Rattle.aps_pictures.specs.Survey.{IsSurvey, found_from, found_with, no_found, partial_from, unchanged_from}
 
 -- of no tick, before the first sample
-pub none_surveyed : (scenario : Scenario) (h : List Entry) (sizes : Sizes) (from : ℕ) (s : Survey) → s.unchanged ≡ 0 → s.partial ≡ None → ((p : ℕ) → p < 32 → get_or s.found p no_found ≡ no_found)
+pub none_surveyed : (scenario : Scenario) (h : List Entry) (sizes : Sizes) (from : ℕ) (s : Survey) → s.unchanged ≡ 0 → s.partial ≡ None
+    → ((p : ℕ) → p < most_partitions → get_or s.found p no_found ≡ no_found)
     → IsSurvey scenario h sizes from 0 s
 unfolding unchanged_from partial_from found_from
 none_surveyed scenario h sizes from s unchanged partial found = record { unchanged = unchanged; partial = partial; found = found }
@@ -32,7 +34,7 @@ pub one_surveyed : (scenario : Scenario) (h : List Entry) (sizes : Sizes) (from 
     → IsSurvey scenario h sizes from n s
     → t.unchanged ≡ (if sample.unchanged then s.unchanged + 1 else s.unchanged)
     → t.partial ≡ (if sample.full then s.partial else Some sample.tick)
-    → ((p : ℕ) → p < 32 → get_or t.found p no_found ≡ found_with sizes p (get_or s.found p no_found) sample)
+    → ((p : ℕ) → p < most_partitions → get_or t.found p no_found ≡ found_with sizes p (get_or s.found p no_found) sample)
     → IsSurvey scenario h sizes from (n + 1) t
 unfolding unchanged_from partial_from found_from
 one_surveyed scenario h sizes from n j s t sample place is told unchanged partial found = record {

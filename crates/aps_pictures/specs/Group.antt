@@ -4,13 +4,13 @@ use Rattle.aps_samples.specs.declared.sample.Sample.{Sample}
 use Rattle.aps_pictures.specs.declared.group.Group.{Group}
 use Rattle.aps_pictures.specs.declared.group.Point.{Point}
 use Rattle.aps_pictures.specs.declared.scale.Sizes.{Sizes}
-use Rattle.aps_pictures.specs.Scale.{depth_of}
+use Rattle.aps_pictures.specs.Scale.{depth_of, plot_height}
 use Rattle.aps_pictures.specs.Survey.{bound_of, whole_of}
 use Rattle.aps_model.specs.Limits.{most_partitions}
 
 -- the point of no sample
 abbrev pub no_point : Point
-no_point = record { high = 900; low = 0; plain = 900; allowance = 900; bound = 0; lacking = false }
+no_point = record { high = plot_height; low = 0; plain = plot_height; allowance = plot_height; bound = 0; lacking = false }
 
 -- what is read past the end
 abbrev pub unread_point : Point

@@ -1,6 +1,7 @@
 -- How parts of all processor time stand on a panel.
 use Rattle.std.specs.Prelude.{ℕ, ◌-◌, ◌*◌, ◌/◌, List, [], ◌∷◌, Bool, min, nat_eq, nat_lt, if◌then◌else◌, slice_index_or}
 use Rattle.std.specs.List.{position_or_len}
+use Rattle.aps_model.specs.Limits.{thousandths}
 
 -- what the top of a panel may stand for, in parts of 1,000 of all processor time, but for the last, which is all of it
 abbrev pub tops : List ℕ
@@ -12,12 +13,16 @@ top_at scale = slice_index_or tops scale 1000
 
 -- the part of the whole is below a top
 abbrev pub is_below : ℕ → ℕ → ℕ → Bool
-is_below part whole top = nat_lt (part * 1000) (top * whole)
+is_below part whole top = nat_lt (part * thousandths) (top * whole)
 
 -- the place of the first top that the part is below, or of the last one
 abbrev pub scale_of : ℕ → ℕ → ℕ
 scale_of part whole = position_or_len (is_below part whole) tops
 
+-- how high the lines of a panel are
+abbrev pub plot_height : ℕ
+plot_height = 900
+
 -- how far a part of the whole stands below the top of a panel, which is 900 high and stands for so many parts of 1,000
 abbrev pub depth_of : ℕ → ℕ → ℕ → ℕ
-depth_of part whole top = if nat_eq (whole * top) 0 then 900 else 900 - min (part * 900000 / (whole * top)) 900
+depth_of part whole top = if nat_eq (whole * top) 0 then plot_height else plot_height - min (part * 900000 / (whole * top)) plot_height

@@ -1,7 +1,7 @@
 -- What the panels say of the samples that are shown.
 use Rattle.std.specs.Prelude.{◌≡◌, ℕ, ◌+◌, ◌*◌, ◌/◌, ◌<◌, Bool, false, ◌&&◌, ◌||◌, List, max, min, nat_eq, nat_lt, if◌then◌else◌, Option, Some, None, slice_index, slice_index_or}
 use Rattle.std.specs.List.{fold, range_with_len}
-use Rattle.aps_model.specs.Limits.{most_partitions}
+use Rattle.aps_model.specs.Limits.{greatest_u64, most_partitions, thousandths}
 use Rattle.aps_model.specs.declared.entry.Entry.{Entry}
 use Rattle.aps_model.specs.Scenario.{Scenario}
 use Rattle.aps_samples.specs.declared.sample.Sample.{Sample}
@@ -14,7 +14,7 @@ use Rattle.aps_pictures.specs.Scale.{scale_of}
 
 -- two times together, or the greatest number that there is
 abbrev pub with_time : ℕ → ℕ → ℕ
-with_time a b = min (a + b) 18446744073709551615
+with_time a b = min (a + b) greatest_u64
 
 -- all processor time of the window of a sample
 abbrev pub whole_of : Sizes → Sample → ℕ
@@ -22,7 +22,7 @@ whole_of sizes sample = sizes.cpus * sample.window * sizes.tick
 
 -- how many parts of 1,000 of the whole, rounded down
 abbrev pub share_of : ℕ → ℕ → ℕ
-share_of used whole = if nat_eq whole 0 then 0 else used * 1000 / whole
+share_of used whole = if nat_eq whole 0 then 0 else used * thousandths / whole
 
 -- a tick of each processor, where anything is allowed
 abbrev pub slack_of : Sizes → ℕ → ℕ

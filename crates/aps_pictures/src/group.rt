@@ -6,7 +6,7 @@ ghost use Rattle.aps_pictures.specs.Group.{IsEmptyGroup, joined, no_point, point
 ghost use Rattle.aps_pictures.specs.Scale.{depth_of, top_at};
 ghost use Rattle.aps_pictures.specs.Survey.{no_found, whole_of};
 ghost use Rattle.aps_samples.specs.Pass.{IsAt, scenario_of};
-ghost use Rattle.aps_model.specs.Limits.{most_entries, most_partitions};
+ghost use Rattle.aps_model.specs.Limits.{last_tick, most_entries, most_partitions};
 
 use crate::scale::{Sizes, depth_of, top_of};
 use crate::survey::{Range, Survey, bound_of};
@@ -119,7 +119,7 @@ impl Groups {
         tops: &[u64; 32],
         lacking: &[bool; 32],
     ) -> Result<(), NoMemory>
-        requires { place ≤ 100000000 }
+        requires { place ≤ last_tick }
     {
         if place == 0 && sample.tick > 0 {
             self.begins = begins_at(sample, sizes, tops);
@@ -154,7 +154,8 @@ fn begins_at(sample: &Sample, sizes: Sizes, tops: &[u64; 32]) -> [u16; 32]
 
 /// The partitions that had no candidate at some pick of tick `j`, which the pass has just left, where so many exist in it.
 fn lacking(samples: &Samples, rows: usize, j: u64) -> [bool; 32]
-    ensures { (p : ℕ) → p < most_partitions → slice_index_or result p false ≡ (nat_lt p rows && nat_lt j (slice_index samples.now.lasts.lacked p)) }
+    ensures { (p : ℕ) → p < most_partitions
+        → slice_index_or result p false ≡ (nat_lt p rows && nat_lt j (slice_index samples.now.lasts.lacked p)) }
 {
     let mut all = [false; MOST_PARTITIONS];
     for p in 0..MOST_PARTITIONS {

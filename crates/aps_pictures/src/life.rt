@@ -1,5 +1,6 @@
 //! The life of one thread, drawn.
 ghost use Rattle.std.specs.Prelude.{◌≡◌, ◌+◌, ◌*◌, ◌<◌, ◌≤◌, length};
+ghost use Rattle.aps_svg.specs.Span.{lowest_top};
 
 use aps_lives::{Doing, Life, Segment};
 use aps_model::{CpuId, NoMemory, PartitionId};
@@ -12,7 +13,7 @@ const HEIGHT: u64 = 150;
 
 /// The segments of a life that last long enough to be seen.
 pub fn add_life(out: &mut String, span: &Span, life: &Life, y: u64) -> Result<(), NoMemory>
-    requires { y ≤ 1000000 }
+    requires { y ≤ lowest_top }
 {
     for segment in life.segments() {
         if span.meets(segment.from, segment.to) {
@@ -23,7 +24,7 @@ pub fn add_life(out: &mut String, span: &Span, life: &Life, y: u64) -> Result<()
 }
 
 fn add_segment(out: &mut String, span: &Span, segment: &Segment, y: u64) -> Result<(), NoMemory>
-    requires { y ≤ 1000000 }
+    requires { y ≤ lowest_top }
 {
     let x = span.x_of(segment.from);
     let width = span.x_of(segment.to).saturating_sub(x);
@@ -68,7 +69,7 @@ pub fn add_run(
 /// The processor, where the bar is wide enough.
 fn add_cpu(out: &mut String, area: Area, cpu: CpuId) -> Result<(), NoMemory>
     requires x { area.x ≤ 1000000 }
-    requires y { area.y ≤ 1000000 }
+    requires y { area.y ≤ lowest_top }
 {
     if area.width < 300 {
         return Ok(());

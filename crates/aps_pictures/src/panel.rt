@@ -1,6 +1,7 @@
 //! The panel of one partition.
 ghost use Rattle.std.specs.Prelude.{◌≡◌, ◌+◌, ◌*◌, ◌/◌, ◌<◌, ◌≤◌, length, min};
 ghost use Rattle.aps_model.specs.Limits.{most_partitions};
+ghost use Rattle.aps_svg.specs.Span.{left_edge, lowest_top, page_width};
 
 use crate::group::{Group, Groups};
 use crate::scale::{HEIGHT, Sizes, top_of};
@@ -23,8 +24,8 @@ pub struct Panel {
     pub y: u64,
     pub width: u64,
     pub narrow: bool,
-    ghost left: { 1400 ≤ x },
-    ghost inside: { x + width ≤ 14000 },
+    ghost left: { left_edge ≤ x },
+    ghost inside: { x + width ≤ page_width },
     ghost low: { y ≤ 100000 },
 }
 
@@ -36,8 +37,8 @@ struct Plot {
     width: u64,
     count: u64,
     p: usize,
-    ghost left: { 1400 ≤ x },
-    ghost inside: { x + width ≤ 14000 },
+    ghost left: { left_edge ≤ x },
+    ghost inside: { x + width ≤ page_width },
     ghost low: { top ≤ 200000 },
     ghost some: { 0 < count },
     ghost partition: { p < most_partitions },
@@ -182,7 +183,7 @@ fn add_heights(out: &mut String, plot: &Plot, top: u64) -> Result<(), NoMemory> 
 }
 
 fn add_height(out: &mut String, plot: &Plot, y: u64, share: u64) -> Result<(), NoMemory>
-    requires { y ≤ 1000000 }
+    requires { y ≤ lowest_top }
 {
     let Plot { x, width, .. } = *plot;
     write!(
@@ -214,8 +215,8 @@ impl Plot {
     /// Where the samples before this place end.
     fn x_of(&self, place: u64) -> u64
         ensures same { result ≡ self.now.x + min place self.now.count * self.now.width / self.now.count }
-        ensures least { 1400 ≤ result }
-        ensures most { result ≤ 14000 }
+        ensures least { left_edge ≤ result }
+        ensures most { result ≤ page_width }
     {
         self.x + share(place.min(self.count), self.width, self.count)
     }

@@ -1,7 +1,7 @@
 //! The scale of a panel.
 ghost use Rattle.std.specs.Prelude.{◌≡◌, ◌+◌, ◌*◌, ◌<◌, ◌≤◌, length};
-ghost use Rattle.aps_pictures.specs.Scale.{depth_of, scale_of, top_at};
-ghost use Rattle.aps_model.specs.Limits.{longest_tick, most_cpus};
+ghost use Rattle.aps_pictures.specs.Scale.{depth_of, plot_height, scale_of, top_at};
+ghost use Rattle.aps_model.specs.Limits.{longest_tick, most_cpus, most_time_of_tick};
 
 use aps_model::Nanos;
 
@@ -36,7 +36,7 @@ impl Sizes {
     /// All processor time of a tick, in ns.
     pub fn tick_of_all(&self) -> Nanos
         ensures same { result ≡ self.now.cpus * self.now.tick }
-        ensures few { result ≤ 160000000 }
+        ensures few { result ≤ most_time_of_tick }
     {
         u64::from(self.cpus) * self.tick
     }
@@ -68,7 +68,7 @@ pub fn top_of(scale: usize) -> u64
 /// How far this part of the whole stands below the top of a panel, in units.
 pub fn depth_of(part: Nanos, whole: Nanos, top: u64) -> u16
     ensures same { result ≡ depth_of part whole top }
-    ensures few { result ≤ 900 }
+    ensures few { result ≤ plot_height }
 {
     let scale = u128::from(whole) * u128::from(top);
     if scale == 0 {

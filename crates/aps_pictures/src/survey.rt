@@ -5,7 +5,7 @@ ghost use Rattle.aps_model.specs.Loaded.{finished_ticks};
 ghost use Rattle.aps_pictures.specs.Survey.{IsSurvey, bound_of, found_with, highest_of, less, more, no_found, peak_of, share_of, whole_of};
 ghost use Rattle.aps_pictures.specs.declared.scale.Sizes.{Sizes};
 ghost use Rattle.aps_samples.specs.Pass.{IsAt, scenario_of};
-ghost use Rattle.aps_model.specs.Limits.{most_entries, most_partitions};
+ghost use Rattle.aps_model.specs.Limits.{last_tick, most_entries, most_partitions};
 
 use crate::scale::{Sizes, scale_of};
 use aps_model::limits::MOST_PARTITIONS;
@@ -19,7 +19,7 @@ pub struct Range {
     pub from: u64,
     pub end: u64,
     ghost some: { from < end },
-    ghost few: { end ≤ 100000000 },
+    ghost few: { end ≤ last_tick },
 }
 
 impl Range {
@@ -27,7 +27,7 @@ impl Range {
     pub fn count(&self) -> u64
         ensures same { result ≡ self.now.end - self.now.from }
         ensures some { 0 < result }
-        ensures few { result ≤ 100000000 }
+        ensures few { result ≤ last_tick }
     {
         self.end - self.from
     }
@@ -136,7 +136,7 @@ impl Survey {
 
     /// Adds a sample.
     fn add(&mut self, sample: &Sample, sizes: Sizes)
-        requires { self.old.unchanged ≤ 100000000 }
+        requires { self.old.unchanged ≤ last_tick }
         ensures unchanged { self.new.unchanged
             ≡ (if sample.now.unchanged then self.old.unchanged + 1 else self.old.unchanged) }
         ensures partial { self.new.partial ≡ (if sample.now.full then self.old.partial else Some sample.now.tick) }
@@ -155,7 +155,8 @@ impl Survey {
 
 /// What is found of each partition with one sample more.
 fn found_with(found: &[Found; 32], sample: &Sample, sizes: Sizes) -> [Found; 32]
-    ensures { (p : ℕ) → p < most_partitions → slice_index_or result p no_found ≡ found_with sizes p (slice_index_or found.now p no_found) sample.now }
+    ensures { (p : ℕ) → p < most_partitions
+        → slice_index_or result p no_found ≡ found_with sizes p (slice_index_or found.now p no_found) sample.now }
 {
     let mut all = [Found::nothing(); MOST_PARTITIONS];
     for p in 0..MOST_PARTITIONS {

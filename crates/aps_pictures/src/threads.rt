@@ -2,6 +2,7 @@
 ghost use Rattle.std.specs.Prelude.{◌≡◌, ◌+◌, ◌*◌, ◌<◌, ◌≤◌, length};
 ghost use Rattle.aps_model.specs.Legal.{IsLegal};
 ghost use Rattle.aps_model.specs.Limits.{most_entries, most_threads};
+ghost use Rattle.aps_svg.specs.Span.{lowest_top};
 
 use crate::legend::{add_hatched, add_partitions, add_sample, below_partitions};
 use crate::life::{add_life, add_ready, add_wait, stacked};
@@ -86,7 +87,7 @@ fn add_picture(
 
 /// The axis of a picture of a span.
 pub fn frame_of(top: u64, bottom: u64) -> Frame
-    requires { bottom ≤ 1000000 }
+    requires { bottom ≤ lowest_top }
 {
     Frame {
         x: 1400,
@@ -134,7 +135,7 @@ fn add_top(out: &mut String, scene: &Scene, exact: bool) -> Result<(), NoMemory>
 
 /// How waits are drawn, or that columns are.
 fn add_manner(out: &mut String, y: u64, exact: bool) -> Result<(), NoMemory>
-    requires { y ≤ 1000000 }
+    requires { y ≤ lowest_top }
 {
     if exact {
         add_wait(out, 7400, y + 50, 260)?;
@@ -203,7 +204,7 @@ fn add_stack(
     thread: &ThreadRow,
     y: u64,
 ) -> Result<(), NoMemory>
-    requires { y ≤ 1000000 }
+    requires { y ≤ lowest_top }
 {
     open_lane(out, x, thread, y)?;
     let strip = Strip {
@@ -216,7 +217,7 @@ fn add_stack(
 
 /// The beginning of a thread's lane: its name.
 fn open_lane(out: &mut String, x: usize, thread: &ThreadRow, y: u64) -> Result<(), NoMemory>
-    requires { y ≤ 1000000 }
+    requires { y ≤ lowest_top }
 {
     open_numbered(out, "thread", x)?;
     let place = Place {

@@ -1,5 +1,6 @@
 //! What a history says of each partition and of each worker.
 ghost use Rattle.std.specs.Prelude.{◌≡◌, ◌*◌, ◌/◌, ◌≤◌, min};
+ghost use Rattle.aps_model.specs.Limits.{greatest_u64, percent};
 ghost use Rattle.aps_pool.specs.Share.{billed, billed_to, lasts, step_with, steps_with, told};
 
 use aps_model::{Entry, Nanos, PartitionId, ThreadId};
@@ -33,7 +34,7 @@ fn step_with(e: &Entry, thread: ThreadId) -> u64
 
 /// How long these entries last together (ns), or 2^64 - 1 where that is more.
 pub fn told_ns(entries: &[Entry]) -> Nanos
-    ensures { result ≡ min (told entries.now) 18446744073709551615 }
+    ensures { result ≡ min (told entries.now) greatest_u64 }
 {
     let mut sum: Nanos = 0;
     for e in entries {
@@ -44,7 +45,7 @@ pub fn told_ns(entries: &[Entry]) -> Nanos
 
 /// What these entries bill to the partition (ns), or 2^64 - 1 where that is more.
 pub fn billed_ns(entries: &[Entry], partition: PartitionId) -> Nanos
-    ensures { result ≡ min (billed partition entries.now) 18446744073709551615 }
+    ensures { result ≡ min (billed partition entries.now) greatest_u64 }
 {
     let mut sum: Nanos = 0;
     for e in entries {
@@ -55,7 +56,7 @@ pub fn billed_ns(entries: &[Entry], partition: PartitionId) -> Nanos
 
 /// How many of these entries the thread ran in, for longer than no time, or 2^64 - 1 where that is more.
 pub fn steps_of(entries: &[Entry], thread: ThreadId) -> u64
-    ensures { result ≡ min (steps_with thread entries.now) 18446744073709551615 }
+    ensures { result ≡ min (steps_with thread entries.now) greatest_u64 }
 {
     let mut count: u64 = 0;
     for e in entries {
@@ -66,8 +67,8 @@ pub fn steps_of(entries: &[Entry], thread: ThreadId) -> u64
 
 /// So many parts of 100 of the time (ns), rounded down.
 pub fn due_ns(time: Nanos, parts: u8) -> Nanos
-    requires { parts ≤ 100 }
-    ensures { result ≡ time * parts / 100 }
+    requires { parts ≤ percent }
+    ensures { result ≡ time * parts / percent }
 {
     (u128::from(time) * u128::from(parts) / 100) as u64
 }

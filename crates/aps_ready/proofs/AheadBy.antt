@@ -11,7 +11,9 @@ use Rattle.aps_model.specs.declared.merit.Contender.{Contender}
 use Rattle.aps_model.specs.Merit.{by_ratio, is_below, is_greater, IsGreater}
 use Rattle.aps_model.specs.Pick.{merit_among, candidates, greatest, IsGreatestCandidate}
 use Rattle.aps_model.proofs.GreatestLaws.{greatest-is, no_greatest}
+use Rattle.aps_model.specs.Limits.{greatest_priority}
 use Rattle.aps_levels.specs.Bits.{has}
+use Rattle.aps_levels.specs.Levels.{level_count}
 use Rattle.aps_ready.specs.declared.ahead.Ahead.{Ahead}
 use Rattle.aps_ready.specs.declared.entrant.Entrant.{Entrant}
 use Rattle.aps_ready.specs.declared.gates.Gates.{Gates}
@@ -25,6 +27,7 @@ use Rattle.aps_ready.specs.Winner.{is_above, is_candidate_at}
 use Rattle.aps_ready.proofs.Above.{class_at, above_first, above_first_by_level, above_second_by_level, above_one_way}
 use Rattle.aps_ready.proofs.Content.{IsOpenAt, open_from, open_group, open_among}
 use Rattle.aps_ready.proofs.Winner.{Stands, first_stands, second_stands, in_one}
+use Rattle.aps_ready.specs.Group.{group_count}
 
 clash : (t : Bool) → t ≡ true → t ≡ false → ⊥
 clash t p q = cc
@@ -106,11 +109,11 @@ not_lower parts a b h = elim (below_or_not a.level b.level) [
     other a b h = grind (arith, nat_tests)
 
 small : (parts : List PartFacts) (row : List Entrant) (x : ℕ) → IsQueued row → x < length row → is_candidate_at parts (entrant_at row x) ≡ true
-    → (entrant_at row x).level ≤ 255
+    → (entrant_at row x).level ≤ greatest_priority
 small parts row x queued within here = queued.levels x within (open_group parts (entrant_at row x) here)
 
 abbrev told : ℕ → ℕ → Ahead
-told class level = record { class = class; priority = 255 - level }
+told class level = record { class = class; priority = greatest_priority - level }
 
 -- what is told of a candidate of this class, where its level is told too
 told_of : (free : Free) (parts : List PartFacts) (row : List Entrant) (c : Contender) (k l : ℕ) → (w : IsWon free parts row c)
@@ -119,7 +122,7 @@ told_of : (free : Free) (parts : List PartFacts) (row : List Entrant) (c : Conte
     → IsAheadOf free parts c (told k l)
 told_of free parts row c k l w class level = record {
   class = sym (ap (λ (d : Contender). (merit_among parts d).class) w.is ∙ class);
-  priority = λ h. ap (λ (i : ℕ). 255 - i) (sym (level h)) ∙ sym (ap (λ (d : Contender). d.facts.priority) w.is);
+  priority = λ h. ap (λ (i : ℕ). greatest_priority - i) (sym (level h)) ∙ sym (ap (λ (d : Contender). d.facts.priority) w.is);
 }
 
 -- ---- somebody of class 1
@@ -140,7 +143,7 @@ first_won free parts row gates c l are queued highest one w = elim (in_one parts
     best : Entrant
     best = entrant_at row w.place
 
-    below : best.group < 64
+    below : best.group < group_count
     below = open_group parts best w.candidate
 
     e : Entrant
@@ -153,7 +156,7 @@ first_won free parts row gates c l are queued highest one w = elim (in_one parts
     behind = w.others one.place one.within stands.candidate
 
 pub first_ahead : (free : Free) (parts : List PartFacts) (row : List Entrant) (gates : Gates) (l : ℕ) → AreGates parts gates → IsQueued row
-    → IsHighest row (has gates.first) l → l < 256 → IsAhead free parts (greatest free parts (members (map seat_of row))) (Some (told 1 l))
+    → IsHighest row (has gates.first) l → l < level_count → IsAhead free parts (greatest free parts (members (map seat_of row))) (Some (told 1 l))
 first_ahead free parts row gates l are queued highest low = by_result (greatest free parts (members (map seat_of row))) refl
   where
     one : HasOneAt row (has gates.first) l
@@ -167,7 +170,7 @@ first_ahead free parts row gates l are queued highest low = by_result (greatest 
 -- ---- nobody of class 1
 
 -- nobody has a level past the last
-nobody_past : (parts : List PartFacts) (row : List Entrant) (set : ℕ → Bool) (l x : ℕ) → IsQueued row → IsHighest row set l → 256 ≤ l → x < length row
+nobody_past : (parts : List PartFacts) (row : List Entrant) (set : ℕ → Bool) (l x : ℕ) → IsQueued row → IsHighest row set l → level_count ≤ l → x < length row
     → is_candidate_at parts (entrant_at row x) ≡ true → set (entrant_at row x).group ≡ true → ⊥
 nobody_past parts row set l x queued highest past within here among =
     omega (arith, past, small parts row x queued within here, highest.least x within (open_group parts (entrant_at row x) here) among)
@@ -178,7 +181,7 @@ by_level Priority m none h = refl
 by_level Ratio m none h = absurd (clash (by_ratio Ratio m m) (ap (λ (k : ℕ). nat_eq k 0 && nat_eq k 0) none) h)
 
 second_won : (free : Free) (parts : List PartFacts) (row : List Entrant) (gates : Gates) (c : Contender) (past l : ℕ) → AreGates parts gates → IsQueued row
-    → IsHighest row (has gates.first) past → 256 ≤ past → IsHighest row (has gates.second) l → HasOneAt row (has gates.second) l
+    → IsHighest row (has gates.first) past → level_count ≤ past → IsHighest row (has gates.second) l → HasOneAt row (has gates.second) l
     → IsWon free parts row c → IsAheadOf free parts c (told 0 l)
 second_won free parts row gates c past l are queued none over highest one w = elim (in_one parts gates best are w.candidate) [
   | inl first ↦ absurd (nobody_past parts row (has gates.first) past w.place queued none over w.within w.candidate first)
@@ -196,7 +199,7 @@ second_won free parts row gates c past l are queued none over highest one w = el
     best : Entrant
     best = entrant_at row w.place
 
-    below : best.group < 64
+    below : best.group < group_count
     below = open_group parts best w.candidate
 
     e : Entrant
@@ -206,7 +209,7 @@ second_won free parts row gates c past l are queued none over highest one w = el
     stands = second_stands parts gates e are one.there one.among
 
 pub second_ahead : (free : Free) (parts : List PartFacts) (row : List Entrant) (gates : Gates) (past l : ℕ) → AreGates parts gates → IsQueued row
-    → IsHighest row (has gates.first) past → 256 ≤ past → IsHighest row (has gates.second) l → l < 256
+    → IsHighest row (has gates.first) past → level_count ≤ past → IsHighest row (has gates.second) l → l < level_count
     → IsAhead free parts (greatest free parts (members (map seat_of row))) (Some (told 0 l))
 second_ahead free parts row gates past l are queued none over highest low = by_result (greatest free parts (members (map seat_of row))) refl
   where
@@ -219,7 +222,7 @@ second_ahead free parts row gates past l are queued none over highest low = by_r
     by_result (Some c) h = second_won free parts row gates c past l are queued none over highest one (won free parts row c queued h)
 
 pub nobody_ahead : (free : Free) (parts : List PartFacts) (row : List Entrant) (gates : Gates) (past past_too : ℕ) → AreGates parts gates → IsQueued row
-    → IsHighest row (has gates.first) past → 256 ≤ past → IsHighest row (has gates.second) past_too → 256 ≤ past_too
+    → IsHighest row (has gates.first) past → level_count ≤ past → IsHighest row (has gates.second) past_too → level_count ≤ past_too
     → IsAhead free parts (greatest free parts (members (map seat_of row))) None
 nobody_ahead free parts row gates past past_too are queued none over none_too over_too =
     by_result (greatest free parts (members (map seat_of row))) refl

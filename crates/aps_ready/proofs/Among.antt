@@ -2,7 +2,9 @@ use Rattle.std.proofs.Common.{◌≡◌, ◌⊎◌, inl, inr, ℕ, ◌%◌, ◌<
 use Rattle.std.proofs.lemmas.Bool.Decides.{nat_tests}
 use Rattle.aps_model.specs.declared.merit.PartFacts.{PartFacts}
 use Rattle.aps_model.specs.Budget.{part_at}
+use Rattle.aps_model.specs.Limits.{most_partitions}
 use Rattle.aps_levels.specs.Bits.{has}
+use Rattle.aps_levels.specs.Levels.{level_count}
 use Rattle.aps_ready.specs.declared.entrant.Entrant.{Entrant}
 use Rattle.aps_ready.specs.declared.leaders.Leaders.{Leaders}
 use Rattle.aps_ready.specs.Entrant.{entrant_at, vacant, goes_before}
@@ -13,6 +15,7 @@ use Rattle.aps_ready.specs.Gates.{open_first}
 use Rattle.aps_ready.specs.Leaders.{is_less_than, AreLeaders, IsEarliest}
 use Rattle.aps_ready.proofs.Tops.{IsTop, IsKept, top_of, not_vacant}
 use Rattle.aps_ready.proofs.Fractions.{smaller_chain, smaller_one_way, smaller_not_itself, not_more_than_smaller, has_budget}
+use Rattle.aps_ready.specs.Group.{group_count}
 
 below_or_not : (a b : ℕ) → (a < b) ⊎ (b ≤ a)
 below_or_not a b = search arith
@@ -80,8 +83,8 @@ best_of_leaders parts row firsts wanted found leaders best kept are least earlie
     best_level : best.level ≡ least.level
     best_level = ap (λ (e : Entrant). e.level) earliest.is ∙ level
 
-    top_there : (entrant_at firsts b).group < 64
-    top_there = elim (below_or_not (entrant_at firsts b).group 64) [
+    top_there : (entrant_at firsts b).group < group_count
+    top_there = elim (below_or_not (entrant_at firsts b).group group_count) [
       | inl g ↦ g
       | inr none ↦ absurd (omega (arith, level, least.below, ap (λ (e : Entrant). e.level) (top.none (λ g. omega (arith, g, none)))))
     ]
@@ -89,7 +92,7 @@ best_of_leaders parts row firsts wanted found leaders best kept are least earlie
     own_group : best.group ≡ b
     own_group = ap (λ (e : Entrant). e.group) earliest.is ∙ top.group top_there
 
-    there : best.group < 64
+    there : best.group < group_count
     there = omega (arith, own_group, earliest.below)
 
     leads : (wanted b ≡ true) × (not (is_less_than parts leaders.used leaders.budget b) ≡ true)
@@ -99,20 +102,20 @@ best_of_leaders parts row firsts wanted found leaders best kept are least earlie
     not_less = not_true (is_less_than parts leaders.used leaders.budget b) leads.1
 
     part_b : PartFacts
-    part_b = part_at parts (b % 32)
+    part_b = part_at parts (b % most_partitions)
 
-    behind_b : (x : ℕ) → x < length row → (entrant_at row x).group < 64 → wanted (entrant_at row x).group ≡ true → (t : Bool)
+    behind_b : (x : ℕ) → x < length row → (entrant_at row x).group < group_count → wanted (entrant_at row x).group ≡ true → (t : Bool)
         → is_less_than parts leaders.used leaders.budget (entrant_at row x).group ≡ t
-        → ahead_by (part_at parts ((entrant_at row x).group % 32)) part_b (goes_before (entrant_at row x) best) ≡ false
+        → ahead_by (part_at parts ((entrant_at row x).group % most_partitions)) part_b (goes_before (entrant_at row x) best) ≡ false
     behind_b x within here among true h =
-        let part = part_at parts ((entrant_at row x).group % 32) in
+        let part = part_at parts ((entrant_at row x).group % most_partitions) in
         let more : has_used_less part_b part ≡ true =
         not_more_than_smaller leaders.used leaders.budget part_b.used part_b.budget part.used part.budget h not_less in
         behind_by_fraction part part_b (goes_before (entrant_at row x) best)
         (smaller_one_way part_b.used part_b.budget part.used part.budget more) more
     behind_b x within here among false h =
         let g = (entrant_at row x).group in
-        let part = part_at parts (g % 32) in
+        let part = part_at parts (g % most_partitions) in
         let led : has leaders.groups g ≡ true = are.these g here ∙ pair (wanted g) (not (is_less_than parts leaders.used leaders.budget g)) among (ap not h) in
         let first = (top_of row firsts g kept here).first x within refl in
         let low : best.level ≤ level_of firsts g = omega (arith, best_level, least.least g here led) in
@@ -124,10 +127,10 @@ best_of_leaders parts row firsts wanted found leaders best kept are least earlie
         (equal (level_of firsts g) least.level (omega (arith, high, low, best_level))) led))
         first.1)
 
-    behind : (x : ℕ) → x < length row → (entrant_at row x).group < 64 → wanted (entrant_at row x).group ≡ true → (t : Bool)
+    behind : (x : ℕ) → x < length row → (entrant_at row x).group < group_count → wanted (entrant_at row x).group ≡ true → (t : Bool)
         → is_less_than parts leaders.used leaders.budget (entrant_at row x).group ≡ t → is_ahead parts (entrant_at row x) best ≡ false
     behind x within here among t h =
-        ap (λ (g : ℕ). ahead_by (part_at parts ((entrant_at row x).group % 32)) (part_at parts (g % 32)) (goes_before (entrant_at row x) best)) own_group
+        ap (λ (g : ℕ). ahead_by (part_at parts ((entrant_at row x).group % most_partitions)) (part_at parts (g % most_partitions)) (goes_before (entrant_at row x) best)) own_group
         ∙ behind_b x within here among t h
 
 -- ---- groups that are candidates of class 1
@@ -147,7 +150,7 @@ best_of_open parts row set best opened is = record {
 
 -- each of them is at the least level
 pub least_at_level : (firsts : List Entrant) (set leading : ℕ → Bool) (l group : ℕ) → AreAt firsts set l
-    → ((g : ℕ) → g < 64 → leading g ≡ true → set g ≡ true) → group < 64 → leading group ≡ true → AreLeast firsts leading leading
+    → ((g : ℕ) → g < group_count → leading g ≡ true → set g ≡ true) → group < group_count → leading group ≡ true → AreLeast firsts leading leading
 least_at_level firsts set leading l group at inside below here = record {
   level = l;
   below = at.below;
@@ -168,8 +171,8 @@ least_at_level firsts set leading l group at inside below here = record {
 -- ---- one group alone
 
 pub best_of_one : (parts : List PartFacts) (row : List Entrant) (firsts : List Entrant) (wanted : ℕ → Bool)
-    (g : ℕ) → IsKept row firsts → g < 64 → level_of firsts g < 256 → wanted g ≡ true
-    → ((k : ℕ) → k < 64 → wanted k ≡ true → k ≡ g) → IsBest parts row wanted (entrant_at firsts g)
+    (g : ℕ) → IsKept row firsts → g < group_count → level_of firsts g < level_count → wanted g ≡ true
+    → ((k : ℕ) → k < group_count → wanted k ≡ true → k ≡ g) → IsBest parts row wanted (entrant_at firsts g)
 best_of_one parts row firsts wanted g kept below level here one = record {
   inside = λ there. subst (λ (k : ℕ). wanted k ≡ true) (sym (top.group there)) here;
   sits = top.sits;
@@ -180,25 +183,25 @@ best_of_one parts row firsts wanted g kept below level here one = record {
     top : IsTop row g (entrant_at firsts g)
     top = top_of row firsts g kept below
 
-    top_there : (entrant_at firsts g).group < 64
-    top_there = elim (below_or_not (entrant_at firsts g).group 64) [
+    top_there : (entrant_at firsts g).group < group_count
+    top_there = elim (below_or_not (entrant_at firsts g).group group_count) [
       | inl there ↦ there
       | inr none ↦ absurd (omega (arith, level, ap (λ (e : Entrant). e.level) (top.none (λ there. omega (arith, there, none)))))
     ]
 
     part : PartFacts
-    part = part_at parts (g % 32)
+    part = part_at parts (g % most_partitions)
 
     behind : (x : ℕ) → x < length row → (entrant_at row x).group ≡ g → is_ahead parts (entrant_at row x) (entrant_at firsts g) ≡ false
     behind x within own =
-        ap (λ (k : ℕ). ahead_by (part_at parts (k % 32)) (part_at parts ((entrant_at firsts g).group % 32)) (goes_before (entrant_at row x) (entrant_at firsts g))) own
-        ∙ ap (λ (k : ℕ). ahead_by part (part_at parts (k % 32)) (goes_before (entrant_at row x) (entrant_at firsts g))) (top.group top_there)
+        ap (λ (k : ℕ). ahead_by (part_at parts (k % most_partitions)) (part_at parts ((entrant_at firsts g).group % most_partitions)) (goes_before (entrant_at row x) (entrant_at firsts g))) own
+        ∙ ap (λ (k : ℕ). ahead_by part (part_at parts (k % most_partitions)) (goes_before (entrant_at row x) (entrant_at firsts g))) (top.group top_there)
         ∙ behind_by_rest part part (goes_before (entrant_at row x) (entrant_at firsts g)) (smaller_not_itself part.used part.budget)
         (top.first x within own).1
 
 -- nobody is best where nobody leads
 pub best_of_nobody : (parts : List PartFacts) (row : List Entrant) (firsts : List Entrant) (wanted : ℕ → Bool) (leaders : Leaders) (best : Entrant)
-    → best ≡ vacant → AreLeaders parts wanted leaders → ((g : ℕ) → g < 64 → wanted g ≡ true → level_of firsts g < 256)
+    → best ≡ vacant → AreLeaders parts wanted leaders → ((g : ℕ) → g < group_count → wanted g ≡ true → level_of firsts g < level_count)
     → AreEmpty firsts leaders.groups → IsBest parts row wanted best
 best_of_nobody parts row firsts wanted leaders best is are occupied empty = record {
   inside = λ g. absurd (not_vacant best is g);
@@ -207,14 +210,14 @@ best_of_nobody parts row firsts wanted leaders best is are occupied empty = reco
   others = λ x within here among. absurd (nobody_led (entrant_at row x).group here among (is_less_than parts leaders.used leaders.budget (entrant_at row x).group) refl);
 }
   where
-    no_leader : (g : ℕ) → g < 64 → has leaders.groups g ≡ true → ⊥
+    no_leader : (g : ℕ) → g < group_count → has leaders.groups g ≡ true → ⊥
     no_leader g below led =
         let own = both (wanted g) (not (is_less_than parts leaders.used leaders.budget g)) (sym (are.these g below) ∙ led) in
         omega (arith, empty g below led, occupied g below own.0)
 
-    nobody_led : (g : ℕ) → g < 64 → wanted g ≡ true → (t : Bool) → is_less_than parts leaders.used leaders.budget g ≡ t → ⊥
+    nobody_led : (g : ℕ) → g < group_count → wanted g ≡ true → (t : Bool) → is_less_than parts leaders.used leaders.budget g ≡ t → ⊥
     nobody_led g below among true h =
-        let one = are.some (has_budget leaders.used leaders.budget (part_at parts (g % 32)).used (part_at parts (g % 32)).budget h) in
+        let one = are.some (has_budget leaders.used leaders.budget (part_at parts (g % most_partitions)).used (part_at parts (g % most_partitions)).budget h) in
         no_leader one.0 one.1 one.2
     nobody_led g below among false h =
         no_leader g below (are.these g below ∙ pair (wanted g) (not (is_less_than parts leaders.used leaders.budget g)) among (ap not h))

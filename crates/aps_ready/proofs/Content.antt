@@ -7,12 +7,14 @@ use Rattle.aps_model.specs.declared.merit.PartFacts.{PartFacts}
 use Rattle.aps_model.specs.declared.merit.Contender.{Contender}
 use Rattle.aps_model.specs.Merit.{is_candidate}
 use Rattle.aps_model.specs.Budget.{part_at}
+use Rattle.aps_model.specs.Limits.{most_partitions}
 use Rattle.aps_model.specs.Pick.{candidates}
 use Rattle.aps_ready.specs.declared.entrant.Entrant.{Entrant}
 use Rattle.aps_ready.specs.Ready.{members, contender_of, facts_of, seat_of}
 use Rattle.aps_ready.specs.Entrant.{entrant_at}
 use Rattle.aps_ready.specs.Winner.{is_candidate_at}
 use Rattle.aps_ready.proofs.Queued.{seat_at, seat_in}
+use Rattle.aps_ready.specs.Group.{group_count}
 
 -- the candidates of a row of seats are those who sit there and are candidates
 
@@ -71,8 +73,8 @@ pub record IsOpenAt (parts : List PartFacts) (row : List Entrant) (c : Contender
   pub is : c ≡ contender_of (entrant_at row place)
   pub open_here : is_candidate_at parts (entrant_at row place) ≡ true
 
-seen_is : (e : Entrant) (c : Contender) → seat_of e ≡ Some c → (nat_lt e.group 64 ≡ true) × (c ≡ contender_of e)
-seen_is e c is = by_test (nat_lt e.group 64) is
+seen_is : (e : Entrant) (c : Contender) → seat_of e ≡ Some c → (nat_lt e.group group_count ≡ true) × (c ≡ contender_of e)
+seen_is e c is = by_test (nat_lt e.group group_count) is
   where
     by_test : (t : Bool) → cond t (Some (contender_of e)) None ≡ Some c → (t ≡ true) × (c ≡ contender_of e)
     by_test true h = (refl, cc)
@@ -87,22 +89,28 @@ open_from parts row c among =
     let within : sits.place < length row = omega (arith, sits.within, length-map row seat_of) in
     let seen = seen_is (entrant_at row sits.place) c (sym (seat_at row sits.place within) ∙ sits.is) in
     let passed : passes parts (contender_of (entrant_at row sits.place)) ≡ true = ap (passes parts) (sym seen.1) ∙ sits.passes in
-    record { place = sits.place; within = within; is = seen.1; open_here = both (nat_lt (entrant_at row sits.place).group 64) (passes parts (contender_of (entrant_at row sits.place))) seen.0 passed }
+    record {
+      place = sits.place;
+      within = within;
+      is = seen.1;
+      open_here = both (nat_lt (entrant_at row sits.place).group group_count) (passes parts (contender_of (entrant_at row sits.place))) seen.0 passed;
+    }
 
 open_parts : (a b : Bool) → (a && b) ≡ true → (a ≡ true) × (b ≡ true)
 open_parts true b h = (refl, h)
 open_parts false b h = absurd cc
 
-pub open_group : (parts : List PartFacts) (e : Entrant) → is_candidate_at parts e ≡ true → e.group < 64
+pub open_group : (parts : List PartFacts) (e : Entrant) → is_candidate_at parts e ≡ true → e.group < group_count
 open_group parts e h =
-    let below : nat_lt e.group 64 ≡ true = (open_parts (nat_lt e.group 64) (is_candidate (facts_of e) (part_at parts (e.group % 32))) h).0 in
+    let below : nat_lt e.group group_count ≡ true = (open_parts (nat_lt e.group group_count) (is_candidate (facts_of e) (part_at parts (e.group % most_partitions))) h).0 in
     grind (arith, nat_tests)
 
 pub open_among : (parts : List PartFacts) (row : List Entrant) (x : ℕ) → x < length row → is_candidate_at parts (entrant_at row x) ≡ true
     → Contains (candidates parts (members (map seat_of row))) (contender_of (entrant_at row x))
 open_among parts row x within h =
     to_candidates parts (map seat_of row) x (contender_of (entrant_at row x)) (omega (arith, within, length-map row seat_of))
-    (seat_at row x within ∙ seat_in (entrant_at row x) (open_group parts (entrant_at row x) h)) (open_parts (nat_lt (entrant_at row x).group 64) (passes parts (contender_of (entrant_at row x))) h).1
+    (seat_at row x within ∙ seat_in (entrant_at row x) (open_group parts (entrant_at row x) h))
+    (open_parts (nat_lt (entrant_at row x).group group_count) (passes parts (contender_of (entrant_at row x))) h).1
 
 -- what holds of everybody who is there and a candidate holds of the candidates
 pub all_candidates : (P : Contender → Type 0) (parts : List PartFacts) (row : List Entrant)

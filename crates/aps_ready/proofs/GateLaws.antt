@@ -5,10 +5,12 @@ use Rattle.std.proofs.lemmas.List.{get_or_append_left, get_or-append_right, get_
 use Rattle.std.proofs.lemmas.Bool.Decides.{nat_tests}
 use Rattle.aps_model.specs.declared.merit.PartFacts.{PartFacts}
 use Rattle.aps_model.specs.Budget.{part_at, no_part}
+use Rattle.aps_model.specs.Limits.{last_partition, most_partitions}
 use Rattle.aps_levels.specs.declared.bits.Bits64.{Bits64}
 use Rattle.aps_levels.specs.Bits.{has}
 use Rattle.aps_ready.specs.declared.gates.Gates.{Gates}
 use Rattle.aps_ready.specs.Gates.{is_open_first, is_open_second, AreGatesOf}
+use Rattle.aps_ready.specs.Group.{group_count}
 
 -- ---- one partition stands otherwise
 
@@ -34,83 +36,83 @@ below_or_not : (a b : ℕ) → (a < b) ⊎ (b ≤ a)
 below_or_not a b = search arith
 
 -- a group is of the partition, or its marked one, or of another partition
-group_of : (g p : ℕ) → g < 64 → p < 32
-    → ((g ≡ p + 32) × (nat_lt 31 g ≡ true)) ⊎ (((g ≡ p) × (nat_lt 31 g ≡ false)) ⊎ (g % 32 ≢ p))
-group_of g p below small = elim (cases_eq (g % 32) p) [
+group_of : (g p : ℕ) → g < group_count → p < most_partitions
+    → ((g ≡ p + most_partitions) × (nat_lt last_partition g ≡ true)) ⊎ (((g ≡ p) × (nat_lt last_partition g ≡ false)) ⊎ (g % most_partitions ≢ p))
+group_of g p below small = elim (cases_eq (g % most_partitions) p) [
   | inr other ↦ inr (inr other)
-  | inl same ↦ elim (below_or_not g 32) [
+  | inl same ↦ elim (below_or_not g most_partitions) [
     | inl low ↦ inr (inl (omega (arith, low, same), grind (arith, nat_tests)))
     | inr high ↦ inl (omega (arith, high, below, same), grind (arith, nat_tests))
   ]
 ]
 
-pub gate_set : (test : PartFacts → Bool → Bool) (stands : ℕ → PartFacts) (p : ℕ) (part : PartFacts) (old plain both : Bits64) → p < 32
+pub gate_set : (test : PartFacts → Bool → Bool) (stands : ℕ → PartFacts) (p : ℕ) (part : PartFacts) (old plain both : Bits64) → p < most_partitions
     → ((k : ℕ) → has plain k ≡ cond (nat_eq k p) (test part false) (has old k))
-    → ((k : ℕ) → has both k ≡ cond (nat_eq k (p + 32)) (test part true) (has plain k))
-    → ((g : ℕ) → g < 64 → has old g ≡ test (stands (g % 32)) (nat_lt 31 g))
-    → (g : ℕ) → g < 64 → has both g ≡ test (cond (nat_eq (g % 32) p) part (stands (g % 32))) (nat_lt 31 g)
+    → ((k : ℕ) → has both k ≡ cond (nat_eq k (p + most_partitions)) (test part true) (has plain k))
+    → ((g : ℕ) → g < group_count → has old g ≡ test (stands (g % most_partitions)) (nat_lt last_partition g))
+    → (g : ℕ) → g < group_count → has both g ≡ test (cond (nat_eq (g % most_partitions) p) part (stands (g % most_partitions))) (nat_lt last_partition g)
 gate_set test stands p part old plain both small plain_is both_is was g below = elim (group_of g p below small) [
   | inl marked ↦
-      let place : g % 32 ≡ p = omega (arith, marked.0, small) in
+      let place : g % most_partitions ≡ p = omega (arith, marked.0, small) in
       let left : has both g ≡ test part true =
-      both_is g ∙ ap (λ (t : Bool). cond t (test part true) (has plain g)) (equal g (p + 32) marked.0) in
+      both_is g ∙ ap (λ (t : Bool). cond t (test part true) (has plain g)) (equal g (p + most_partitions) marked.0) in
       left ∙ sym (now_here place true marked.1)
   | inr rest ↦ elim rest [
     | inl bare ↦
-        let place : g % 32 ≡ p = omega (arith, bare.0, small) in
-        let apart : g ≢ p + 32 = λ e. omega (arith, e, bare.0) in
+        let place : g % most_partitions ≡ p = omega (arith, bare.0, small) in
+        let apart : g ≢ p + most_partitions = λ e. omega (arith, e, bare.0) in
         let left : has both g ≡ test part false =
         plain_here apart ∙ ap (λ (t : Bool). cond t (test part false) (has old g)) (equal g p bare.0) in
         left ∙ sym (now_here place false bare.1)
     | inr other ↦
         let apart : g ≢ p = λ e. other (omega (arith, e, small)) in
-        let far : g ≢ p + 32 = λ e. other (omega (arith, e, small)) in
+        let far : g ≢ p + most_partitions = λ e. other (omega (arith, e, small)) in
         let left : has both g ≡ has old g =
         plain_here far ∙ ap (λ (t : Bool). cond t (test part false) (has old g)) (not_equal g p apart) in
         left ∙ was g below
-        ∙ ap (λ (q : PartFacts). test q (nat_lt 31 g)) (sym (set_there (g % 32) (stands (g % 32)) p part other))
+        ∙ ap (λ (q : PartFacts). test q (nat_lt last_partition g)) (sym (set_there (g % most_partitions) (stands (g % most_partitions)) p part other))
   ]
 ]
   where
-    plain_here : g ≢ p + 32 → has both g ≡ cond (nat_eq g p) (test part false) (has old g)
+    plain_here : g ≢ p + most_partitions → has both g ≡ cond (nat_eq g p) (test part false) (has old g)
     plain_here apart =
-        both_is g ∙ ap (λ (t : Bool). cond t (test part true) (has plain g)) (not_equal g (p + 32) apart) ∙ plain_is g
+        both_is g ∙ ap (λ (t : Bool). cond t (test part true) (has plain g)) (not_equal g (p + most_partitions) apart) ∙ plain_is g
 
-    now_here : g % 32 ≡ p → (t : Bool) → nat_lt 31 g ≡ t
-        → test (cond (nat_eq (g % 32) p) part (stands (g % 32))) (nat_lt 31 g) ≡ test part t
+    now_here : g % most_partitions ≡ p → (t : Bool) → nat_lt last_partition g ≡ t
+        → test (cond (nat_eq (g % most_partitions) p) part (stands (g % most_partitions))) (nat_lt last_partition g) ≡ test part t
     now_here place t is =
-        ap (λ (q : PartFacts). test q (nat_lt 31 g)) (set_here (g % 32) (stands (g % 32)) p part place) ∙ ap (test part) is
+        ap (λ (q : PartFacts). test q (nat_lt last_partition g)) (set_here (g % most_partitions) (stands (g % most_partitions)) p part place) ∙ ap (test part) is
 
-pub budget_set : (stands : ℕ → PartFacts) (p : ℕ) (part : PartFacts) (old new : Bits64) → p < 32
+pub budget_set : (stands : ℕ → PartFacts) (p : ℕ) (part : PartFacts) (old new : Bits64) → p < most_partitions
     → ((k : ℕ) → has new k ≡ cond (nat_eq k p) (nat_lt 0 part.budget) (has old k))
-    → ((q : ℕ) → q < 64 → has old q ≡ (nat_lt q 32 && nat_lt 0 (stands q).budget))
-    → (q : ℕ) → q < 64 → has new q ≡ (nat_lt q 32 && nat_lt 0 (cond (nat_eq q p) part (stands q)).budget)
+    → ((q : ℕ) → q < 64 → has old q ≡ (nat_lt q most_partitions && nat_lt 0 (stands q).budget))
+    → (q : ℕ) → q < 64 → has new q ≡ (nat_lt q most_partitions && nat_lt 0 (cond (nat_eq q p) part (stands q)).budget)
 budget_set stands p part old new small put was q below = elim (cases_eq q p) [
   | inl same ↦
       let left : has new q ≡ nat_lt 0 part.budget =
       put q ∙ ap (λ (t : Bool). cond t (nat_lt 0 part.budget) (has old q)) (equal q p same) in
-      left ∙ sym (ap (λ (t : Bool). t && nat_lt 0 (cond (nat_eq q p) part (stands q)).budget) (less q 32 (omega (arith, same, small)))
+      left ∙ sym (ap (λ (t : Bool). t && nat_lt 0 (cond (nat_eq q p) part (stands q)).budget) (less q most_partitions (omega (arith, same, small)))
       ∙ ap (λ (part : PartFacts). nat_lt 0 part.budget) (set_here q (stands q) p part same))
   | inr other ↦
       let left : has new q ≡ has old q = put q ∙ ap (λ (t : Bool). cond t (nat_lt 0 part.budget) (has old q)) (not_equal q p other) in
-      left ∙ was q below ∙ ap (λ (r : PartFacts). nat_lt q 32 && nat_lt 0 r.budget) (sym (set_there q (stands q) p part other))
+      left ∙ was q below ∙ ap (λ (r : PartFacts). nat_lt q most_partitions && nat_lt 0 r.budget) (sym (set_there q (stands q) p part other))
 ]
 
 -- ---- gates read a partition only below number 32
 
-pub gates_same : (before after : ℕ → PartFacts) (gates : Gates) → ((q : ℕ) → q < 32 → before q ≡ after q) → AreGatesOf before gates
+pub gates_same : (before after : ℕ → PartFacts) (gates : Gates) → ((q : ℕ) → q < most_partitions → before q ≡ after q) → AreGatesOf before gates
     → AreGatesOf after gates
 gates_same before after gates same are = record {
-  first = λ g below. are.first g below ∙ ap (λ (part : PartFacts). is_open_first part (nat_lt 31 g)) (same (g % 32) (omega arith));
-  second = λ g below. are.second g below ∙ ap (λ (part : PartFacts). is_open_second part (nat_lt 31 g)) (same (g % 32) (omega arith));
-  budgeted = λ p below. are.budgeted p below ∙ by_place p (below_or_not p 32);
+  first = λ g below. are.first g below ∙ ap (λ (part : PartFacts). is_open_first part (nat_lt last_partition g)) (same (g % most_partitions) (omega arith));
+  second = λ g below. are.second g below ∙ ap (λ (part : PartFacts). is_open_second part (nat_lt last_partition g)) (same (g % most_partitions) (omega arith));
+  budgeted = λ p below. are.budgeted p below ∙ by_place p (below_or_not p most_partitions);
 }
   where
-    by_place : (p : ℕ) → (p < 32) ⊎ (32 ≤ p) → (nat_lt p 32 && nat_lt 0 (before p).budget) ≡ (nat_lt p 32 && nat_lt 0 (after p).budget)
-    by_place p (inl low) = ap (λ (part : PartFacts). nat_lt p 32 && nat_lt 0 part.budget) (same p low)
+    by_place : (p : ℕ) → (p < most_partitions) ⊎ (most_partitions ≤ p) → (nat_lt p most_partitions && nat_lt 0 (before p).budget) ≡ (nat_lt p most_partitions && nat_lt 0 (after p).budget)
+    by_place p (inl low) = ap (λ (part : PartFacts). nat_lt p most_partitions && nat_lt 0 part.budget) (same p low)
     by_place p (inr high) =
-        ap (λ (t : Bool). t && nat_lt 0 (before p).budget) (not_less p 32 high)
-        ∙ sym (ap (λ (t : Bool). t && nat_lt 0 (after p).budget) (not_less p 32 high))
+        ap (λ (t : Bool). t && nat_lt 0 (before p).budget) (not_less p most_partitions high)
+        ∙ sym (ap (λ (t : Bool). t && nat_lt 0 (after p).budget) (not_less p most_partitions high))
 
 -- ---- partitions by their list
 
@@ -164,5 +166,5 @@ told_more parts n q part is = elim (cases_eq q n) [
     same_test other (inl low) = less q n low ∙ sym (less q (n + 1) (omega (arith, low)))
     same_test other (inr high) = not_less q n high ∙ sym (not_less q (n + 1) (omega (arith, high, other)))
 
-pub told_all : (parts : List PartFacts) (q : ℕ) → q < 32 → told parts 32 q ≡ part_at parts q
-told_all parts q below = ap (λ (t : Bool). cond t (part_at parts q) no_part) (less q 32 below)
+pub told_all : (parts : List PartFacts) (q : ℕ) → q < most_partitions → told parts most_partitions q ≡ part_at parts q
+told_all parts q below = ap (λ (t : Bool). cond t (part_at parts q) no_part) (less q most_partitions below)

@@ -3,12 +3,14 @@ use Rattle.std.proofs.lemmas.Bool.Decides.{nat_tests}
 use Rattle.aps_model.specs.declared.merit.PartFacts.{PartFacts}
 use Rattle.aps_model.specs.Merit.{smaller}
 use Rattle.aps_model.specs.Budget.{part_at}
+use Rattle.aps_model.specs.Limits.{most_partitions}
 use Rattle.aps_levels.specs.declared.bits.Bits64.{Bits64}
 use Rattle.aps_levels.specs.Bits.{has}
 use Rattle.aps_ready.specs.declared.leaders.Leaders.{Leaders}
 use Rattle.aps_ready.specs.Leaders.{is_less_than, is_more_than, HasGroup, AreLeading, AreLeaders}
 use Rattle.aps_ready.specs.Small.{IsSmall}
 use Rattle.aps_ready.proofs.Fractions.{smaller_one_way, smaller_not_itself, smaller_than_more, has_budget}
+use Rattle.aps_ready.specs.Group.{group_count}
 
 clash : (t : Bool) → t ≡ true → t ≡ false → ⊥
 clash t p q = cc
@@ -45,7 +47,7 @@ equal a b h = grind (arith, nat_tests)
 -- ---- the same groups, told otherwise
 
 pub leading_same : (parts : List PartFacts) (before after : ℕ → Bool) (leaders : Leaders)
-    → ((g : ℕ) → g < 64 → before g ≡ after g) → AreLeading parts before leaders → AreLeading parts after leaders
+    → ((g : ℕ) → g < group_count → before g ≡ after g) → AreLeading parts before leaders → AreLeading parts after leaders
 leading_same parts before after leaders same are = record {
   level = are.level;
   all = λ g below h. are.all g below (same g below ∙ h);
@@ -57,7 +59,7 @@ leading_same parts before after leaders same are = record {
 }
 
 -- nobody leads where nobody was seen
-pub none_leading : (parts : List PartFacts) (seen : ℕ → Bool) (leaders : Leaders) → ((g : ℕ) → g < 64 → seen g ≡ false)
+pub none_leading : (parts : List PartFacts) (seen : ℕ → Bool) (leaders : Leaders) → ((g : ℕ) → g < group_count → seen g ≡ false)
     → ((g : ℕ) → has leaders.groups g ≡ false) → leaders.used ≡ 1 → leaders.budget ≡ 0 → AreLeading parts seen leaders
 none_leading parts seen leaders unseen none one no_budget = record {
   level = λ g _ h. absurd (clash (has leaders.groups g) h (none g));
@@ -73,24 +75,24 @@ none_leading parts seen leaders unseen none one no_budget = record {
 
 -- those of them that are in the set
 abbrev pub more_of : (ℕ → Bool) → ℕ → ℕ → Bool
-more_of set p g = set g && nat_eq (g % 32) p
+more_of set p g = set g && nat_eq (g % most_partitions) p
 
 -- these are the two groups of the partition
 abbrev pub AreOf : ℕ → (ℕ → Bool) → Type 0
-AreOf p these = (g : ℕ) → g < 64 → these g ≡ nat_eq (g % 32) p
+AreOf p these = (g : ℕ) → g < group_count → these g ≡ nat_eq (g % most_partitions) p
 
-own : (these : ℕ → Bool) (p g : ℕ) → AreOf p these → g < 64 → these g ≡ true → g % 32 ≡ p
-own these p g are below h = same_of (g % 32) p (sym (are g below) ∙ h)
+own : (these : ℕ → Bool) (p g : ℕ) → AreOf p these → g < group_count → these g ≡ true → g % most_partitions ≡ p
+own these p g are below h = same_of (g % most_partitions) p (sym (are g below) ∙ h)
 
 -- the partition of the group stands so
-part_here : (parts : List PartFacts) (part : PartFacts) (p g : ℕ) → part ≡ part_at parts p → g % 32 ≡ p → part_at parts (g % 32) ≡ part
+part_here : (parts : List PartFacts) (part : PartFacts) (p g : ℕ) → part ≡ part_at parts p → g % most_partitions ≡ p → part_at parts (g % most_partitions) ≡ part
 part_here parts part p g is own = ap (part_at parts) own ∙ sym is
 
-own_of : (set : ℕ → Bool) (p g : ℕ) → more_of set p g ≡ true → g % 32 ≡ p
-own_of set p g h = same_of (g % 32) p (second (set g) (nat_eq (g % 32) p) h)
+own_of : (set : ℕ → Bool) (p g : ℕ) → more_of set p g ≡ true → g % most_partitions ≡ p
+own_of set p g h = same_of (g % most_partitions) p (second (set g) (nat_eq (g % most_partitions) p) h)
 
-more_in : (set : ℕ → Bool) (these : ℕ → Bool) (p g : ℕ) → AreOf p these → g < 64 → more_of set p g ≡ true → these g ≡ true
-more_in set these p g are below h = are g below ∙ second (set g) (nat_eq (g % 32) p) h
+more_in : (set : ℕ → Bool) (these : ℕ → Bool) (p g : ℕ) → AreOf p these → g < group_count → more_of set p g ≡ true → these g ≡ true
+more_in set these p g are below h = are g below ∙ second (set g) (nat_eq (g % most_partitions) p) h
 
 -- the partition has used less
 pub less_more : (parts : List PartFacts) (set seen : ℕ → Bool) (old : Leaders) (part : PartFacts) (p budget : ℕ) (groups : Bits64)
@@ -105,7 +107,7 @@ less_more parts set seen old part p budget groups is are_of one are small same l
     | inr m ↦ more_in set (has groups) p g are_of below m
   ];
   least = λ g below among. elim (either (seen g) (more_of set p g) among) [
-    | inl s ↦ smaller_one_way part.used budget (part_at parts (g % 32)).used (part_at parts (g % 32)).budget (seen_less g below s)
+    | inl s ↦ smaller_one_way part.used budget (part_at parts (g % most_partitions)).used (part_at parts (g % most_partitions)).budget (seen_less g below s)
     | inr m ↦
         ap (λ (q : PartFacts). smaller q.used q.budget part.used budget) (part_here parts part p g is (own_of set p g m)) ∙ self_too
   ];
@@ -113,8 +115,8 @@ less_more parts set seen old part p budget groups is are_of one are small same l
     one.group,
     one.inside,
     or_right (seen one.group) (more_of set p one.group)
-        (pair (set one.group) (nat_eq (one.group % 32) p) one.here (equal (one.group % 32) p one.own)),
-    are_of one.group one.inside ∙ equal (one.group % 32) p one.own,
+        (pair (set one.group) (nat_eq (one.group % most_partitions) p) one.here (equal (one.group % most_partitions) p one.own)),
+    are_of one.group one.inside ∙ equal (one.group % most_partitions) p one.own,
   );
   one = λ none. absurd (omega (arith, none, same, has_budget part.used part.budget old.used old.budget less));
   used = small.used;
@@ -127,15 +129,15 @@ less_more parts set seen old part p budget groups is are_of one are small same l
     self_too : smaller part.used part.budget part.used budget ≡ false
     self_too = ap (λ (b : ℕ). smaller part.used part.budget part.used b) same ∙ smaller_not_itself part.used part.budget
 
-    seen_less : (g : ℕ) → g < 64 → seen g ≡ true → is_less_than parts part.used budget g ≡ true
+    seen_less : (g : ℕ) → g < group_count → seen g ≡ true → is_less_than parts part.used budget g ≡ true
     seen_less g below s =
-        smaller_than_more part.used budget (part_at parts (g % 32)).used (part_at parts (g % 32)).budget old.used old.budget
+        smaller_than_more part.used budget (part_at parts (g % most_partitions)).used (part_at parts (g % most_partitions)).budget old.used old.budget
         (ap (λ (b : ℕ). smaller part.used b old.used old.budget) same ∙ less) (are.least g below s)
 
 -- it has used no less; whether it has used more says who leads
 not_less_more : (parts : List PartFacts) (set seen : ℕ → Bool) (old : Leaders) (part : PartFacts) (p : ℕ) → part ≡ part_at parts p
     → AreLeading parts seen old → smaller part.used part.budget old.used old.budget ≡ false
-    → (g : ℕ) → g < 64 → (seen g || more_of set p g) ≡ true → is_more_than parts old.used old.budget g ≡ false
+    → (g : ℕ) → g < group_count → (seen g || more_of set p g) ≡ true → is_more_than parts old.used old.budget g ≡ false
 not_less_more parts set seen old part p is are h g below among = elim (either (seen g) (more_of set p g) among) [
   | inl s ↦ are.least g below s
   | inr m ↦ ap (λ (q : PartFacts). smaller q.used q.budget old.used old.budget) (part_here parts part p g is (own_of set p g m)) ∙ h
@@ -206,14 +208,14 @@ leaders_of parts set leading groups are meet = record {
     picked false false x level all = refl
 
 -- a group is of a partition where it is one of its two
-pub one_of_two : (g p : ℕ) → g < 64 → p < 32 → (nat_eq g (p + 32) || (nat_eq g p || false)) ≡ nat_eq (g % 32) p
+pub one_of_two : (g p : ℕ) → g < group_count → p < most_partitions → (nat_eq g (p + most_partitions) || (nat_eq g p || false)) ≡ nat_eq (g % most_partitions) p
 one_of_two g p below p_below = grind (arith, nat_tests)
 
 -- ---- the groups that were seen
 
 -- all those of partitions that aren't left
 abbrev pub seen_of : (ℕ → Bool) → (ℕ → Bool) → ℕ → Bool
-seen_of wanted left g = wanted g && not (left (g % 32))
+seen_of wanted left g = wanted g && not (left (g % most_partitions))
 
 pub none_seen : (w l : Bool) → (w ≡ true → l ≡ true) → (w && not l) ≡ false
 none_seen true true h = refl
@@ -221,9 +223,9 @@ none_seen true false h = absurd (clash true refl (sym (h refl)))
 none_seen false l h = refl
 
 pub one_more : (wanted left after : ℕ → Bool) (p : ℕ) → ((k : ℕ) → after k ≡ (not (nat_eq k p) && left k))
-    → (g : ℕ) → (seen_of wanted left g || (wanted g && nat_eq (g % 32) p)) ≡ seen_of wanted after g
+    → (g : ℕ) → (seen_of wanted left g || (wanted g && nat_eq (g % most_partitions) p)) ≡ seen_of wanted after g
 one_more wanted left after p without g =
-    split (wanted g) (left (g % 32)) (nat_eq (g % 32) p) ∙ ap (λ (t : Bool). wanted g && not t) (sym (without (g % 32)))
+    split (wanted g) (left (g % most_partitions)) (nat_eq (g % most_partitions) p) ∙ ap (λ (t : Bool). wanted g && not t) (sym (without (g % most_partitions)))
   where
     split : (w l s : Bool) → ((w && not l) || (w && s)) ≡ (w && not (not s && l))
     split false l s = refl
@@ -258,25 +260,27 @@ kept_in all left end p is below h = is p ∙ pair (nat_lt p end) (all p) (less p
 below_or_not : (a b : ℕ) → (a < b) ⊎ (b ≤ a)
 below_or_not a b = search arith
 
-pub has_group : (groups upper joined half : ℕ → Bool) → ((k : ℕ) → upper k ≡ groups (k + 32)) → ((k : ℕ) → joined k ≡ (groups k || upper k))
-    → ((k : ℕ) → half k ≡ (nat_lt k 32 && joined k)) → (p : ℕ) → half p ≡ true → HasGroup groups p
+pub has_group : (groups upper joined half : ℕ → Bool) → ((k : ℕ) → upper k ≡ groups (k + most_partitions)) → ((k : ℕ) → joined k ≡ (groups k || upper k))
+    → ((k : ℕ) → half k ≡ (nat_lt k most_partitions && joined k)) → (p : ℕ) → half p ≡ true → HasGroup groups p
 has_group groups upper joined half upper_is joined_is half_is p h =
     let both = sym (half_is p) ∙ h in
-    let low : p < 32 = is_less p 32 (first (nat_lt p 32) (joined p) both) in
-    elim (either (groups p) (upper p) (sym (joined_is p) ∙ second (nat_lt p 32) (joined p) both)) [
+    let low : p < most_partitions = is_less p most_partitions (first (nat_lt p most_partitions) (joined p) both) in
+    elim (either (groups p) (upper p) (sym (joined_is p) ∙ second (nat_lt p most_partitions) (joined p) both)) [
       | inl here ↦ record { below = low; group = p; inside = omega (arith, low); here = here; own = omega (arith, low) }
       | inr here ↦
-          record { below = low; group = p + 32; inside = omega (arith, low); here = sym (upper_is p) ∙ here; own = omega (arith, low) }
+          record { below = low; group = p + most_partitions; inside = omega (arith, low); here = sym (upper_is p) ∙ here; own = omega (arith, low) }
     ]
 
-pub folded : (groups upper joined half : ℕ → Bool) → ((k : ℕ) → upper k ≡ groups (k + 32)) → ((k : ℕ) → joined k ≡ (groups k || upper k))
-    → ((k : ℕ) → half k ≡ (nat_lt k 32 && joined k)) → (g : ℕ) → g < 64 → groups g ≡ true → half (g % 32) ≡ true
+pub folded : (groups upper joined half : ℕ → Bool) → ((k : ℕ) → upper k ≡ groups (k + most_partitions)) → ((k : ℕ) → joined k ≡ (groups k || upper k))
+    → ((k : ℕ) → half k ≡ (nat_lt k most_partitions && joined k)) → (g : ℕ) → g < group_count → groups g ≡ true → half (g % most_partitions) ≡ true
 folded groups upper joined half upper_is joined_is half_is g below h =
-    half_is (g % 32) ∙ pair (nat_lt (g % 32) 32) (joined (g % 32)) (less (g % 32) 32 (omega arith)) (joined_is (g % 32) ∙ (elim (below_or_not g 32) [
+    half_is (g % most_partitions)
+    ∙ pair (nat_lt (g % most_partitions) most_partitions) (joined (g % most_partitions)) (less (g % most_partitions) most_partitions (omega arith))
+    (joined_is (g % most_partitions) ∙ (elim (below_or_not g most_partitions) [
       | inl low ↦
-          let same : g % 32 ≡ g = omega (arith, low) in
-          ap (λ (t : Bool). t || upper (g % 32)) (ap groups same ∙ h)
+          let same : g % most_partitions ≡ g = omega (arith, low) in
+          ap (λ (t : Bool). t || upper (g % most_partitions)) (ap groups same ∙ h)
       | inr high ↦
-          let same : g % 32 + 32 ≡ g = omega (arith, high, below) in
-          or_right (groups (g % 32)) (upper (g % 32)) (upper_is (g % 32) ∙ ap groups same ∙ h)
+          let same : g % most_partitions + most_partitions ≡ g = omega (arith, high, below) in
+          or_right (groups (g % most_partitions)) (upper (g % most_partitions)) (upper_is (g % most_partitions) ∙ ap groups same ∙ h)
     ]))

@@ -2,36 +2,39 @@ use Rattle.std.proofs.Common.{◌≡◌, ◌≢◌, ◌⊎◌, inl, inr, ℕ, ze
 use Rattle.std.proofs.lemmas.Bool.{cases_eq}
 use Rattle.std.proofs.lemmas.Bool.Decides.{nat_tests}
 use Rattle.std.proofs.lemmas.List.{get_or-replicate, length-replicate, get_or_past}
+use Rattle.aps_model.specs.Limits.{greatest_priority, most_threads}
 use Rattle.aps_levels.specs.declared.bits.Bits64.{Bits64}
 use Rattle.aps_levels.specs.Bits.{has}
+use Rattle.aps_levels.specs.Levels.{level_count}
 use Rattle.aps_ready.specs.declared.entrant.Entrant.{Entrant}
 use Rattle.aps_ready.specs.Entrant.{entrant_at, vacant}
-use Rattle.aps_ready.specs.Lists.{head_of, link, list_of, IsNode, IsLinked, AreRings, IsPlace, AreLists}
+use Rattle.aps_ready.specs.Lists.{head_of, link, list_of, node_count, IsNode, IsLinked, AreRings, IsPlace, AreLists}
 use Rattle.aps_ready.specs.Ready.{IsQueued}
 use Rattle.aps_ready.specs.Table.{bits_at}
 use Rattle.aps_ready.proofs.Queued.{queued_set, queued_replicate}
 use Rattle.aps_ready.proofs.Rings.{within_row, list_of_thread, list_of_head, thread_node, node_still, joined, left_out}
+use Rattle.aps_ready.specs.Group.{group_count}
 
 below_or_not : (a b : ℕ) → (a < b) ⊎ (b ≤ a)
 below_or_not a b = search arith
 
 -- a head is one of one level and one group
-pub same_head : (l g k h : ℕ) → g < 64 → h < 64 → head_of l g ≡ head_of k h → (l ≡ k) × (g ≡ h)
+pub same_head : (l g k h : ℕ) → g < group_count → h < group_count → head_of l g ≡ head_of k h → (l ≡ k) × (g ≡ h)
 same_head l g k h g_below h_below same = (omega (arith, g_below, h_below, same), omega (arith, g_below, h_below, same))
 
-pub head_low : (l g : ℕ) → l < 256 → g < 64 → head_of l g < 17408
+pub head_low : (l g : ℕ) → l < level_count → g < group_count → head_of l g < node_count
 head_low l g l_below g_below = omega (arith, l_below, g_below)
 
 -- ---- somebody comes
 
 pub rings_entered : (row : List Entrant) (after before : List ℕ) (x place : ℕ) (e : Entrant) → AreRings row after before → x < length row
-    → e.group < 64 → e.level ≤ 255 → 64 ≤ (entrant_at row x).group → IsPlace row after (head_of e.level e.group) e.stamp place
+    → e.group < group_count → e.level ≤ greatest_priority → group_count ≤ (entrant_at row x).group → IsPlace row after (head_of e.level e.group) e.stamp place
     → AreRings (set row x e) (set (set after place x) x (link after place)) (set (set before (link after place) x) x place)
 rings_entered row after before x place e rings within there level out is_place = record {
   few = omega (arith, length-set row x e, rings.few);
   levels = λ y y_there. elim (cases_eq y x) [
-    | inl same ↦ subst (λ (f : Entrant). f.level ≤ 255) (sym (ap (entrant_at new) same ∙ here)) level
-    | inr ne ↦ subst (λ (f : Entrant). f.level ≤ 255) (sym (others y ne)) (rings.levels y (subst (λ (f : Entrant). f.group < 64) (others y ne) y_there))
+    | inl same ↦ subst (λ (f : Entrant). f.level ≤ greatest_priority) (sym (ap (entrant_at new) same ∙ here)) level
+    | inr ne ↦ subst (λ (f : Entrant). f.level ≤ greatest_priority) (sym (others y ne)) (rings.levels y (subst (λ (f : Entrant). f.group < group_count) (others y ne) y_there))
   ];
   after_size = length-set (set after place x) x next ∙ length-set after place x ∙ rings.after_size;
   before_size = length-set (set before next x) x place ∙ length-set before next x ∙ rings.before_size;
@@ -100,7 +103,7 @@ rings_entered row after before x place e rings within there level out is_place =
     after_new : List ℕ
     after_new = set (set after place x) x next
 
-    low : x < 1024
+    low : x < most_threads
     low = omega (arith, within, rings.few)
 
     here : entrant_at new x ≡ e
@@ -109,8 +112,8 @@ rings_entered row after before x place e rings within there level out is_place =
     others : (y : ℕ) → y ≢ x → entrant_at new y ≡ entrant_at row y
     others y ne = get_or-set_other row x y e vacant ne
 
-    new_there : (entrant_at new x).group < 64
-    new_there = subst (λ (f : Entrant). f.group < 64) (sym here) there
+    new_there : (entrant_at new x).group < group_count
+    new_there = subst (λ (f : Entrant). f.group < group_count) (sym here) there
 
     x_list : list_of new x ≡ head_of e.level e.group
     x_list = list_of_thread new x low ∙ ap (λ (f : Entrant). head_of f.level f.group) here
@@ -137,12 +140,12 @@ rings_entered row after before x place e rings within there level out is_place =
 -- ---- somebody goes
 
 -- nobody is next to itself
-pub next_is_other : (row : List Entrant) (after before : List ℕ) (x : ℕ) → AreRings row after before → (entrant_at row x).group < 64
+pub next_is_other : (row : List Entrant) (after before : List ℕ) (x : ℕ) → AreRings row after before → (entrant_at row x).group < group_count
     → (link after x ≢ x) × (link before x ≢ x)
 next_is_other row after before x rings there =
     (not_next, λ same. not_next (ap (link after) (sym same) ∙ (rings.back x node).returns))
   where
-    low : x < 1024
+    low : x < most_threads
     low = omega (arith, within_row row x there, rings.few)
 
     node : IsNode row x
@@ -152,13 +155,13 @@ next_is_other row after before x rings there =
     not_next same =
         omega (arith, rings.rising x node low (omega (arith, same, low)), ap (λ (k : ℕ). (entrant_at row k).stamp) same)
 
-pub rings_left : (row : List Entrant) (after before : List ℕ) (x : ℕ) → AreRings row after before → (entrant_at row x).group < 64
+pub rings_left : (row : List Entrant) (after before : List ℕ) (x : ℕ) → AreRings row after before → (entrant_at row x).group < group_count
     → AreRings (set row x vacant) (set after (link before x) (link after x)) (set before (link after x) (link before x))
 rings_left row after before x rings there = record {
   few = omega (arith, length-set row x vacant, rings.few);
   levels = λ y y_there.
       let ne : y ≢ x = not_gone y y_there in
-      subst (λ (f : Entrant). f.level ≤ 255) (sym (others y ne)) (rings.levels y (subst (λ (f : Entrant). f.group < 64) (others y ne) y_there));
+      subst (λ (f : Entrant). f.level ≤ greatest_priority) (sym (others y ne)) (rings.levels y (subst (λ (f : Entrant). f.group < group_count) (others y ne) y_there));
   after_size = length-set after last next ∙ rings.after_size;
   before_size = length-set before next last ∙ rings.before_size;
   forth = left_out row new after before last next x (record {
@@ -231,7 +234,7 @@ rings_left row after before x rings there = record {
     within : x < length row
     within = within_row row x there
 
-    low : x < 1024
+    low : x < most_threads
     low = omega (arith, within, rings.few)
 
     node : IsNode row x
@@ -240,10 +243,10 @@ rings_left row after before x rings there = record {
     here : entrant_at new x ≡ vacant
     here = get_or-set_same row x vacant vacant within
 
-    gone : 64 ≤ (entrant_at new x).group
-    gone = subst (λ (f : Entrant). 64 ≤ f.group) (sym here) (omega arith)
+    gone : group_count ≤ (entrant_at new x).group
+    gone = subst (λ (f : Entrant). group_count ≤ f.group) (sym here) (omega arith)
 
-    not_gone : (y : ℕ) → (entrant_at new y).group < 64 → y ≢ x
+    not_gone : (y : ℕ) → (entrant_at new y).group < group_count → y ≢ x
     not_gone y y_there same = omega (arith, y_there, gone, ap (λ (k : ℕ). (entrant_at new k).group) same)
 
     others : (y : ℕ) → y ≢ x → entrant_at new y ≡ entrant_at row y
@@ -256,15 +259,15 @@ rings_left row after before x rings there = record {
 
 -- behind the head of somebody's list stands a thread, whose stamp is no greater
 pub record IsHeaded (row : List Entrant) (after : List ℕ) (x : ℕ) : Type 0 where
-  pub thread : link after (list_of row x) < 1024
+  pub thread : link after (list_of row x) < most_threads
   pub first : (entrant_at row (link after (list_of row x))).stamp ≤ (entrant_at row x).stamp
 
-headed_by : (fuel : ℕ) (row : List Entrant) (after before : List ℕ) (x : ℕ) → AreRings row after before → (entrant_at row x).group < 64
+headed_by : (fuel : ℕ) (row : List Entrant) (after before : List ℕ) (x : ℕ) → AreRings row after before → (entrant_at row x).group < group_count
     → (entrant_at row x).stamp < fuel → IsHeaded row after x
 headed_by zero row after before x rings there small = absurd (omega (arith, small))
-headed_by (suc fuel) row after before x rings there small = by_side (headed_by fuel row after before last rings) (below_or_not last 1024)
+headed_by (suc fuel) row after before x rings there small = by_side (headed_by fuel row after before last rings) (below_or_not last most_threads)
   where
-    low : x < 1024
+    low : x < most_threads
     low = omega (arith, within_row row x there, rings.few)
 
     node : IsNode row x
@@ -276,7 +279,7 @@ headed_by (suc fuel) row after before x rings there small = by_side (headed_by f
     is : IsLinked row before after x
     is = rings.back x node
 
-    by_side : ((entrant_at row last).group < 64 → (entrant_at row last).stamp < fuel → IsHeaded row after last) → (last < 1024) ⊎ (1024 ≤ last)
+    by_side : ((entrant_at row last).group < group_count → (entrant_at row last).stamp < fuel → IsHeaded row after last) → (last < most_threads) ⊎ (most_threads ≤ last)
         → IsHeaded row after x
     by_side before_it (inr head) =
         let at : link after (list_of row x) ≡ x = ap (link after) (sym is.same ∙ list_of_head row last head) ∙ is.returns in
@@ -290,11 +293,11 @@ headed_by (suc fuel) row after before x rings there small = by_side (headed_by f
         (rings.rising last is.node thread (omega (arith, is.returns, low))) in
         let more : IsHeaded row after last = before_it (is.node.there thread) (omega (arith, rise, small)) in
         record {
-          thread = subst (λ (h : ℕ). link after h < 1024) is.same more.thread;
+          thread = subst (λ (h : ℕ). link after h < most_threads) is.same more.thread;
           first = omega (arith, subst (λ (h : ℕ). (entrant_at row (link after h)).stamp ≤ (entrant_at row last).stamp) is.same more.first, rise);
         }
 
-pub headed : (row : List Entrant) (after before : List ℕ) (x : ℕ) → AreRings row after before → (entrant_at row x).group < 64 → IsHeaded row after x
+pub headed : (row : List Entrant) (after before : List ℕ) (x : ℕ) → AreRings row after before → (entrant_at row x).group < group_count → IsHeaded row after x
 headed row after before x rings there = headed_by (suc (entrant_at row x).stamp) row after before x rings there (omega arith)
 
 -- ---- the lists, with the levels where they are known not to be empty
@@ -321,10 +324,10 @@ clash : (t : Bool) → t ≡ true → t ≡ false → ⊥
 clash t p q = cc
 
 pub lists_entered : (row : List Entrant) (after before : List ℕ) (at_level new_levels : List Bits64) (x place : ℕ) (e : Entrant)
-    → AreLists row after before at_level → x < length row → e.group < 64 → e.level ≤ 255 → e.thread ≡ x → 64 ≤ (entrant_at row x).group
-    → ((y : ℕ) → (entrant_at row y).group < 64 → (entrant_at row y).stamp ≢ e.stamp)
+    → AreLists row after before at_level → x < length row → e.group < group_count → e.level ≤ greatest_priority → e.thread ≡ x → group_count ≤ (entrant_at row x).group
+    → ((y : ℕ) → (entrant_at row y).group < group_count → (entrant_at row y).stamp ≢ e.stamp)
     → IsPlace row after (head_of e.level e.group) e.stamp place
-    → ((l g : ℕ) → l < 256 → has (bits_at new_levels l) g ≡ ((nat_eq l e.level && nat_eq g e.group) || has (bits_at at_level l) g))
+    → ((l g : ℕ) → l < level_count → has (bits_at new_levels l) g ≡ ((nat_eq l e.level && nat_eq g e.group) || has (bits_at at_level l) g))
     → AreLists (set row x e) (set (set after place x) x (link after place)) (set (set before (link after place) x) x place) new_levels
 lists_entered row after before at_level new_levels x place e lists within there level thread out fresh is_place at = record {
   queued = queued_set row x e lists.queued within (λ _. record {
@@ -339,14 +342,14 @@ lists_entered row after before at_level new_levels x place e lists within there 
         (at e.level e.group (omega (arith, level)) ∙ ap (λ (t : Bool). (t && nat_eq e.group e.group) || has (bits_at at_level e.level) e.group) (equal_self e.level)
         ∙ ap (λ (t : Bool). t || has (bits_at at_level e.level) e.group) (equal_self e.group))
     | inr ne ↦
-        let was : (entrant_at row y).group < 64 = subst (λ (f : Entrant). f.group < 64) (others y ne) y_there in
+        let was : (entrant_at row y).group < group_count = subst (λ (f : Entrant). f.group < group_count) (others y ne) y_there in
         subst (λ (f : Entrant). has (bits_at new_levels f.level) f.group ≡ true) (sym (others y ne))
         (at (entrant_at row y).level (entrant_at row y).group (omega (arith, lists.rings.levels y was))
         ∙ right_is (nat_eq (entrant_at row y).level e.level && nat_eq (entrant_at row y).group e.group)
         (has (bits_at at_level (entrant_at row y).level) (entrant_at row y).group) (lists.used y was))
   ];
   some = λ l g l_below g_below h same.
-      let head : 1024 ≤ head_of l g = omega arith in
+      let head : most_threads ≤ head_of l g = omega arith in
       elim (cases_eq (head_of l g) place) [
         | inl is ↦
             omega (arith, low, head, same, ap (link after_new) is, after_place)
@@ -360,7 +363,7 @@ lists_entered row after before at_level new_levels x place e lists within there 
                   let parts = both (nat_eq l e.level) (nat_eq g e.group) this in
                   let list : list_of row place ≡ head_of l g =
                   is_place.same ∙ ap (λ (k : ℕ). head_of k e.group) (sym (is_same l e.level parts.0)) ∙ ap (head_of l) (sym (is_same g e.group parts.1)) in
-                  elim (below_or_not place 1024) [
+                  elim (below_or_not place most_threads) [
                     | inr is_head ↦ away (sym list ∙ list_of_head row place is_head)
                     | inl is_thread ↦
                         let more = headed row after before place lists.rings (is_place.node.there is_thread) in
@@ -376,7 +379,7 @@ lists_entered row after before at_level new_levels x place e lists within there 
     after_new : List ℕ
     after_new = set (set after place x) x (link after place)
 
-    low : x < 1024
+    low : x < most_threads
     low = omega (arith, within, lists.rings.few)
 
     here : entrant_at new x ≡ e
@@ -395,7 +398,7 @@ lists_entered row after before at_level new_levels x place e lists within there 
 -- what is known of somebody who goes
 pub record IsGoing (row : List Entrant) (after before : List ℕ) (at_level : List Bits64) (x l g : ℕ) : Type 0 where
   pub lists : AreLists row after before at_level
-  pub there : (entrant_at row x).group < 64
+  pub there : (entrant_at row x).group < group_count
   pub level : (entrant_at row x).level ≡ l
   pub group : (entrant_at row x).group ≡ g
 
@@ -406,10 +409,10 @@ after_left after before x = set after (link before x) (link after x)
 abbrev pub before_left : List ℕ → List ℕ → ℕ → List ℕ
 before_left after before x = set before (link after x) (link before x)
 
-queued_left : (row : List Entrant) (x : ℕ) → IsQueued row → (entrant_at row x).group < 64 → IsQueued (set row x vacant)
+queued_left : (row : List Entrant) (x : ℕ) → IsQueued row → (entrant_at row x).group < group_count → IsQueued (set row x vacant)
 queued_left row x queued there = queued_set row x vacant queued (within_row row x there) (λ g. absurd (omega (arith, g)))
 
-left_there : (row : List Entrant) (x y : ℕ) → (entrant_at row x).group < 64 → (entrant_at (set row x vacant) y).group < 64 → y ≢ x
+left_there : (row : List Entrant) (x y : ℕ) → (entrant_at row x).group < group_count → (entrant_at (set row x vacant) y).group < group_count → y ≢ x
 left_there row x y there y_there same =
     omega (arith, y_there, ap (λ (f : Entrant). f.group) (ap (entrant_at (set row x vacant)) same ∙ get_or-set_same row x vacant vacant (within_row row x there)))
 
@@ -417,8 +420,8 @@ left_there row x y there y_there same =
 left_head : (row : List Entrant) (after before : List ℕ) (at_level : List Bits64) (x l g k h : ℕ) → IsGoing row after before at_level x l g
     → head_of k h ≡ link before x → head_of k h ≡ head_of l g
 left_head row after before at_level x l g k h going is =
-    let low : x < 1024 = omega (arith, within_row row x going.there, going.lists.rings.few) in
-    let head : 1024 ≤ link before x = omega (arith, is) in
+    let low : x < most_threads = omega (arith, within_row row x going.there, going.lists.rings.few) in
+    let head : most_threads ≤ link before x = omega (arith, is) in
     is ∙ sym (list_of_head row (link before x) head) ∙ (going.lists.rings.back x (thread_node row x low going.there)).same
     ∙ list_of_thread row x low ∙ ap (λ (j : ℕ). head_of j (entrant_at row x).group) going.level ∙ ap (head_of l) going.group
 
@@ -432,7 +435,7 @@ lists_left row after before at_level x l g going some = record {
   used = λ y y_there.
       let same : entrant_at (set row x vacant) y ≡ entrant_at row y = get_or-set_other row x y vacant vacant (left_there row x y going.there y_there) in
       subst (λ (f : Entrant). has (bits_at at_level f.level) f.group ≡ true) (sym same)
-      (going.lists.used y (subst (λ (f : Entrant). f.group < 64) same y_there));
+      (going.lists.used y (subst (λ (f : Entrant). f.group < group_count) same y_there));
   some = λ k h k_below h_below here same. elim (cases_eq (head_of k h) (link before x)) [
     | inl is ↦
         let own : head_of k h ≡ head_of l g = left_head row after before at_level x l g k h going is in
@@ -445,7 +448,7 @@ lists_left row after before at_level x l g going some = record {
 -- its list is empty afterwards
 pub lists_emptied : (row : List Entrant) (after before : List ℕ) (at_level new_levels : List Bits64) (x l g : ℕ) → IsGoing row after before at_level x l g
     → link (after_left after before x) (head_of l g) ≡ head_of l g
-    → ((k h : ℕ) → k < 256 → has (bits_at new_levels k) h ≡ (not (nat_eq k l && nat_eq h g) && has (bits_at at_level k) h))
+    → ((k h : ℕ) → k < level_count → has (bits_at new_levels k) h ≡ (not (nat_eq k l && nat_eq h g) && has (bits_at at_level k) h))
     → AreLists (set row x vacant) (after_left after before x) (before_left after before x) new_levels
 lists_emptied row after before at_level new_levels x l g going none at = record {
   queued = queued_left row x going.lists.queued going.there;
@@ -471,10 +474,10 @@ lists_emptied row after before at_level new_levels x l g going none at = record 
     rings = rings_left row after before x going.lists.rings going.there
 
     -- nobody is left in the list
-    apart : (y : ℕ) → (entrant_at new y).group < 64 → (nat_eq (entrant_at new y).level l && nat_eq (entrant_at new y).group g) ≡ true → ⊥
+    apart : (y : ℕ) → (entrant_at new y).group < group_count → (nat_eq (entrant_at new y).level l && nat_eq (entrant_at new y).group g) ≡ true → ⊥
     apart y y_there h =
         let parts = both (nat_eq (entrant_at new y).level l) (nat_eq (entrant_at new y).group g) h in
-        let low : y < 1024 = omega (arith, within_row new y y_there, rings.few) in
+        let low : y < most_threads = omega (arith, within_row new y y_there, rings.few) in
         let list : list_of new y ≡ head_of l g =
         list_of_thread new y low ∙ ap (λ (j : ℕ). head_of j (entrant_at new y).group) (is_same (entrant_at new y).level l parts.0)
         ∙ ap (head_of l) (is_same (entrant_at new y).group g parts.1) in
@@ -485,7 +488,7 @@ lists_emptied row after before at_level new_levels x l g going none at = record 
     by_test k h true is never here = absurd (never refl)
     by_test k h false is never here = ap (λ (t : Bool). not t && has (bits_at at_level k) h) is ∙ here
 
-    used : (y : ℕ) → (entrant_at new y).group < 64 → has (bits_at new_levels (entrant_at new y).level) (entrant_at new y).group ≡ true
+    used : (y : ℕ) → (entrant_at new y).group < group_count → has (bits_at new_levels (entrant_at new y).level) (entrant_at new y).group ≡ true
     used y y_there =
         let same : entrant_at new y ≡ entrant_at row y = get_or-set_other row x y vacant vacant (left_there row x y going.there y_there) in
         let k = (entrant_at new y).level in
@@ -493,12 +496,12 @@ lists_emptied row after before at_level new_levels x l g going none at = record 
         at k h (omega (arith, rings.levels y y_there))
         ∙ by_test k h (nat_eq k l && nat_eq h g) refl (apart y y_there)
         (subst (λ (f : Entrant). has (bits_at at_level f.level) f.group ≡ true) (sym same)
-        (going.lists.used y (subst (λ (f : Entrant). f.group < 64) same y_there)))
+        (going.lists.used y (subst (λ (f : Entrant). f.group < group_count) same y_there)))
 
 -- ---- nobody is in
 
-pub lists_empty : (threads : ℕ) (after before : List ℕ) (at_level : List Bits64) → threads ≤ 1024 → length after ≡ 17408 → length before ≡ 17408
-    → ((n : ℕ) → n < 17408 → link after n ≡ n) → ((n : ℕ) → n < 17408 → link before n ≡ n)
+pub lists_empty : (threads : ℕ) (after before : List ℕ) (at_level : List Bits64) → threads ≤ most_threads → length after ≡ node_count → length before ≡ node_count
+    → ((n : ℕ) → n < node_count → link after n ≡ n) → ((n : ℕ) → n < node_count → link before n ≡ n)
     → ((l g : ℕ) → has (bits_at at_level l) g ≡ false) → AreLists (replicate threads vacant) after before at_level
 lists_empty threads after before at_level few after_size before_size after_own before_own nowhere = record {
   queued = queued_replicate threads;
@@ -522,7 +525,7 @@ lists_empty threads after before at_level few after_size before_size after_own b
     read x (inl low) = get_or-replicate threads x vacant vacant low
     read x (inr past) = get_or_past row x vacant (omega (arith, past, length-replicate threads vacant))
 
-    none : (x : ℕ) → (entrant_at row x).group < 64 → ⊥
+    none : (x : ℕ) → (entrant_at row x).group < group_count → ⊥
     none x there = omega (arith, there, ap (λ (f : Entrant). f.group) (read x (below_or_not x threads)))
 
     own : (forth back : List ℕ) (n : ℕ) → IsNode row n → link forth n ≡ n → link back n ≡ n → IsLinked row forth back n

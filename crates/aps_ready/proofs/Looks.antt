@@ -1,7 +1,9 @@
 use Rattle.std.proofs.Common.{◌≡◌, ◌≢◌, ◌⊎◌, inl, inr, ℕ, ◌<◌, ◌≤◌, Bool, true, false, ◌&&◌, nat_eq, nat_lt, List, length, refl, sym, ◌∙◌, ap, subst, arith}
 use Rattle.std.proofs.lemmas.Bool.Decides.{nat_tests}
+use Rattle.aps_model.specs.Limits.{most_threads}
 use Rattle.aps_levels.specs.declared.bits.Bits64.{Bits64}
 use Rattle.aps_levels.specs.Bits.{has}
+use Rattle.aps_levels.specs.Levels.{level_count}
 use Rattle.aps_ready.specs.declared.entrant.Entrant.{Entrant}
 use Rattle.aps_ready.specs.Best.{Sits}
 use Rattle.aps_ready.specs.Entrant.{entrant_at, goes_before}
@@ -11,6 +13,7 @@ use Rattle.aps_ready.specs.Table.{bits_at, AreAtLeast, HasLevel, IsFree}
 use Rattle.aps_ready.proofs.ListLaws.{headed, same_head, head_low}
 use Rattle.aps_ready.proofs.Rings.{within_row, list_of_thread, list_of_head, head_node}
 use Rattle.aps_ready.proofs.Tops.{IsTop, kept, top_of, Occupant, occupant, level_at_most}
+use Rattle.aps_ready.specs.Group.{group_count}
 
 below_or_not : (a b : ℕ) → (a < b) ⊎ (b ≤ a)
 below_or_not a b = search arith
@@ -52,29 +55,29 @@ pub record IsIn (row : List Entrant) (l g x : ℕ) : Type 0 where
   pub level : (entrant_at row x).level ≡ l
 
 -- a thread in the list of a level and a group is of these
-in_list : (row : List Entrant) (l g x : ℕ) → IsNode row x → x < 1024 → g < 64 → list_of row x ≡ head_of l g → IsIn row l g x
+in_list : (row : List Entrant) (l g x : ℕ) → IsNode row x → x < most_threads → g < group_count → list_of row x ≡ head_of l g → IsIn row l g x
 in_list row l g x node low below list =
     let there = node.there low in
     let same = same_head (entrant_at row x).level (entrant_at row x).group l g there below (sym (list_of_thread row x low) ∙ list) in
     record { within = within_row row x there; group = same.1; level = same.0 }
 
 -- whom the link of a head leads to
-behind_head : (row : List Entrant) (after before : List ℕ) (at_level : List Bits64) (l g : ℕ) → AreLists row after before at_level → l < 256 → g < 64
-    → link after (head_of l g) < 1024 → IsIn row l g (link after (head_of l g))
+behind_head : (row : List Entrant) (after before : List ℕ) (at_level : List Bits64) (l g : ℕ) → AreLists row after before at_level → l < level_count → g < group_count
+    → link after (head_of l g) < most_threads → IsIn row l g (link after (head_of l g))
 behind_head row after before at_level l g lists l_below g_below low =
-    let head : 1024 ≤ head_of l g = omega arith in
+    let head : most_threads ≤ head_of l g = omega arith in
     let is : IsLinked row after before (head_of l g) =
     lists.rings.forth (head_of l g) (head_node row (head_of l g) head (head_low l g l_below g_below)) in
     in_list row l g (link after (head_of l g)) is.node low g_below (is.same ∙ list_of_head row (head_of l g) head)
 
 -- somebody is in a list that is known
-somebody : (row : List Entrant) (after before : List ℕ) (at_level : List Bits64) (l g : ℕ) → AreLists row after before at_level → l < 256 → g < 64
+somebody : (row : List Entrant) (after before : List ℕ) (at_level : List Bits64) (l g : ℕ) → AreLists row after before at_level → l < level_count → g < group_count
     → has (bits_at at_level l) g ≡ true → IsIn row l g (link after (head_of l g))
 somebody row after before at_level l g lists l_below g_below h =
-    let head : 1024 ≤ head_of l g = omega arith in
+    let head : most_threads ≤ head_of l g = omega arith in
     let is : IsLinked row after before (head_of l g) =
     lists.rings.forth (head_of l g) (head_node row (head_of l g) head (head_low l g l_below g_below)) in
-    elim (below_or_not (link after (head_of l g)) 1024) [
+    elim (below_or_not (link after (head_of l g)) most_threads) [
       | inl low ↦ behind_head row after before at_level l g lists l_below g_below low
       | inr high ↦
           absurd (lists.some l g l_below g_below h (sym (list_of_head row (link after (head_of l g)) high) ∙ is.same ∙ list_of_head row (head_of l g) head))
@@ -83,46 +86,46 @@ somebody row after before at_level l g lists l_below g_below h =
 -- ---- the levels of the groups
 
 -- a group is at no level below that of its first
-at_most : (row : List Entrant) (after before : List ℕ) (at_level : List Bits64) (l g : ℕ) → AreLists row after before at_level → l < 256 → g < 64
+at_most : (row : List Entrant) (after before : List ℕ) (at_level : List Bits64) (l g : ℕ) → AreLists row after before at_level → l < level_count → g < group_count
     → has (bits_at at_level l) g ≡ true → level_of (firsts_of row) g ≤ l
 at_most row after before at_level l g lists l_below g_below h =
     let one = somebody row after before at_level l g lists l_below g_below h in
     let x = link after (head_of l g) in
-    let there : (entrant_at row x).group < 64 = omega (arith, one.group, g_below) in
+    let there : (entrant_at row x).group < group_count = omega (arith, one.group, g_below) in
     let most = level_at_most row (firsts_of row) x (kept row lists.queued) one.within there in
     omega (arith, one.level, ap (level_of (firsts_of row)) one.group, most)
 
 -- and it is at that level
-there_is : (row : List Entrant) (after before : List ℕ) (at_level : List Bits64) (g : ℕ) → AreLists row after before at_level → g < 64
-    → level_of (firsts_of row) g < 256 → has (bits_at at_level (level_of (firsts_of row) g)) g ≡ true
+there_is : (row : List Entrant) (after before : List ℕ) (at_level : List Bits64) (g : ℕ) → AreLists row after before at_level → g < group_count
+    → level_of (firsts_of row) g < level_count → has (bits_at at_level (level_of (firsts_of row) g)) g ≡ true
 there_is row after before at_level g lists below some =
     let one = occupant row (firsts_of row) g (kept row lists.queued) below some in
-    let there : (entrant_at row one.place).group < 64 = omega (arith, one.group, below) in
+    let there : (entrant_at row one.place).group < group_count = omega (arith, one.group, below) in
     ap (λ (k : ℕ). has (bits_at at_level k) g) (sym one.level)
     ∙ ap (has (bits_at at_level (entrant_at row one.place).level)) (sym one.group) ∙ lists.used one.place there
 
 pub are_occupied : (row : List Entrant) (after before : List ℕ) (at_level : List Bits64) (occupied : Bits64) → AreLists row after before at_level
-    → ((g : ℕ) → g < 64 → has occupied g ≡ true → HasLevel at_level g)
-    → ((l g : ℕ) → l < 256 → g < 64 → has (bits_at at_level l) g ≡ true → has occupied g ≡ true)
-    → (g : ℕ) → g < 64 → has occupied g ≡ nat_lt (level_of (firsts_of row) g) 256
+    → ((g : ℕ) → g < group_count → has occupied g ≡ true → HasLevel at_level g)
+    → ((l g : ℕ) → l < level_count → g < group_count → has (bits_at at_level l) g ≡ true → has occupied g ≡ true)
+    → (g : ℕ) → g < group_count → has occupied g ≡ nat_lt (level_of (firsts_of row) g) level_count
 are_occupied row after before at_level occupied lists some all g below = by_test (has occupied g) refl
   where
     level : ℕ
     level = level_of (firsts_of row) g
 
-    by_test : (t : Bool) → has occupied g ≡ t → has occupied g ≡ nat_lt level 256
+    by_test : (t : Bool) → has occupied g ≡ t → has occupied g ≡ nat_lt level level_count
     by_test true h =
         let at = some g below h in
-        h ∙ sym (less level 256 (omega (arith, at.below, at_most row after before at_level at.level g lists at.below below at.here)))
-    by_test false h = elim (below_or_not level 256) [
+        h ∙ sym (less level level_count (omega (arith, at.below, at_most row after before at_level at.level g lists at.below below at.here)))
+    by_test false h = elim (below_or_not level level_count) [
       | inl low ↦ absurd (clash (has occupied g) (all level g low below (there_is row after before at_level g lists below low)) h)
-      | inr high ↦ h ∙ sym (not_less level 256 high)
+      | inr high ↦ h ∙ sym (not_less level level_count high)
     ]
 
 -- ---- the least level of a set
 
 same_at : (row : List Entrant) (after before : List ℕ) (at_level : List Bits64) (set : ℕ → Bool) (l g : ℕ) → AreLists row after before at_level
-    → l < 256 → g < 64 → ((k : ℕ) → k < l → IsFree at_level set k) → set g ≡ true
+    → l < level_count → g < group_count → ((k : ℕ) → k < l → IsFree at_level set k) → set g ≡ true
     → has (bits_at at_level l) g ≡ nat_eq (level_of (firsts_of row) g) l
 same_at row after before at_level set l g lists l_below g_below free among = by_test (has (bits_at at_level l) g) refl
   where
@@ -162,7 +165,7 @@ least_is row after before at_level set found l lists least = record {
     flat true = refl
     flat false = refl
 
-    by_test : (g : ℕ) → g < 64 → (t : Bool) → set g ≡ t → (has (bits_at at_level l) g && set g) ≡ (nat_eq (level_of (firsts_of row) g) l && set g)
+    by_test : (g : ℕ) → g < group_count → (t : Bool) → set g ≡ t → (has (bits_at at_level l) g && set g) ≡ (nat_eq (level_of (firsts_of row) g) l && set g)
     by_test g below true h = ap (λ (t : Bool). t && set g) (same_at row after before at_level set l g lists least.below below least.free h)
     by_test g below false h =
         ap (λ (t : Bool). has (bits_at at_level l) g && t) h ∙ flat (has (bits_at at_level l) g)
@@ -179,8 +182,8 @@ least_at row after before at_level set found l lists least = record {
 }
 
 pub none_least : (row : List Entrant) (after before : List ℕ) (at_level : List Bits64) (set : Bits64) → AreLists row after before at_level
-    → ((l : ℕ) → l < 256 → IsFree at_level (has set) l) → AreEmpty (firsts_of row) set
-none_least row after before at_level set lists free g below among = elim (below_or_not (level_of (firsts_of row) g) 256) [
+    → ((l : ℕ) → l < level_count → IsFree at_level (has set) l) → AreEmpty (firsts_of row) set
+none_least row after before at_level set lists free g below among = elim (below_or_not (level_of (firsts_of row) g) level_count) [
   | inl low ↦ absurd (clash (has (bits_at at_level (level_of (firsts_of row) g)) g && has set g)
       (pair (has (bits_at at_level (level_of (firsts_of row) g)) g) (has set g) (there_is row after before at_level g lists below low) among)
       (free (level_of (firsts_of row) g) low g below))
@@ -197,7 +200,7 @@ pub record IsFirstOf (row : List Entrant) (after : List ℕ) (l g : ℕ) : Type 
   pub within : link after (head_of l g) < length row
   pub is : entrant_at row (link after (head_of l g)) ≡ entrant_at (firsts_of row) g
 
-pub first_is : (row : List Entrant) (after before : List ℕ) (at_level : List Bits64) (l g : ℕ) → AreLists row after before at_level → l < 256 → g < 64
+pub first_is : (row : List Entrant) (after before : List ℕ) (at_level : List Bits64) (l g : ℕ) → AreLists row after before at_level → l < level_count → g < group_count
     → level_of (firsts_of row) g ≡ l → IsFirstOf row after l g
 first_is row after before at_level l g lists l_below g_below level = record {
   within = first.within;
@@ -216,14 +219,14 @@ first_is row after before at_level l g lists l_below g_below level = record {
     list_is x within group is =
         list_of_thread row x (omega (arith, within, lists.rings.few)) ∙ ap (λ (k : ℕ). head_of k (entrant_at row x).group) is ∙ ap (head_of l) group
 
-    low : t < 1024
-    low = subst (λ (h : ℕ). link after h < 1024) (list_is one.place one.within one.group (one.level ∙ level))
+    low : t < most_threads
+    low = subst (λ (h : ℕ). link after h < most_threads) (list_is one.place one.within one.group (one.level ∙ level))
         (headed row after before one.place lists.rings (omega (arith, one.group, g_below))).thread
 
     first : IsIn row l g t
     first = behind_head row after before at_level l g lists l_below g_below low
 
-    t_there : (entrant_at row t).group < 64
+    t_there : (entrant_at row t).group < group_count
     t_there = omega (arith, first.group, g_below)
 
     top : IsTop row g (entrant_at (firsts_of row) g)
@@ -235,7 +238,7 @@ first_is row after before at_level l g lists l_below g_below level = record {
     sits : Sits row (entrant_at (firsts_of row) g)
     sits = top.sits (omega (arith, behind.0, g_below))
 
-    sits_there : (entrant_at row sits.place).group < 64
+    sits_there : (entrant_at row sits.place).group < group_count
     sits_there = omega (arith, ap (λ (e : Entrant). e.group) sits.is, behind.0, g_below)
 
     least : (entrant_at (firsts_of row) g).stamp ≤ (entrant_at row t).stamp

@@ -1,4 +1,5 @@
 use Rattle.std.proofs.Common.{◌≡◌, ℕ, ◌<◌, List}
+use Rattle.aps_model.specs.Limits.{most_threads}
 use Rattle.aps_ready.specs.declared.entrant.Entrant.{Entrant}
 use Rattle.aps_ready.specs.Entrant.{entrant_at}
 use Rattle.aps_ready.specs.Lists.{link, list_of, IsNode}
@@ -7,4 +8,4 @@ use Rattle.aps_ready.specs.Lists.{link, list_of, IsNode}
 pub record IsBehind (row : List Entrant) (after : List ℕ) (head stamp place : ℕ) : Type 0 where
   pub node : IsNode row place
   pub same : list_of row place ≡ head
-  pub under : link after place < 1024 → stamp < (entrant_at row (link after place)).stamp
+  pub under : link after place < most_threads → stamp < (entrant_at row (link after place)).stamp

@@ -5,38 +5,40 @@ use Rattle.std.proofs.lemmas.Bool.Decides.{nat_tests}
 use Rattle.std.proofs.lemmas.List.{map-set, get_or-map, get_or-replicate, length-replicate, length-map}
 use Rattle.aps_model.specs.declared.state.Facts.{Facts}
 use Rattle.aps_model.specs.declared.merit.Contender.{Contender}
+use Rattle.aps_model.specs.Limits.{greatest_priority, last_partition, most_partitions}
 use Rattle.aps_ready.specs.declared.entrant.Entrant.{Entrant}
 use Rattle.aps_ready.specs.Ready.{IsFree, contender_of, seat_of, with_facts, IsQueued}
 use Rattle.aps_ready.specs.Entrant.{entrant_at, entrant_of, group_of, vacant}
+use Rattle.aps_ready.specs.Group.{group_count}
 
 -- who may be set at a place
 pub record IsWelcome (row : List Entrant) (x : ℕ) (e : Entrant) : Type 0 where
-  pub level : e.level ≤ 255
+  pub level : e.level ≤ greatest_priority
   pub thread : e.thread ≡ x
-  pub stamp : (y : ℕ) → y < length row → y ≢ x → (entrant_at row y).group < 64 → (entrant_at row y).stamp ≢ e.stamp
+  pub stamp : (y : ℕ) → y < length row → y ≢ x → (entrant_at row y).group < group_count → (entrant_at row y).stamp ≢ e.stamp
 
-pub queued_set : (row : List Entrant) (x : ℕ) (e : Entrant) → IsQueued row → x < length row → (e.group < 64 → IsWelcome row x e) → IsQueued (set row x e)
+pub queued_set : (row : List Entrant) (x : ℕ) (e : Entrant) → IsQueued row → x < length row → (e.group < group_count → IsWelcome row x e) → IsQueued (set row x e)
 queued_set row x e queued within welcome =
     let here : entrant_at (set row x e) x ≡ e = get_or-set_same row x e vacant within in
     let there : (y : ℕ) → y ≢ x → entrant_at (set row x e) y ≡ entrant_at row y = λ y ne. get_or-set_other row x y e vacant ne in
     let inside : (y : ℕ) → y < length (set row x e) → y < length row = λ y below. omega (arith, below, length-set row x e) in
     record {
       levels = λ y below. elim (cases_eq y x) [
-        | inl same ↦ subst (λ (j : ℕ). (entrant_at (set row x e) j).group < 64 → (entrant_at (set row x e) j).level ≤ 255) (sym same) (rw here (λ g. (welcome g).level))
+        | inl same ↦ subst (λ (j : ℕ). (entrant_at (set row x e) j).group < group_count → (entrant_at (set row x e) j).level ≤ greatest_priority) (sym same) (rw here (λ g. (welcome g).level))
         | inr ne ↦ rw (there y ne) (queued.levels y (inside y below))
       ];
       threads = λ y below. elim (cases_eq y x) [
-        | inl same ↦ subst (λ (j : ℕ). (entrant_at (set row x e) j).group < 64 → (entrant_at (set row x e) j).thread ≡ j) (sym same) (rw here (λ g. (welcome g).thread))
+        | inl same ↦ subst (λ (j : ℕ). (entrant_at (set row x e) j).group < group_count → (entrant_at (set row x e) j).thread ≡ j) (sym same) (rw here (λ g. (welcome g).thread))
         | inr ne ↦ rw (there y ne) (queued.threads y (inside y below))
       ];
       stamps = λ y z y_below z_below. elim (cases_eq y x) [
         | inl y_same ↦ elim (cases_eq z x) [
           | inl z_same ↦ λ _ _ _. y_same ∙ sym z_same
-          | inr z_other ↦ subst (λ (j : ℕ). (entrant_at (set row x e) j).group < 64 → (entrant_at (set row x e) z).group < 64 → (entrant_at (set row x e) j).stamp ≡ (entrant_at (set row x e) z).stamp → j ≡ z) (sym y_same)
+          | inr z_other ↦ subst (λ (j : ℕ). (entrant_at (set row x e) j).group < group_count → (entrant_at (set row x e) z).group < group_count → (entrant_at (set row x e) j).stamp ≡ (entrant_at (set row x e) z).stamp → j ≡ z) (sym y_same)
               (rw (here, there z z_other) (λ g h same. absurd ((welcome g).stamp z (inside z z_below) z_other h (sym same))))
         ]
         | inr y_other ↦ elim (cases_eq z x) [
-          | inl z_same ↦ subst (λ (j : ℕ). (entrant_at (set row x e) y).group < 64 → (entrant_at (set row x e) j).group < 64 → (entrant_at (set row x e) y).stamp ≡ (entrant_at (set row x e) j).stamp → y ≡ j) (sym z_same)
+          | inl z_same ↦ subst (λ (j : ℕ). (entrant_at (set row x e) y).group < group_count → (entrant_at (set row x e) j).group < group_count → (entrant_at (set row x e) y).stamp ≡ (entrant_at (set row x e) j).stamp → y ≡ j) (sym z_same)
               (rw (here, there y y_other) (λ g h same. absurd ((welcome h).stamp y (inside y y_below) y_other g same)))
           | inr z_other ↦ rw (there y y_other, there z z_other) (queued.stamps y z (inside y y_below) (inside z z_below))
         ]
@@ -52,7 +54,7 @@ queued_replicate n =
       stamps = λ x y x_below y_below g. absurd (none (entrant_at (replicate n vacant) x) (read x x_below) g);
     }
   where
-    none : (e : Entrant) → e ≡ vacant → e.group < 64 → ⊥
+    none : (e : Entrant) → e ≡ vacant → e.group < group_count → ⊥
     none e is g = omega (arith, ap (λ (f : Entrant). f.group) is, g)
 
 -- ---- the row that contracts see
@@ -63,22 +65,23 @@ seats_set row seats new x i e seat view is same seen =
     ap (map seat_of) is ∙ map-set seat_of row i e ∙ ap (λ (l : List (Option Contender)). set l i (seat_of e)) view
     ∙ ap (λ (j : ℕ). set seats j (seat_of e)) same ∙ ap (set seats x) seen
 
-seen_group : (p : ℕ) (critical : Bool) → p ≤ 31
-    → (nat_lt (cond critical (p + 32) p) 64 ≡ true) × (cond critical (p + 32) p % 32 ≡ p) × (nat_lt 31 (cond critical (p + 32) p) ≡ critical)
+seen_group : (p : ℕ) (critical : Bool) → p ≤ last_partition
+    → (nat_lt (cond critical (p + most_partitions) p) group_count ≡ true) × (cond critical (p + most_partitions) p % most_partitions ≡ p)
+    × (nat_lt last_partition (cond critical (p + most_partitions) p) ≡ critical)
 seen_group p true small = (grind (arith, nat_tests), omega (arith, small), grind (arith, nat_tests))
 seen_group p false small = (grind (arith, nat_tests), omega (arith, small), grind (arith, nat_tests))
 
-pub seen : (x : ℕ) (facts : Facts) (stamp : ℕ) → facts.partition ≤ 31 → facts.priority ≤ 255
+pub seen : (x : ℕ) (facts : Facts) (stamp : ℕ) → facts.partition ≤ last_partition → facts.priority ≤ greatest_priority
     → seat_of (entrant_of x facts stamp) ≡ Some (record { thread = x; facts = facts; stamp = stamp })
 seen x facts stamp partition priority =
     let group = seen_group facts.partition facts.critical partition in
-    let level : 255 - (255 - facts.priority) ≡ facts.priority = omega (arith, priority) in
+    let level : greatest_priority - (greatest_priority - facts.priority) ≡ facts.priority = omega (arith, priority) in
     rw (group.0, group.1, group.2, level) refl
 
-pub in_group : (facts : Facts) → facts.partition ≤ 31 → group_of facts < 64
+pub in_group : (facts : Facts) → facts.partition ≤ last_partition → group_of facts < group_count
 in_group facts small = by_mark facts.critical
   where
-    by_mark : (b : Bool) → cond b (facts.partition + 32) facts.partition < 64
+    by_mark : (b : Bool) → cond b (facts.partition + most_partitions) facts.partition < group_count
     by_mark true = omega (arith, small)
     by_mark false = omega (arith, small)
 
@@ -86,32 +89,32 @@ pub replicate_seats : (n : ℕ) → map seat_of (replicate n vacant) ≡ replica
 replicate_seats zero = refl
 replicate_seats (suc n) = ap (λ (rest : List (Option Contender)). None ∷ rest) (replicate_seats n)
 
-pub seat_in : (e : Entrant) → e.group < 64 → seat_of e ≡ Some (contender_of e)
+pub seat_in : (e : Entrant) → e.group < group_count → seat_of e ≡ Some (contender_of e)
 seat_in e g = grind (arith, nat_tests)
 
 pub seat_at : (row : List Entrant) (x : ℕ) → x < length row → get_or (map seat_of row) x None ≡ seat_of (entrant_at row x)
 seat_at row x within = get_or-map seat_of row x vacant None within
 
 -- nobody who is in has a stamp that is free
-pub free_stamp : (row : List Entrant) (seats : List (Option Contender)) (stamp y : ℕ) → map seat_of row ≡ seats → All (IsFree stamp) seats → y < length row → (entrant_at row y).group < 64
+pub free_stamp : (row : List Entrant) (seats : List (Option Contender)) (stamp y : ℕ) → map seat_of row ≡ seats → All (IsFree stamp) seats → y < length row → (entrant_at row y).group < group_count
     → (entrant_at row y).stamp ≢ stamp
 free_stamp row seats stamp y view free within g =
     let at : IsFree stamp (get_or (map seat_of row) y None) = rw view (free y None (omega (arith, within, length-map row seat_of, ap length view))) in
     subst (IsFree stamp) (seat_at row y within ∙ seat_in (entrant_at row y) g) at
 
 -- who is seen is in
-pub is_in : (e : Entrant) → (seat_of e ≡ None → ⊥) → e.group < 64
-is_in e some = by_test (nat_lt e.group 64) refl
+pub is_in : (e : Entrant) → (seat_of e ≡ None → ⊥) → e.group < group_count
+is_in e some = by_test (nat_lt e.group group_count) refl
   where
-    by_test : (t : Bool) → nat_lt e.group 64 ≡ t → e.group < 64
+    by_test : (t : Bool) → nat_lt e.group group_count ≡ t → e.group < group_count
     by_test true h = grind (arith, nat_tests)
     by_test false h = absurd (some (ap (λ b. cond b (Some (contender_of e)) None) h))
 
 -- who isn't seen is out
-pub is_out : (e : Entrant) → seat_of e ≡ None → 64 ≤ e.group
-is_out e none = by_test (nat_lt e.group 64) refl
+pub is_out : (e : Entrant) → seat_of e ≡ None → group_count ≤ e.group
+is_out e none = by_test (nat_lt e.group group_count) refl
   where
-    by_test : (t : Bool) → nat_lt e.group 64 ≡ t → 64 ≤ e.group
+    by_test : (t : Bool) → nat_lt e.group group_count ≡ t → group_count ≤ e.group
     by_test false h = grind (arith, nat_tests)
     by_test true h = absurd (some_none (contender_of e) (sym (ap (λ b. cond b (Some (contender_of e)) None) h) ∙ none))
       where
@@ -119,7 +122,7 @@ is_out e none = by_test (nat_lt e.group 64) refl
         some_none c p = cc
 
 -- the stamp of somebody who is taken out is free
-pub free_without : (row : List Entrant) (x stamp : ℕ) → IsQueued row → x < length row → (entrant_at row x).group < 64
+pub free_without : (row : List Entrant) (x stamp : ℕ) → IsQueued row → x < length row → (entrant_at row x).group < group_count
     → stamp ≡ (entrant_at row x).stamp → All (IsFree stamp) (set (map seat_of row) x None)
 free_without row x stamp queued within there is k d below = elim (cases_eq k x) [
   | inl same ↦
@@ -127,20 +130,20 @@ free_without row x stamp queued within there is k d below = elim (cases_eq k x) 
       ∙ get_or-set_same (map seat_of row) x None d (omega (arith, within, length-map row seat_of)))) tt
   | inr other ↦
       subst (IsFree stamp) (sym (get_or-set_other (map seat_of row) x k None d other ∙ get_or-map seat_of row k vacant d inside))
-      (by_test (nat_lt (entrant_at row k).group 64) refl other)
+      (by_test (nat_lt (entrant_at row k).group group_count) refl other)
 ]
   where
     inside : k < length row
     inside = omega (arith, below, length-set (map seat_of row) x None, length-map row seat_of)
 
-    by_test : (t : Bool) → nat_lt (entrant_at row k).group 64 ≡ t → k ≢ x
+    by_test : (t : Bool) → nat_lt (entrant_at row k).group group_count ≡ t → k ≢ x
         → IsFree stamp (cond t (Some (contender_of (entrant_at row k))) None)
     by_test true h other =
-        let g : (entrant_at row k).group < 64 = grind (arith, nat_tests) in
+        let g : (entrant_at row k).group < group_count = grind (arith, nat_tests) in
         λ same. other (queued.stamps k x inside within g there (same ∙ is))
     by_test false h other = tt
 
-pub changed_seat : (e : Entrant) (x : ℕ) (facts : Facts) → e.group < 64 → e.thread ≡ x
+pub changed_seat : (e : Entrant) (x : ℕ) (facts : Facts) → e.group < group_count → e.thread ≡ x
     → Some (record { thread = x; facts = facts; stamp = e.stamp }) ≡ option_map (with_facts facts) (seat_of e)
 changed_seat e x facts g same = rw (seat_in e g, same) refl
 

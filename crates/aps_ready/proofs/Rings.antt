@@ -2,9 +2,11 @@ use Rattle.std.proofs.Common.{◌≡◌, ◌≢◌, ◌⊎◌, inl, inr, ℕ, �
 use Rattle.std.proofs.lemmas.Bool.{cases_eq}
 use Rattle.std.proofs.lemmas.Bool.Decides.{nat_tests}
 use Rattle.std.proofs.lemmas.List.{get_or_past}
+use Rattle.aps_model.specs.Limits.{most_threads}
 use Rattle.aps_ready.specs.declared.entrant.Entrant.{Entrant}
 use Rattle.aps_ready.specs.Entrant.{entrant_at, vacant}
-use Rattle.aps_ready.specs.Lists.{head_of, link, list_of, IsNode, IsLinked, AreLinked}
+use Rattle.aps_ready.specs.Lists.{head_of, link, list_of, node_count, IsNode, IsLinked, AreLinked}
+use Rattle.aps_ready.specs.Group.{group_count}
 
 below_or_not : (a b : ℕ) → (a < b) ⊎ (b ≤ a)
 below_or_not a b = search arith
@@ -18,47 +20,47 @@ not_less a b h = grind (arith, nat_tests)
 -- ---- nodes and their lists
 
 -- whoever is in is at a place of the row
-pub within_row : (row : List Entrant) (x : ℕ) → (entrant_at row x).group < 64 → x < length row
+pub within_row : (row : List Entrant) (x : ℕ) → (entrant_at row x).group < group_count → x < length row
 within_row row x there = elim (below_or_not x (length row)) [
   | inl within ↦ within
   | inr past ↦ absurd (omega (arith, there, ap (λ (e : Entrant). e.group) (get_or_past row x vacant past)))
 ]
 
-pub list_of_thread : (row : List Entrant) (n : ℕ) → n < 1024 → list_of row n ≡ head_of (entrant_at row n).level (entrant_at row n).group
+pub list_of_thread : (row : List Entrant) (n : ℕ) → n < most_threads → list_of row n ≡ head_of (entrant_at row n).level (entrant_at row n).group
 list_of_thread row n low =
-    ap (λ (t : Bool). cond t (head_of (entrant_at row n).level (entrant_at row n).group) n) (less n 1024 low)
+    ap (λ (t : Bool). cond t (head_of (entrant_at row n).level (entrant_at row n).group) n) (less n most_threads low)
 
-pub list_of_head : (row : List Entrant) (n : ℕ) → 1024 ≤ n → list_of row n ≡ n
+pub list_of_head : (row : List Entrant) (n : ℕ) → most_threads ≤ n → list_of row n ≡ n
 list_of_head row n high =
-    ap (λ (t : Bool). cond t (head_of (entrant_at row n).level (entrant_at row n).group) n) (not_less n 1024 high)
+    ap (λ (t : Bool). cond t (head_of (entrant_at row n).level (entrant_at row n).group) n) (not_less n most_threads high)
 
-pub head_node : (row : List Entrant) (n : ℕ) → 1024 ≤ n → n < 17408 → IsNode row n
+pub head_node : (row : List Entrant) (n : ℕ) → most_threads ≤ n → n < node_count → IsNode row n
 head_node row n high below = record { below = below; there = λ low. absurd (omega (arith, low, high)) }
 
-pub thread_node : (row : List Entrant) (x : ℕ) → x < 1024 → (entrant_at row x).group < 64 → IsNode row x
+pub thread_node : (row : List Entrant) (x : ℕ) → x < most_threads → (entrant_at row x).group < group_count → IsNode row x
 thread_node row x low there = record { below = omega (arith, low); there = λ _. there }
 
 -- another node is as it was where one place of the row is set
 pub node_still : (row new : List Entrant) (x n : ℕ) → ((y : ℕ) → y ≢ x → entrant_at new y ≡ entrant_at row y) → n ≢ x → IsNode row n → IsNode new n
 node_still row new x n same ne node = record {
   below = node.below;
-  there = λ low. subst (λ (e : Entrant). e.group < 64) (sym (same n ne)) (node.there low);
+  there = λ low. subst (λ (e : Entrant). e.group < group_count) (sym (same n ne)) (node.there low);
 }
 
 list_still : (row new : List Entrant) (x n : ℕ) → ((y : ℕ) → y ≢ x → entrant_at new y ≡ entrant_at row y) → n ≢ x → list_of new n ≡ list_of row n
-list_still row new x n same ne = ap (λ (e : Entrant). cond (nat_lt n 1024) (head_of e.level e.group) n) (same n ne)
+list_still row new x n same ne = ap (λ (e : Entrant). cond (nat_lt n most_threads) (head_of e.level e.group) n) (same n ne)
 
 -- ---- one more in a list
 
 -- somebody joins behind a node: what is known of the links one way
 pub record IsJoining (row new : List Entrant) (forth back : List ℕ) (place next x : ℕ) : Type 0 where
   pub links : AreLinked row forth back
-  pub forth_size : length forth ≡ 17408
-  pub back_size : length back ≡ 17408
+  pub forth_size : length forth ≡ node_count
+  pub back_size : length back ≡ node_count
   pub others : (y : ℕ) → y ≢ x → entrant_at new y ≡ entrant_at row y
-  pub thread : x < 1024
-  pub there : (entrant_at new x).group < 64
-  pub out : 64 ≤ (entrant_at row x).group
+  pub thread : x < most_threads
+  pub there : (entrant_at new x).group < group_count
+  pub out : group_count ≤ (entrant_at row x).group
   pub node : IsNode row place
   pub to_next : link forth place ≡ next
   pub same : list_of row place ≡ list_of new x
@@ -142,12 +144,12 @@ joined row new forth back place next x j n node = elim (cases_eq n x) [
 pub record IsLeaving (row new : List Entrant) (forth back : List ℕ) (last next x : ℕ) : Type 0 where
   pub links : AreLinked row forth back
   pub links_back : AreLinked row back forth
-  pub forth_size : length forth ≡ 17408
-  pub back_size : length back ≡ 17408
+  pub forth_size : length forth ≡ node_count
+  pub back_size : length back ≡ node_count
   pub others : (y : ℕ) → y ≢ x → entrant_at new y ≡ entrant_at row y
-  pub thread : x < 1024
-  pub there : (entrant_at row x).group < 64
-  pub out : 64 ≤ (entrant_at new x).group
+  pub thread : x < most_threads
+  pub there : (entrant_at row x).group < group_count
+  pub out : group_count ≤ (entrant_at new x).group
   pub to_next : link forth x ≡ next
   pub to_last : link back x ≡ last
   pub next_other : next ≢ x

@@ -10,8 +10,10 @@ use Rattle.aps_model.specs.declared.merit.Contender.{Contender}
 use Rattle.aps_model.specs.Budget.{part_at, no_part}
 use Rattle.aps_model.specs.Pick.{candidates, missing}
 use Rattle.aps_model.proofs.Ranges.{range_more}
+use Rattle.aps_model.specs.Limits.{most_partitions}
 use Rattle.aps_levels.specs.declared.bits.Bits64.{Bits64}
 use Rattle.aps_levels.specs.Bits.{has}
+use Rattle.aps_levels.specs.Levels.{level_count}
 use Rattle.aps_ready.specs.declared.entrant.Entrant.{Entrant}
 use Rattle.aps_ready.specs.declared.gates.Gates.{Gates}
 use Rattle.aps_ready.specs.Entrant.{entrant_at}
@@ -22,6 +24,7 @@ use Rattle.aps_ready.specs.Firsts.{firsts_of, level_of}
 use Rattle.aps_ready.proofs.Content.{open_group, open_among, all_candidates}
 use Rattle.aps_ready.proofs.Tops.{kept, occupant, level_at_most}
 use Rattle.aps_ready.proofs.Winner.{first_stands, second_stands, in_one}
+use Rattle.aps_ready.specs.Group.{group_count}
 
 -- ---- the first number of a range that does
 
@@ -84,18 +87,18 @@ record IsOf (row : List Entrant) (g : ℕ) : Type 0 where
 
 -- the groups that somebody is of
 pub record AreOccupied (row : List Entrant) (some : Bits64) : Type 0 where
-  who : (g : ℕ) → g < 64 → has some g ≡ true → IsOf row g
-  all : (x : ℕ) → x < length row → (entrant_at row x).group < 64 → has some (entrant_at row x).group ≡ true
+  who : (g : ℕ) → g < group_count → has some g ≡ true → IsOf row g
+  all : (x : ℕ) → x < length row → (entrant_at row x).group < group_count → has some (entrant_at row x).group ≡ true
 
 -- the groups that have candidates: neither shut nor empty
 record AreHeld (gates : Gates) (some groups : Bits64) : Type 0 where
-  held : (g : ℕ) → g < 64 → has groups g ≡ ((has gates.first g || has gates.second g) && has some g)
+  held : (g : ℕ) → g < group_count → has groups g ≡ ((has gates.first g || has gates.second g) && has some g)
 
 group_has : (parts : List PartFacts) (row : List Entrant) (gates : Gates) (some groups : Bits64)
-    (p g : ℕ) → AreGates parts gates → AreOccupied row some → AreHeld gates some groups → g < 64 → g % 32 ≡ p → has groups g ≡ true
+    (p g : ℕ) → AreGates parts gates → AreOccupied row some → AreHeld gates some groups → g < group_count → g % most_partitions ≡ p → has groups g ≡ true
     → has_candidate parts row p ≡ true
 group_has parts row gates some groups p g are there held below same here =
-    any_among (candidates parts (members (map seat_of row))) (contender_of e) among (equal (e.group % 32) p partition)
+    any_among (candidates parts (members (map seat_of row))) (contender_of e) among (equal (e.group % most_partitions) p partition)
   where
     parted : ((has gates.first g || has gates.second g) ≡ true) × (has some g ≡ true)
     parted = both (has gates.first g || has gates.second g) (has some g) (sym (held.held g below) ∙ here)
@@ -106,7 +109,7 @@ group_has parts row gates some groups p g are there held below same here =
     e : Entrant
     e = entrant_at row who.place
 
-    inside : e.group < 64
+    inside : e.group < group_count
     inside = omega (arith, who.group, below)
 
     stands : (has gates.first g ≡ true) ⊎ (has gates.second g ≡ true) → is_candidate_at parts e ≡ true
@@ -116,19 +119,19 @@ group_has parts row gates some groups p g are there held below same here =
     among : Contains (candidates parts (members (map seat_of row))) (contender_of e)
     among = open_among parts row who.place who.within (stands (one_of (has gates.first g) (has gates.second g) parted.0))
 
-    partition : e.group % 32 ≡ p
-    partition = ap (λ (m : ℕ). m % 32) who.group ∙ same
+    partition : e.group % most_partitions ≡ p
+    partition = ap (λ (m : ℕ). m % most_partitions) who.group ∙ same
 
     any_among : (cs : List Contender) (c : Contender) → Contains cs c → is_of p c ≡ true → list_any (is_of p) cs ≡ true
     any_among cs c (k, within, is) h = list_any_at (is_of p) cs k c within (ap (is_of p) is ∙ h)
 
-group_partition : (g p : ℕ) → g < 64 → p < 32 → g % 32 ≡ p → (g ≡ p) ⊎ (g ≡ p + 32)
+group_partition : (g p : ℕ) → g < group_count → p < most_partitions → g % most_partitions ≡ p → (g ≡ p) ⊎ (g ≡ p + most_partitions)
 group_partition g p g_below p_below same = elim (halves g) [
   | inl low ↦ inl (omega (arith, low, same))
   | inr high ↦ inr (omega (arith, high, g_below, same))
 ]
   where
-    halves : (g : ℕ) → (g < 32) ⊎ (32 ≤ g)
+    halves : (g : ℕ) → (g < most_partitions) ⊎ (most_partitions ≤ g)
     halves g = search arith
 
 -- the group of a candidate is held
@@ -142,7 +145,7 @@ held_by parts row gates some groups x are there held within here =
     g : ℕ
     g = (entrant_at row x).group
 
-    below : g < 64
+    below : g < group_count
     below = open_group parts (entrant_at row x) here
 
     pair : (a b : Bool) → a ≡ true → b ≡ true → (a && b) ≡ true
@@ -160,39 +163,39 @@ held_by parts row gates some groups x are there held within here =
     either (inr two) = right (has gates.first g) (has gates.second g) two
 
 none_has : (parts : List PartFacts) (row : List Entrant) (gates : Gates) (some groups : Bits64)
-    (p : ℕ) → AreGates parts gates → AreOccupied row some → AreHeld gates some groups → p < 32
-    → has groups p ≡ false → has groups (p + 32) ≡ false → has_candidate parts row p ≡ false
+    (p : ℕ) → AreGates parts gates → AreOccupied row some → AreHeld gates some groups → p < most_partitions
+    → has groups p ≡ false → has groups (p + most_partitions) ≡ false → has_candidate parts row p ≡ false
 none_has parts row gates some groups p are there held below plain marked =
     list_any_none (is_of p) (candidates parts (members (map seat_of row)))
-    (all_candidates (λ (c : Contender). is_of p c ≡ false) parts row (λ x within here. by_test x within here (nat_eq ((entrant_at row x).group % 32) p) refl))
+    (all_candidates (λ (c : Contender). is_of p c ≡ false) parts row (λ x within here. by_test x within here (nat_eq ((entrant_at row x).group % most_partitions) p) refl))
   where
     by_test : (x : ℕ) → x < length row → is_candidate_at parts (entrant_at row x) ≡ true → (t : Bool)
-        → nat_eq ((entrant_at row x).group % 32) p ≡ t → nat_eq ((entrant_at row x).group % 32) p ≡ false
+        → nat_eq ((entrant_at row x).group % most_partitions) p ≡ t → nat_eq ((entrant_at row x).group % most_partitions) p ≡ false
     by_test x within here false h = h
     by_test x within here true h =
-        let same : (entrant_at row x).group % 32 ≡ p = grind (arith, nat_tests) in
+        let same : (entrant_at row x).group % most_partitions ≡ p = grind (arith, nat_tests) in
         let is_held = held_by parts row gates some groups x are there held within here in
         elim (group_partition (entrant_at row x).group p (open_group parts (entrant_at row x) here) below same) [
           | inl low ↦ absurd (clash (has groups p) (ap (has groups) (sym low) ∙ is_held) plain)
-          | inr high ↦ absurd (clash (has groups (p + 32)) (ap (has groups) (sym high) ∙ is_held) marked)
+          | inr high ↦ absurd (clash (has groups (p + most_partitions)) (ap (has groups) (sym high) ∙ is_held) marked)
         ]
 
 partition_has : (parts : List PartFacts) (row : List Entrant) (gates : Gates) (some groups : Bits64)
-    (p : ℕ) → AreGates parts gates → AreOccupied row some → AreHeld gates some groups → p < 32
-    → (has groups p || has groups (p + 32)) ≡ has_candidate parts row p
-partition_has parts row gates some groups p are there held below = by_tests (has groups p) (has groups (p + 32)) refl refl
+    (p : ℕ) → AreGates parts gates → AreOccupied row some → AreHeld gates some groups → p < most_partitions
+    → (has groups p || has groups (p + most_partitions)) ≡ has_candidate parts row p
+partition_has parts row gates some groups p are there held below = by_tests (has groups p) (has groups (p + most_partitions)) refl refl
   where
-    same_place : (p : ℕ) → p < 32 → p % 32 ≡ p
+    same_place : (p : ℕ) → p < most_partitions → p % most_partitions ≡ p
     same_place p h = omega (arith, h)
 
-    marked_place : (p : ℕ) → p < 32 → (p + 32) % 32 ≡ p
+    marked_place : (p : ℕ) → p < most_partitions → (p + most_partitions) % most_partitions ≡ p
     marked_place p h = omega (arith, h)
 
-    by_tests : (a b : Bool) → has groups p ≡ a → has groups (p + 32) ≡ b → (a || b) ≡ has_candidate parts row p
+    by_tests : (a b : Bool) → has groups p ≡ a → has groups (p + most_partitions) ≡ b → (a || b) ≡ has_candidate parts row p
     by_tests true b h k =
         sym (group_has parts row gates some groups p p are there held (omega (arith, below)) (same_place p below) h)
     by_tests false true h k =
-        sym (group_has parts row gates some groups p (p + 32) are there held (omega (arith, below)) (marked_place p below) k)
+        sym (group_has parts row gates some groups p (p + most_partitions) are there held (omega (arith, below)) (marked_place p below) k)
     by_tests false false h k = sym (none_has parts row gates some groups p are there held below h k)
 
 -- ---- the partitions with a budget and no candidate
@@ -204,15 +207,15 @@ is_starved parts row p = nat_lt 0 (part_at parts p).budget && not (has_candidate
 pub record AreSteps (gates : Gates) (a b c d e f : Bits64) : Type 0 where
   pub opened : (k : ℕ) → has a k ≡ (has gates.first k || has gates.second k)
   pub groups : (k : ℕ) → has c k ≡ (has a k && has b k)
-  pub upper : (k : ℕ) → has d k ≡ has c (k + 32)
+  pub upper : (k : ℕ) → has d k ≡ has c (k + most_partitions)
   pub held : (k : ℕ) → has e k ≡ (has c k || has d k)
   pub starved : (k : ℕ) → k < 64 → has f k ≡ (has gates.budgeted k && not (has e k))
 
-starved_is : (parts : List PartFacts) (row : List Entrant) (gates : Gates) (a b c d e f : Bits64) (p : ℕ) → AreGates parts gates → AreOccupied row b → AreSteps gates a b c d e f → p < 32
+starved_is : (parts : List PartFacts) (row : List Entrant) (gates : Gates) (a b c d e f : Bits64) (p : ℕ) → AreGates parts gates → AreOccupied row b → AreSteps gates a b c d e f → p < most_partitions
     → has f p ≡ is_starved parts row p
 starved_is parts row gates a b c d e f p are there steps below =
     steps.starved p (omega (arith, below))
-    ∙ ap (λ (t : Bool). t && not (has e p)) (are.budgeted p (omega (arith, below)) ∙ ap (λ (t : Bool). t && nat_lt 0 (part_at parts p).budget) (less p 32 below))
+    ∙ ap (λ (t : Bool). t && not (has e p)) (are.budgeted p (omega (arith, below)) ∙ ap (λ (t : Bool). t && nat_lt 0 (part_at parts p).budget) (less p most_partitions below))
     ∙ ap (λ (t : Bool). nat_lt 0 (part_at parts p).budget && not t)
     (steps.held p ∙ ap (λ (t : Bool). has c p || t) (steps.upper p) ∙ partition_has parts row gates b c p are there are_held below)
   where
@@ -236,7 +239,8 @@ within_parts parts row p h = by_place (below_or_not p (length parts))
         absurd (clash (nat_lt 0 (part_at parts p).budget) (both (nat_lt 0 (part_at parts p).budget) (not (has_candidate parts row p)) h).0
         (ap (λ (n : ℕ). nat_lt 0 n) none))
 
-pub starved_found : (parts : List PartFacts) (row : List Entrant) (gates : Gates) (a b c d e f : Bits64) (p : ℕ) → AreGates parts gates → AreOccupied row b → AreSteps gates a b c d e f → p < 32
+pub starved_found : (parts : List PartFacts) (row : List Entrant) (gates : Gates) (a b c d e f : Bits64) (p : ℕ) → AreGates parts gates
+    → AreOccupied row b → AreSteps gates a b c d e f → p < most_partitions
     → has f p ≡ true → ((k : ℕ) → k < p → has f k ≡ false) → missing parts (members (map seat_of row)) ≡ Some p
 starved_found parts row gates a b c d e f p are there steps below here earlier =
     let is = starved_is parts row gates a b c d e f in
@@ -244,17 +248,18 @@ starved_found parts row gates a b c d e f p are there steps below here earlier =
     find_some (is_starved parts row) (length parts) p (within_parts parts row p starved) starved
     (λ k low. sym (is k are there steps (omega (arith, low, below))) ∙ earlier k low)
 
-pub none_starved : (parts : List PartFacts) (row : List Entrant) (gates : Gates) (a b c d e f : Bits64) → AreGates parts gates → AreOccupied row b → AreSteps gates a b c d e f → length parts ≤ 32
-    → ((k : ℕ) → k < 32 → has f k ≡ false) → missing parts (members (map seat_of row)) ≡ None
+pub none_starved : (parts : List PartFacts) (row : List Entrant) (gates : Gates) (a b c d e f : Bits64) → AreGates parts gates
+    → AreOccupied row b → AreSteps gates a b c d e f → length parts ≤ most_partitions
+    → ((k : ℕ) → k < most_partitions → has f k ≡ false) → missing parts (members (map seat_of row)) ≡ None
 none_starved parts row gates a b c d e f are there steps few none =
     find_none (is_starved parts row) (length parts)
     (λ k low. sym (starved_is parts row gates a b c d e f k are there steps (omega (arith, low, few))) ∙ none k (omega (arith, low, few)))
 
 -- no partition from number 32 on counts
-pub not_past : (parts : List PartFacts) (gates : Gates) (e f : Bits64) (p : ℕ) → AreGates parts gates → p < 64 → 32 ≤ p
+pub not_past : (parts : List PartFacts) (gates : Gates) (e f : Bits64) (p : ℕ) → AreGates parts gates → p < 64 → most_partitions ≤ p
     → ((k : ℕ) → k < 64 → has f k ≡ (has gates.budgeted k && not (has e k))) → has f p ≡ false
 not_past parts gates e f p are below past minus =
-    minus p below ∙ ap (λ (t : Bool). t && not (has e p)) (are.budgeted p below ∙ ap (λ (t : Bool). t && nat_lt 0 (part_at parts p).budget) (not_less p 32 past))
+    minus p below ∙ ap (λ (t : Bool). t && not (has e p)) (are.budgeted p below ∙ ap (λ (t : Bool). t && nat_lt 0 (part_at parts p).budget) (not_less p most_partitions past))
   where
     not_less : (a b : ℕ) → b ≤ a → nat_lt a b ≡ false
     not_less a b h = grind (arith, nat_tests)
@@ -262,22 +267,22 @@ not_past parts gates e f p are below past minus =
 -- ---- the groups that aren't empty
 
 pub groups_occupied : (row : List Entrant) (some : Bits64) → IsQueued row
-    → ((g : ℕ) → g < 64 → has some g ≡ nat_lt (level_of (firsts_of row) g) 256) → AreOccupied row some
+    → ((g : ℕ) → g < group_count → has some g ≡ nat_lt (level_of (firsts_of row) g) level_count) → AreOccupied row some
 groups_occupied row some queued is = record { who = who; all = all }
   where
-    low : (l : ℕ) → nat_lt l 256 ≡ true → l < 256
+    low : (l : ℕ) → nat_lt l level_count ≡ true → l < level_count
     low l h = grind (arith, nat_tests)
 
     less : (a b : ℕ) → a < b → nat_lt a b ≡ true
     less a b h = grind (arith, nat_tests)
 
-    who : (g : ℕ) → g < 64 → has some g ≡ true → IsOf row g
+    who : (g : ℕ) → g < group_count → has some g ≡ true → IsOf row g
     who g below h =
         let found = occupant row (firsts_of row) g (kept row queued) below (low (level_of (firsts_of row) g) (sym (is g below) ∙ h)) in
         record { place = found.place; within = found.within; group = found.group }
 
-    all : (x : ℕ) → x < length row → (entrant_at row x).group < 64 → has some (entrant_at row x).group ≡ true
+    all : (x : ℕ) → x < length row → (entrant_at row x).group < group_count → has some (entrant_at row x).group ≡ true
     all x within below =
         is (entrant_at row x).group below
-        ∙ less (level_of (firsts_of row) (entrant_at row x).group) 256
+        ∙ less (level_of (firsts_of row) (entrant_at row x).group) level_count
         (omega (arith, level_at_most row (firsts_of row) x (kept row queued) within below, queued.levels x within below))

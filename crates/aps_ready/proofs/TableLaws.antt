@@ -5,8 +5,9 @@ use Rattle.std.proofs.lemmas.List.{get_or_read, get_or_past, get_or-replicate, l
 use Rattle.aps_levels.specs.declared.bits.Bits64.{Bits64}
 use Rattle.aps_levels.specs.declared.levels.Levels.{Levels}
 use Rattle.aps_levels.specs.Bits.{has}
-use Rattle.aps_levels.specs.Levels.{has_level}
+use Rattle.aps_levels.specs.Levels.{has_level, level_count}
 use Rattle.aps_ready.specs.Table.{bits_at, levels_at, no_bits, no_levels, AreAtLeast, IsFirst, IsFree, IsTable}
+use Rattle.aps_ready.specs.Group.{group_count}
 
 equal_self : (g : ℕ) → nat_eq g g ≡ true
 equal_self g = grind (arith, nat_tests)
@@ -80,7 +81,7 @@ is_same : (a b : ℕ) → nat_eq a b ≡ true → a ≡ b
 is_same a b h = grind (arith, nat_tests)
 
 pub entered : (at_level new : List Bits64) (levels more : Levels) (of_group new_of : List Levels) (some all : Bits64) (level group : ℕ)
-    → IsTable at_level levels of_group some → level < 256 → group < 64 → length new ≡ length at_level → length new_of ≡ length of_group
+    → IsTable at_level levels of_group some → level < level_count → group < group_count → length new ≡ length at_level → length new_of ≡ length of_group
     → ((l g : ℕ) → has (bits_at new l) g ≡ ((nat_eq l level && nat_eq g group) || has (bits_at at_level l) g))
     → ((l g : ℕ) → has_level (levels_at new_of g) l ≡ ((nat_eq l level && nat_eq g group) || has_level (levels_at of_group g) l))
     → ((k : ℕ) → has_level more k ≡ (nat_eq k level || has_level levels k))
@@ -131,15 +132,15 @@ entered at_level new levels more of_group new_of some all level group table l_be
 }
 
 pub left : (at_level new : List Bits64) (levels fewer : Levels) (of_group new_of : List Levels) (some rest : Bits64) (level group : ℕ)
-    → IsTable at_level levels of_group some → level < 256 → group < 64 → length new ≡ 256 → length new_of ≡ 64
+    → IsTable at_level levels of_group some → level < level_count → group < group_count → length new ≡ level_count → length new_of ≡ group_count
     → ((l g : ℕ) → has (bits_at new l) g ≡ (not (nat_eq l level && nat_eq g group) && has (bits_at at_level l) g))
-    → ((l g : ℕ) → l < 256 → g < 64 → has (bits_at new l) g ≡ true → has_level levels l ≡ true → has_level fewer l ≡ true)
+    → ((l g : ℕ) → l < level_count → g < group_count → has (bits_at new l) g ≡ true → has_level levels l ≡ true → has_level fewer l ≡ true)
     → ((l : ℕ) → has_level fewer l ≡ true → has_level levels l ≡ true)
-    → (has_level fewer level ≡ true → (g : ℕ) × (g < 64) × (has (bits_at new level) g ≡ true))
+    → (has_level fewer level ≡ true → (g : ℕ) × (g < group_count) × (has (bits_at new level) g ≡ true))
     → ((l g : ℕ) → has_level (levels_at new_of g) l ≡ (not (nat_eq l level && nat_eq g group) && has_level (levels_at of_group g) l))
-    → ((l g : ℕ) → l < 256 → g < 64 → has_level (levels_at new_of g) l ≡ true → has some g ≡ true → has rest g ≡ true)
+    → ((l g : ℕ) → l < level_count → g < group_count → has_level (levels_at new_of g) l ≡ true → has some g ≡ true → has rest g ≡ true)
     → ((g : ℕ) → has rest g ≡ true → has some g ≡ true)
-    → (has rest group ≡ true → (l : ℕ) × (l < 256) × (has_level (levels_at new_of group) l ≡ true))
+    → (has rest group ≡ true → (l : ℕ) × (l < level_count) × (has_level (levels_at new_of group) l ≡ true))
     → IsTable new fewer new_of rest
 left at_level new levels fewer of_group new_of some rest level group table l_below g_below each groups at in_fewer before_level own_level in_group all before own = record {
   each = each;
@@ -182,12 +183,12 @@ left at_level new levels fewer of_group new_of some rest level group table l_bel
   ];
 }
   where
-    same : (l g : ℕ) → l < 256 → g < 64 → has_level (levels_at new_of g) l ≡ has (bits_at new l) g
+    same : (l g : ℕ) → l < level_count → g < group_count → has_level (levels_at new_of g) l ≡ has (bits_at new l) g
     same l g l_in g_in =
         in_group l g ∙ ap (λ (t : Bool). not (nat_eq l level && nat_eq g group) && t) (table.same l g l_in g_in) ∙ sym (at l g)
 
 -- a level that is left by its last group is no longer in use
-pub left_in_use : (at_level : List Bits64) (levels fewer : Levels) (rest : Bits64) (level l g : ℕ) → length at_level ≡ 256 → level < 256
+pub left_in_use : (at_level : List Bits64) (levels fewer : Levels) (rest : Bits64) (level l g : ℕ) → length at_level ≡ level_count → level < level_count
     → ((k : ℕ) → has rest k ≡ false) → ((k : ℕ) → has_level fewer k ≡ (not (nat_eq k level) && has_level levels k))
     → has (bits_at (set at_level level rest) l) g ≡ true → has_level levels l ≡ true → has_level fewer l ≡ true
 left_in_use at_level levels fewer rest level l g count below empty without still kept = elim (cases_eq l level) [
@@ -207,7 +208,7 @@ below_or_not : (a b : ℕ) → (a < b) ⊎ (b ≤ a)
 below_or_not a b = search arith
 
 -- a level that isn't in use has no group
-unused : (at_level : List Bits64) (levels : Levels) (of_group : List Levels) (some : Bits64) (l g : ℕ) → IsTable at_level levels of_group some → l < 256 → g < 64 → has_level levels l ≡ false → has (bits_at at_level l) g ≡ false
+unused : (at_level : List Bits64) (levels : Levels) (of_group : List Levels) (some : Bits64) (l g : ℕ) → IsTable at_level levels of_group some → l < level_count → g < group_count → has_level levels l ≡ false → has (bits_at at_level l) g ≡ false
 unused at_level levels of_group some l g index l_below g_below none = by_test (has (bits_at at_level l) g) refl
   where
     by_test : (t : Bool) → has (bits_at at_level l) g ≡ t → has (bits_at at_level l) g ≡ false
@@ -241,7 +242,7 @@ one_searched at_level word left after set from p searched without free = record 
 
 pub first_found : (at_level : List Bits64) (word left set found : Bits64) (from p group : ℕ) → IsSearched at_level word left set from
     → p < 64 → ((k : ℕ) → k < p → has left k ≡ false)
-    → ((g : ℕ) → has found g ≡ (has (bits_at at_level (from + p)) g && has set g)) → group < 64 → has found group ≡ true
+    → ((g : ℕ) → has found g ≡ (has (bits_at at_level (from + p)) g && has set g)) → group < group_count → has found group ≡ true
     → IsFirst at_level word (has set) from (from + p) (has found)
 first_found at_level word left set found from p group searched below earlier these inside some = record {
   place = p;
@@ -256,7 +257,7 @@ first_found at_level word left set found from p group searched below earlier the
 
 -- no group of the set is at any of the first levels of a quarter where none is at those in use, nor at any before
 pub quarter_free : (at_level : List Bits64) (levels : Levels) (of_group : List Levels) (some word : Bits64) (set : ℕ → Bool) (from most : ℕ) → IsTable at_level levels of_group some
-    → from + most ≤ 256 → most ≤ 64 → ((k : ℕ) → k < 64 → has word k ≡ has_level levels (from + k)) → ((l : ℕ) → l < from → IsFree at_level set l)
+    → from + most ≤ level_count → most ≤ 64 → ((k : ℕ) → k < 64 → has word k ≡ has_level levels (from + k)) → ((l : ℕ) → l < from → IsFree at_level set l)
     → ((k : ℕ) → k < most → has word k ≡ true → IsFree at_level set (from + k)) → (l : ℕ) → l < from + most → IsFree at_level set l
 quarter_free at_level levels of_group some word set from most table inside few same before free l low = elim (below_or_not l from) [
   | inl early ↦ before l early
@@ -270,7 +271,7 @@ quarter_free at_level levels of_group some word set from most table inside few s
         (unused at_level levels of_group some (from + k) g table (omega (arith, below, inside)) g_below (sym (same k (omega (arith, below, few))) ∙ h))
 
 pub first_is_least : (at_level : List Bits64) (levels : Levels) (of_group : List Levels) (some word : Bits64) (set : ℕ → Bool) (from level : ℕ) (found : ℕ → Bool)
-    → IsTable at_level levels of_group some → from + 64 ≤ 256 → ((k : ℕ) → k < 64 → has word k ≡ has_level levels (from + k)) → ((l : ℕ) → l < from → IsFree at_level set l)
+    → IsTable at_level levels of_group some → from + 64 ≤ level_count → ((k : ℕ) → k < 64 → has word k ≡ has_level levels (from + k)) → ((l : ℕ) → l < from → IsFree at_level set l)
     → IsFirst at_level word set from level found → AreAtLeast at_level set level found
 first_is_least at_level levels of_group some word set from level found table inside same before first =
     let at = first.at in
@@ -308,14 +309,14 @@ at_none s n g l none = elim (below_or_not g n) [
 
 pub empty_table : (b some : Bits64) (s levels : Levels) → ((k : ℕ) → has b k ≡ false) → ((k : ℕ) → has_level s k ≡ false)
     → ((k : ℕ) → has_level levels k ≡ false)
-    → ((k : ℕ) → has some k ≡ false) → IsTable (replicate 256 b) levels (replicate 64 s) some
+    → ((k : ℕ) → has some k ≡ false) → IsTable (replicate level_count b) levels (replicate group_count s) some
 empty_table b some s levels none no_levels idle nobody = record {
   used = λ l _ h. absurd (clash (has_level levels l) h (idle l));
-  each = length-replicate 256 b;
-  groups = length-replicate 64 s;
-  in_use = λ l g l_below g_below h. absurd (clash (has (bits_at (replicate 256 b) l) g) h (nowhere b 256 l g none));
-  same = λ l g l_below g_below. at_none s 64 g l no_levels ∙ sym (nowhere b 256 l g none);
-  all = λ l g l_below g_below h. absurd (clash (has (bits_at (replicate 256 b) l) g) h (nowhere b 256 l g none));
+  each = length-replicate level_count b;
+  groups = length-replicate group_count s;
+  in_use = λ l g l_below g_below h. absurd (clash (has (bits_at (replicate level_count b) l) g) h (nowhere b level_count l g none));
+  same = λ l g l_below g_below. at_none s group_count g l no_levels ∙ sym (nowhere b level_count l g none);
+  all = λ l g l_below g_below h. absurd (clash (has (bits_at (replicate level_count b) l) g) h (nowhere b level_count l g none));
   some = λ g g_below h. absurd (clash (has some g) h (nobody g));
 }
   where

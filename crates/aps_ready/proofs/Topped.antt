@@ -7,6 +7,7 @@ use Rattle.aps_ready.specs.Entrant.{IsFirst, goes_before, vacant}
 use Rattle.aps_ready.specs.Firsts.{first_of, firsts_of}
 use Rattle.aps_ready.specs.Ready.{entrant_in}
 use Rattle.aps_ready.specs.Topped.{AreTopped}
+use Rattle.aps_ready.specs.Group.{group_count}
 
 before_itself : (a : Entrant) → goes_before a a ≡ false
 before_itself a = grind (arith, nat_tests)
@@ -41,5 +42,5 @@ first_goes (e ∷ row) = by_test (first_goes row) (goes_before e (first_of row))
 pub firsts_topped : (row : List Entrant) → AreTopped row (firsts_of row)
 firsts_topped row g below =
     subst (IsFirst (map (entrant_in g) row))
-    (sym (get_or-map-range_with_len (λ (h : ℕ). first_of (map (entrant_in h) row)) 0 64 g g vacant below (omega arith)))
+    (sym (get_or-map-range_with_len (λ (h : ℕ). first_of (map (entrant_in h) row)) 0 group_count g g vacant below (omega arith)))
     (first_goes (map (entrant_in g) row))

@@ -2,6 +2,8 @@ use Rattle.std.proofs.Common.{◌≡◌, ◌⊎◌, inl, inr, ℕ, zero, suc, �
 use Rattle.std.specs.List.{Contains}
 use Rattle.std.proofs.lemmas.Bool.Decides.{nat_tests}
 use Rattle.std.proofs.lemmas.List.{length-map, get_or-map}
+use Rattle.aps_model.specs.Limits.{greatest_priority}
+use Rattle.aps_levels.specs.Levels.{level_count}
 use Rattle.aps_ready.specs.declared.entrant.Entrant.{Entrant}
 use Rattle.aps_ready.specs.Entrant.{entrant_at, vacant, goes_before, IsFirst}
 use Rattle.aps_ready.specs.Firsts.{firsts_of, level_of}
@@ -9,13 +11,14 @@ use Rattle.aps_ready.specs.Ready.{entrant_in, IsQueued}
 use Rattle.aps_ready.specs.Topped.{AreTopped}
 use Rattle.aps_ready.specs.Best.{Sits}
 use Rattle.aps_ready.proofs.Topped.{firsts_topped}
+use Rattle.aps_ready.specs.Group.{group_count}
 
 -- ---- the first of a group
 
 pub record IsTop (row : List Entrant) (n : ℕ) (top : Entrant) : Type 0 where
-  pub group : top.group < 64 → top.group ≡ n
-  pub sits : top.group < 64 → Sits row top
-  pub none : (top.group < 64 → ⊥) → top ≡ vacant
+  pub group : top.group < group_count → top.group ≡ n
+  pub sits : top.group < group_count → Sits row top
+  pub none : (top.group < group_count → ⊥) → top ≡ vacant
   pub first : (x : ℕ) → x < length row → (entrant_at row x).group ≡ n → (top.group ≡ n) × (goes_before (entrant_at row x) top ≡ false)
 
 -- one of the group
@@ -42,18 +45,18 @@ who row n top (suc k, within, is) =
       | inr none ↦ inr none
     ]
 
-pub not_vacant : (top : Entrant) → top ≡ vacant → top.group < 64 → ⊥
+pub not_vacant : (top : Entrant) → top ≡ vacant → top.group < group_count → ⊥
 not_vacant top is g = omega (arith, g, ap (λ (e : Entrant). e.group) is)
 
 own_entrant : (n : ℕ) (e : Entrant) → e.group ≡ n → entrant_in n e ≡ e
 own_entrant n e same = grind (arith, nat_tests)
 
-before_vacant : (e top : Entrant) → e.level ≤ 255 → top ≡ vacant → goes_before e top ≡ false → ⊥
+before_vacant : (e top : Entrant) → e.level ≤ greatest_priority → top ≡ vacant → goes_before e top ≡ false → ⊥
 before_vacant e top small is h =
-    let level : top.level ≡ 256 = ap (λ (f : Entrant). f.level) is in
+    let level : top.level ≡ level_count = ap (λ (f : Entrant). f.level) is in
     grind (arith, nat_tests)
 
-pub top_is : (row : List Entrant) (n : ℕ) (top : Entrant) → n < 64 → IsQueued row → IsFirst (map (entrant_in n) row) top → IsTop row n top
+pub top_is : (row : List Entrant) (n : ℕ) (top : Entrant) → n < group_count → IsQueued row → IsFirst (map (entrant_in n) row) top → IsTop row n top
 top_is row n top below queued first = by_kind (who row n top first.one)
   where
     before : (x : ℕ) → x < length row → (entrant_at row x).group ≡ n → goes_before (entrant_at row x) top ≡ false
@@ -80,10 +83,10 @@ top_is row n top below queued first = by_kind (who row n top first.one)
     }
 
 -- the level of somebody who sits there
-pub sits_level : (row : List Entrant) (e : Entrant) → IsQueued row → e.group < 64 → Sits row e → e.level ≤ 255
+pub sits_level : (row : List Entrant) (e : Entrant) → IsQueued row → e.group < group_count → Sits row e → e.level ≤ greatest_priority
 sits_level row e queued g sits =
-    subst (λ (f : Entrant). f.level ≤ 255) sits.is
-    (queued.levels sits.place sits.within (subst (λ (f : Entrant). f.group < 64) (sym sits.is) g))
+    subst (λ (f : Entrant). f.level ≤ greatest_priority) sits.is
+    (queued.levels sits.place sits.within (subst (λ (f : Entrant). f.group < group_count) (sym sits.is) g))
 
 -- ---- the levels of the groups
 
@@ -95,7 +98,7 @@ pub record IsKept (row firsts : List Entrant) : Type 0 where
 pub kept : (row : List Entrant) → IsQueued row → IsKept row (firsts_of row)
 kept row queued = record { queued = queued; topped = firsts_topped row }
 
-pub top_of : (row : List Entrant) (firsts : List Entrant) (g : ℕ) → IsKept row firsts → g < 64
+pub top_of : (row : List Entrant) (firsts : List Entrant) (g : ℕ) → IsKept row firsts → g < group_count
     → IsTop row g (entrant_at firsts g)
 top_of row firsts g kept below =
     top_is row g (entrant_at firsts g) below kept.queued (kept.topped g below)
@@ -105,7 +108,7 @@ not_before first e h = grind (arith, nat_tests)
 
 -- nobody has a lower level than its group
 pub level_at_most : (row : List Entrant) (firsts : List Entrant) (x : ℕ) → IsKept row firsts
-    → x < length row → (entrant_at row x).group < 64 → level_of firsts (entrant_at row x).group ≤ (entrant_at row x).level
+    → x < length row → (entrant_at row x).group < group_count → level_of firsts (entrant_at row x).group ≤ (entrant_at row x).level
 level_at_most row firsts x kept within below =
     let g = (entrant_at row x).group in
     not_before (entrant_at firsts g) (entrant_at row x) ((top_of row firsts g kept below).first x within refl).1
@@ -118,7 +121,7 @@ pub record Occupant (row : List Entrant) (g at_level : ℕ) : Type 0 where
   pub level : (entrant_at row place).level ≡ at_level
 
 pub occupant : (row : List Entrant) (firsts : List Entrant) (g : ℕ) → IsKept row firsts
-    → g < 64 → level_of firsts g < 256 → Occupant row g (level_of firsts g)
+    → g < group_count → level_of firsts g < level_count → Occupant row g (level_of firsts g)
 occupant row firsts g kept below some =
     by_kind (who row g first (kept.topped g below).one)
   where

@@ -9,8 +9,10 @@ use Rattle.aps_model.specs.Merit.{is_candidate, IsGreater}
 use Rattle.aps_model.specs.Budget.{part_at}
 use Rattle.aps_model.specs.Pick.{merit_among, candidates, greatest, IsGreatestCandidate}
 use Rattle.aps_model.proofs.GreatestLaws.{greatest-is, greatest-only, no_greatest, unbeaten-less}
+use Rattle.aps_model.specs.Limits.{greatest_priority, last_partition, last_thread, most_partitions, most_threads}
 use Rattle.aps_levels.specs.declared.bits.Bits64.{Bits64}
 use Rattle.aps_levels.specs.Bits.{has}
+use Rattle.aps_levels.specs.Levels.{level_count}
 use Rattle.aps_ready.specs.declared.entrant.Entrant.{Entrant}
 use Rattle.aps_ready.specs.declared.gates.Gates.{Gates}
 use Rattle.aps_ready.specs.Entrant.{entrant_at, goes_before}
@@ -25,6 +27,7 @@ use Rattle.aps_ready.proofs.Queued.{seat_at, seat_in}
 use Rattle.aps_ready.proofs.Content.{open_from, open_group, open_among, all_candidates}
 use Rattle.aps_ready.proofs.Tops.{IsKept, level_at_most, Occupant, occupant, sits_level}
 use Rattle.aps_ready.proofs.Above.{class_at, ahead_in_part, above_tie, above_by_ratio, above_lower_first, above_lower_second, above_class}
+use Rattle.aps_ready.specs.Group.{group_count}
 
 -- ---- what the gates say of somebody
 
@@ -34,19 +37,19 @@ pub record Stands (parts : List PartFacts) (e : Entrant) (k : ℕ) : Type 0 wher
   pub class : class_at parts e ≡ k
 
 abbrev part_of : List PartFacts → Entrant → PartFacts
-part_of parts e = part_at parts (e.group % 32)
+part_of parts e = part_at parts (e.group % most_partitions)
 
 class_test : (t : Bool) → nat_eq (cond t 1 0) 1 ≡ t
 class_test true = refl
 class_test false = refl
 
-candidate_is : (parts : List PartFacts) (e : Entrant) → e.group < 64
-    → is_candidate_at parts e ≡ is_open (part_of parts e) (nat_lt 31 e.group)
+candidate_is : (parts : List PartFacts) (e : Entrant) → e.group < group_count
+    → is_candidate_at parts e ≡ is_open (part_of parts e) (nat_lt last_partition e.group)
 candidate_is parts e below =
     let part = part_of parts e in
-    let there : nat_lt e.group 64 ≡ true = grind (arith, nat_tests) in
+    let there : nat_lt e.group group_count ≡ true = grind (arith, nat_tests) in
     ap (λ (t : Bool). t && is_candidate (facts_of e) part) there
-    ∙ ap (λ (t : Bool). not part.shut || (t && not part.funded)) (class_test (is_first part (nat_lt 31 e.group)))
+    ∙ ap (λ (t : Bool). not part.shut || (t && not part.funded)) (class_test (is_first part (nat_lt last_partition e.group)))
 
 both : (a b : Bool) → (a && b) ≡ true → (a ≡ true) × (b ≡ true)
 both true b h = (refl, h)
@@ -56,29 +59,29 @@ not_true : (t : Bool) → not t ≡ true → t ≡ false
 not_true true h = absurd cc
 not_true false h = refl
 
-pub first_stands : (parts : List PartFacts) (gates : Gates) (e : Entrant) → AreGates parts gates → e.group < 64 → has gates.first e.group ≡ true
+pub first_stands : (parts : List PartFacts) (gates : Gates) (e : Entrant) → AreGates parts gates → e.group < group_count → has gates.first e.group ≡ true
     → Stands parts e 1
 first_stands parts gates e are below h =
-    let parted = both (is_open (part_of parts e) (nat_lt 31 e.group)) (is_first (part_of parts e) (nat_lt 31 e.group)) (sym (are.first e.group below) ∙ h) in
+    let parted = both (is_open (part_of parts e) (nat_lt last_partition e.group)) (is_first (part_of parts e) (nat_lt last_partition e.group)) (sym (are.first e.group below) ∙ h) in
     record {
       candidate = candidate_is parts e below ∙ parted.0;
       class = ap (λ (t : Bool). cond t 1 0) parted.1;
     }
 
-pub second_stands : (parts : List PartFacts) (gates : Gates) (e : Entrant) → AreGates parts gates → e.group < 64 → has gates.second e.group ≡ true
+pub second_stands : (parts : List PartFacts) (gates : Gates) (e : Entrant) → AreGates parts gates → e.group < group_count → has gates.second e.group ≡ true
     → Stands parts e 0
 second_stands parts gates e are below h =
-    let parted = both (is_open (part_of parts e) (nat_lt 31 e.group)) (not (is_first (part_of parts e) (nat_lt 31 e.group)))
+    let parted = both (is_open (part_of parts e) (nat_lt last_partition e.group)) (not (is_first (part_of parts e) (nat_lt last_partition e.group)))
     (sym (are.second e.group below) ∙ h) in
     record {
       candidate = candidate_is parts e below ∙ parted.0;
-      class = ap (λ (t : Bool). cond t 1 0) (not_true (is_first (part_of parts e) (nat_lt 31 e.group)) parted.1);
+      class = ap (λ (t : Bool). cond t 1 0) (not_true (is_first (part_of parts e) (nat_lt last_partition e.group)) parted.1);
     }
 
 -- the same, where the group is one of candidates of class 1
-pub open_stands : (parts : List PartFacts) (e : Entrant) → e.group < 64 → open_first parts e.group ≡ true → Stands parts e 1
+pub open_stands : (parts : List PartFacts) (e : Entrant) → e.group < group_count → open_first parts e.group ≡ true → Stands parts e 1
 open_stands parts e below h =
-    let parted = both (is_open (part_of parts e) (nat_lt 31 e.group)) (is_first (part_of parts e) (nat_lt 31 e.group)) h in
+    let parted = both (is_open (part_of parts e) (nat_lt last_partition e.group)) (is_first (part_of parts e) (nat_lt last_partition e.group)) h in
     record {
       candidate = candidate_is parts e below ∙ parted.0;
       class = ap (λ (t : Bool). cond t 1 0) parted.1;
@@ -88,7 +91,7 @@ open_stands parts e below h =
 pub other_class : (parts : List PartFacts) (e : Entrant) → is_candidate_at parts e ≡ true → open_first parts e.group ≡ false → class_at parts e ≡ 0
 other_class parts e here h =
     let part = part_of parts e in
-    let mark = nat_lt 31 e.group in
+    let mark = nat_lt last_partition e.group in
     ap (λ (t : Bool). cond t 1 0) (second (is_open part mark) (is_first part mark) (sym (candidate_is parts e (open_group parts e here)) ∙ here) h)
   where
     second : (a b : Bool) → a ≡ true → (a && b) ≡ false → b ≡ false
@@ -98,25 +101,25 @@ other_class parts e here h =
 -- every candidate is in one of the two
 pub in_one : (parts : List PartFacts) (gates : Gates) (e : Entrant) → AreGates parts gates → is_candidate_at parts e ≡ true
     → (has gates.first e.group ≡ true) ⊎ (has gates.second e.group ≡ true)
-in_one parts gates e are here = by_test (is_first part (nat_lt 31 e.group)) refl
+in_one parts gates e are here = by_test (is_first part (nat_lt last_partition e.group)) refl
   where
     part : PartFacts
     part = part_of parts e
 
-    below : e.group < 64
+    below : e.group < group_count
     below = open_group parts e here
 
-    opened : is_open part (nat_lt 31 e.group) ≡ true
+    opened : is_open part (nat_lt last_partition e.group) ≡ true
     opened = sym (candidate_is parts e below) ∙ here
 
     pair : (a b : Bool) → a ≡ true → b ≡ true → (a && b) ≡ true
     pair a b h k = rw (h, k) refl
 
-    by_test : (t : Bool) → is_first part (nat_lt 31 e.group) ≡ t → (has gates.first e.group ≡ true) ⊎ (has gates.second e.group ≡ true)
-    by_test true h = inl (are.first e.group below ∙ pair (is_open part (nat_lt 31 e.group)) (is_first part (nat_lt 31 e.group)) opened h)
+    by_test : (t : Bool) → is_first part (nat_lt last_partition e.group) ≡ t → (has gates.first e.group ≡ true) ⊎ (has gates.second e.group ≡ true)
+    by_test true h = inl (are.first e.group below ∙ pair (is_open part (nat_lt last_partition e.group)) (is_first part (nat_lt last_partition e.group)) opened h)
     by_test false h =
         inr (are.second e.group below
-        ∙ pair (is_open part (nat_lt 31 e.group)) (not (is_first part (nat_lt 31 e.group))) opened (ap not h))
+        ∙ pair (is_open part (nat_lt last_partition e.group)) (not (is_first part (nat_lt last_partition e.group))) opened (ap not h))
 
 -- ---- nobody is above the best
 
@@ -125,11 +128,11 @@ below_or_not a b = search arith
 
 -- the best of the groups at the least level: somebody is there, at that level
 record IsAtLeast (firsts : List Entrant) (set groups : ℕ → Bool) (best : Entrant) (l : ℕ) : Type 0 where
-  there : best.group < 64
+  there : best.group < group_count
   among : set best.group ≡ true
   level : best.level ≡ l
 
-in_found : (firsts : List Entrant) (set found : ℕ → Bool) (least : AreLeast firsts set found) (g : ℕ) → g < 64 → found g ≡ true
+in_found : (firsts : List Entrant) (set found : ℕ → Bool) (least : AreLeast firsts set found) (g : ℕ) → g < group_count → found g ≡ true
     → (level_of firsts g ≡ least.level) × (set g ≡ true)
 in_found firsts set found least g below h =
     let parted = both (nat_eq (level_of firsts g) least.level) (set g) (sym (least.these g below) ∙ h) in
@@ -147,17 +150,17 @@ at_least : (parts : List PartFacts) (row : List Entrant) (firsts : List Entrant)
 at_least parts row firsts set found best kept least is_best = record { there = there; among = own.1; level = omega (arith, low, high) }
   where
     -- who has the level of the group, in any of the found groups
-    at : (g : ℕ) → g < 64 → found g ≡ true → Occupant row g (level_of firsts g)
+    at : (g : ℕ) → g < group_count → found g ≡ true → Occupant row g (level_of firsts g)
     at g below h = occupant row firsts g kept below (omega (arith, least.below, (in_found firsts set found least g below h).0))
 
     -- and so isn't ahead of the best
-    behind : (g : ℕ) → (below : g < 64) → (h : found g ≡ true)
-        → (best.group < 64) × (is_ahead parts (entrant_at row (at g below h).place) best ≡ false)
+    behind : (g : ℕ) → (below : g < group_count) → (h : found g ≡ true)
+        → (best.group < group_count) × (is_ahead parts (entrant_at row (at g below h).place) best ≡ false)
     behind g below h =
         let who = at g below h in
         is_best.others who.place who.within (omega (arith, who.group, below)) (ap found who.group ∙ h)
 
-    there : best.group < 64
+    there : best.group < group_count
     there = (behind least.group least.inside least.some).0
 
     own : (level_of firsts best.group ≡ least.level) × (set best.group ≡ true)
@@ -169,14 +172,14 @@ at_least parts row firsts set found best kept least is_best = record { there = t
     low : least.level ≤ best.level
     low = subst (λ (l : ℕ). l ≤ best.level) own.0
         (subst (λ (e : Entrant). level_of firsts e.group ≤ e.level) sits.is
-        (level_at_most row firsts sits.place kept sits.within (subst (λ (e : Entrant). e.group < 64) (sym sits.is) there)))
+        (level_at_most row firsts sits.place kept sits.within (subst (λ (e : Entrant). e.group < group_count) (sym sits.is) there)))
 
     high : best.level ≤ least.level
     high =
         let who = at best.group there (is_best.inside there) in
         let e = entrant_at row who.place in
         let before : goes_before e best ≡ false =
-        sym (ahead_in_part parts e best (ap (λ (g : ℕ). g % 32) who.group)) ∙ (behind best.group there (is_best.inside there)).1 in
+        sym (ahead_in_part parts e best (ap (λ (g : ℕ). g % most_partitions) who.group)) ∙ (behind best.group there (is_best.inside there)).1 in
         omega (arith, not_before best e before, who.level, own.0)
 
 -- of the set nobody is above it
@@ -185,7 +188,7 @@ not_above : (free : Free) (parts : List PartFacts) (row : List Entrant) (firsts 
     → IsKept row firsts → (least : AreLeast firsts set found) → IsBest parts row found best
     → class_at parts best ≡ k → class_at parts (entrant_at row x) ≡ k
     → (best.level < (entrant_at row x).level → is_above free parts (entrant_at row x) best ≡ false)
-    → x < length row → (entrant_at row x).group < 64 → set (entrant_at row x).group ≡ true
+    → x < length row → (entrant_at row x).group < group_count → set (entrant_at row x).group ≡ true
     → is_above free parts (entrant_at row x) best ≡ false
 not_above free parts row firsts set found best k x kept least is_best best_class class lower within below among =
     elim (below_or_not best.level (entrant_at row x).level) [
@@ -218,15 +221,15 @@ not_above free parts row firsts set found best k x kept least is_best best_class
         equal : (a b : ℕ) → a ≡ b → nat_eq a b ≡ true
         equal a b h = grind (arith, nat_tests)
 
-    behind : e.level ≤ best.level → (best.group < 64) × (is_ahead parts e best ≡ false)
+    behind : e.level ≤ best.level → (best.group < group_count) × (is_ahead parts e best ≡ false)
     behind high = is_best.others x within below (in_these high)
 
-small : (row : List Entrant) (x : ℕ) → IsQueued row → x < length row → (entrant_at row x).group < 64 → (entrant_at row x).level ≤ 255
+small : (row : List Entrant) (x : ℕ) → IsQueued row → x < length row → (entrant_at row x).group < group_count → (entrant_at row x).level ≤ greatest_priority
 small row x queued within below = queued.levels x within below
 
 -- an empty group has nobody
 no_member : (row : List Entrant) (firsts : List Entrant) (set : Bits64) (x : ℕ) → IsKept row firsts → AreEmpty firsts set
-    → x < length row → (entrant_at row x).group < 64 → has set (entrant_at row x).group ≡ true → ⊥
+    → x < length row → (entrant_at row x).group < group_count → has set (entrant_at row x).group ≡ true → ⊥
 no_member row firsts set x kept empty within below among =
     omega (
       arith,
@@ -268,8 +271,8 @@ first_wins free parts row firsts gates found best are kept least is_best = recor
 -- somebody of class 1 at the least level of all
 pub near_wins : (free : Free) (parts : List PartFacts) (row : List Entrant) (firsts : List Entrant)
     (occupied near : Bits64) (best : Entrant) → IsKept row firsts
-    → ((g : ℕ) → g < 64 → has occupied g ≡ nat_lt (level_of firsts g) 256) → AreLeast firsts (has occupied) (has near)
-    → IsBest parts row (λ g. has near g && open_first parts g) best → best.group < 64 → IsWinner free parts row best
+    → ((g : ℕ) → g < group_count → has occupied g ≡ nat_lt (level_of firsts g) level_count) → AreLeast firsts (has occupied) (has near)
+    → IsBest parts row (λ g. has near g && open_first parts g) best → best.group < group_count → IsWinner free parts row best
 near_wins free parts row firsts occupied near best kept some least is_best there = record {
   open_here = λ _. stands.candidate;
   sits = is_best.sits;
@@ -285,20 +288,20 @@ near_wins free parts row firsts occupied near best kept some least is_best there
     stands : Stands parts best 1
     stands = open_stands parts best there (both (has near best.group) (open_first parts best.group) inside).1
 
-    low : (l : ℕ) → nat_lt l 256 ≡ true → l < 256
+    low : (l : ℕ) → nat_lt l level_count ≡ true → l < level_count
     low l h = grind (arith, nat_tests)
 
     less : (a b : ℕ) → a < b → nat_lt a b ≡ true
     less a b h = grind (arith, nat_tests)
 
-    is_at : (g : ℕ) → g < 64 → has near g ≡ nat_eq (level_of firsts g) least.level
+    is_at : (g : ℕ) → g < group_count → has near g ≡ nat_eq (level_of firsts g) least.level
     is_at g below = least.these g below ∙ by_test (nat_eq (level_of firsts g) least.level) refl
       where
         by_test : (t : Bool) → nat_eq (level_of firsts g) least.level ≡ t → (t && has occupied g) ≡ t
         by_test false h = refl
         by_test true h =
             let same : level_of firsts g ≡ least.level = grind (arith, nat_tests) in
-            some g below ∙ less (level_of firsts g) 256 (omega (arith, same, least.below))
+            some g below ∙ less (level_of firsts g) level_count (omega (arith, same, least.below))
 
     least_open : AreLeast firsts (open_first parts) found
     least_open = record {
@@ -308,11 +311,11 @@ near_wins free parts row firsts occupied near best kept some least is_best there
       inside = there;
       some = inside;
       these = λ g below. ap (λ (t : Bool). t && open_first parts g) (is_at g below);
-      least = λ g below _. at_most g below (below_or_not (level_of firsts g) 256);
+      least = λ g below _. at_most g below (below_or_not (level_of firsts g) level_count);
     }
       where
-        at_most : (g : ℕ) → g < 64 → (level_of firsts g < 256) ⊎ (256 ≤ level_of firsts g) → least.level ≤ level_of firsts g
-        at_most g below (inl down) = least.least g below (some g below ∙ less (level_of firsts g) 256 down)
+        at_most : (g : ℕ) → g < group_count → (level_of firsts g < level_count) ⊎ (level_count ≤ level_of firsts g) → least.level ≤ level_of firsts g
+        at_most g below (inl down) = least.least g below (some g below ∙ less (level_of firsts g) level_count down)
         at_most g below (inr up) = omega (arith, up, least.below)
 
     beaten : (x : ℕ) → x < length row → is_candidate_at parts (entrant_at row x) ≡ true → (t : Bool)
@@ -379,17 +382,17 @@ ratio_wins parts row firsts gates found best are kept empty occupied is_best = r
       );
 }
   where
-    stands : best.group < 64 → Stands parts best 0
+    stands : best.group < group_count → Stands parts best 0
     stands g = second_stands parts gates best are g
-        (both (has gates.second best.group) (nat_lt (level_of firsts best.group) 256) (sym (occupied best.group g) ∙ is_best.inside g)).0
+        (both (has gates.second best.group) (nat_lt (level_of firsts best.group) level_count) (sym (occupied best.group g) ∙ is_best.inside g)).0
 
-    is_found : (x : ℕ) → x < length row → (entrant_at row x).group < 64 → (entrant_at row x).level ≤ 255
+    is_found : (x : ℕ) → x < length row → (entrant_at row x).group < group_count → (entrant_at row x).level ≤ greatest_priority
         → has gates.second (entrant_at row x).group ≡ true → has found (entrant_at row x).group ≡ true
     is_found x within below level two =
         let most = level_at_most row firsts x kept within below in
         occupied (entrant_at row x).group below
-        ∙ pair (has gates.second (entrant_at row x).group) (nat_lt (level_of firsts (entrant_at row x).group) 256) two
-        (less (level_of firsts (entrant_at row x).group) 256 (omega (arith, most, level)))
+        ∙ pair (has gates.second (entrant_at row x).group) (nat_lt (level_of firsts (entrant_at row x).group) level_count) two
+        (less (level_of firsts (entrant_at row x).group) level_count (omega (arith, most, level)))
       where
         pair : (a b : Bool) → a ≡ true → b ≡ true → (a && b) ≡ true
         pair a b h k = rw (h, k) refl
@@ -399,7 +402,7 @@ ratio_wins parts row firsts gates found best are kept empty occupied is_best = r
 
 pub nobody_wins : (parts : List PartFacts) (row : List Entrant) (firsts : List Entrant)
     (gates : Gates) (found : Bits64) (best : Entrant) → AreGates parts gates → IsKept row firsts → AreEmpty firsts gates.first
-    → AreEmpty firsts gates.second → ((g : ℕ) → g < 64 → has found g ≡ false) → IsBest parts row (has found) best
+    → AreEmpty firsts gates.second → ((g : ℕ) → g < group_count → has found g ≡ false) → IsBest parts row (has found) best
     → IsWinner Priority parts row best
 nobody_wins parts row firsts gates found best are kept empty empty_too none is_best = record {
   open_here = λ g. absurd (clash (has found best.group) (is_best.inside g) (none best.group g));
@@ -427,11 +430,11 @@ likely_wins Priority parts row firsts gates found best are kept (inr rest) is_be
 -- ---- it is the greatest candidate
 
 -- stamps differ
-same_member : (row : List Entrant) (x y : ℕ) → IsQueued row → x < length row → y < length row → (entrant_at row x).group < 64 → (entrant_at row y).group < 64
+same_member : (row : List Entrant) (x y : ℕ) → IsQueued row → x < length row → y < length row → (entrant_at row x).group < group_count → (entrant_at row y).group < group_count
     → (entrant_at row x).stamp ≡ (entrant_at row y).stamp → entrant_at row x ≡ entrant_at row y
 same_member row x y queued x_in y_in gx gy same = ap (entrant_at row) (queued.stamps x y x_in y_in gx gy same)
 
-pub best_is_greatest : (free : Free) (parts : List PartFacts) (row : List Entrant) (best : Entrant) → IsQueued row → IsWinner free parts row best → best.group < 64
+pub best_is_greatest : (free : Free) (parts : List PartFacts) (row : List Entrant) (best : Entrant) → IsQueued row → IsWinner free parts row best → best.group < group_count
     → greatest free parts (members (map seat_of row)) ≡ Some (contender_of best)
 best_is_greatest free parts row best queued is_winner g = by_result (greatest free parts (members (map seat_of row))) refl
   where
@@ -464,7 +467,7 @@ best_is_greatest free parts row best queued is_winner g = by_result (greatest fr
         (ap (λ (e : Entrant). e.stamp) sits.is ∙ stamp) in
         h ∙ ap (λ (d : Contender). Some d) (at.is ∙ ap contender_of (sym same ∙ sits.is))
 
-pub none_is_greatest : (free : Free) (parts : List PartFacts) (row : List Entrant) (best : Entrant) → IsWinner free parts row best → (best.group < 64 → ⊥)
+pub none_is_greatest : (free : Free) (parts : List PartFacts) (row : List Entrant) (best : Entrant) → IsWinner free parts row best → (best.group < group_count → ⊥)
     → greatest free parts (members (map seat_of row)) ≡ None
 none_is_greatest free parts row best is_winner none = by_result (greatest free parts (members (map seat_of row))) refl
   where
@@ -480,9 +483,9 @@ pub record Place (row : List Entrant) (x : ℕ) : Type 0 where
   pub within : x < length row
   pub present : get_or (map seat_of row) x None ≢ None
 
-pub place_by : (row : List Entrant) (best : Entrant) (x : ℕ) → IsQueued row → Sits row best → best.group < 64 → x ≡ best.thread → Place row x
+pub place_by : (row : List Entrant) (best : Entrant) (x : ℕ) → IsQueued row → Sits row best → best.group < group_count → x ≡ best.thread → Place row x
 place_by row best x queued sits g is =
-    let group : (entrant_at row sits.place).group < 64 = subst (λ (e : Entrant). e.group < 64) (sym sits.is) g in
+    let group : (entrant_at row sits.place).group < group_count = subst (λ (e : Entrant). e.group < group_count) (sym sits.is) g in
     let same : sits.place ≡ x = sym (queued.threads sits.place sits.within group) ∙ ap (λ (e : Entrant). e.thread) sits.is ∙ sym is in
     record {
       within = omega (arith, same, sits.within);
@@ -492,22 +495,22 @@ place_by row best x queued sits g is =
     is_some : (c : Contender) → Some c ≡ None → ⊥
     is_some c h = cc
 
-pub thread_small : (row : List Entrant) (best : Entrant) → length row ≤ 1024 → IsQueued row → Sits row best → best.group < 64
-    → best.thread ≤ 1023
+pub thread_small : (row : List Entrant) (best : Entrant) → length row ≤ most_threads → IsQueued row → Sits row best → best.group < group_count
+    → best.thread ≤ last_thread
 thread_small row best few queued sits g =
-    let there : (entrant_at row sits.place).group < 64 = subst (λ (e : Entrant). e.group < 64) (sym sits.is) g in
+    let there : (entrant_at row sits.place).group < group_count = subst (λ (e : Entrant). e.group < group_count) (sym sits.is) g in
     omega (arith, sits.within, few, queued.threads sits.place sits.within there, ap (λ (e : Entrant). e.thread) sits.is)
 
 -- ---- the groups that are looked at aren't empty
 
-pub least_occupied : (firsts : List Entrant) (set found : ℕ → Bool) → AreLeast firsts set found → (g : ℕ) → g < 64 → found g ≡ true
-    → level_of firsts g < 256
+pub least_occupied : (firsts : List Entrant) (set found : ℕ → Bool) → AreLeast firsts set found → (g : ℕ) → g < group_count → found g ≡ true
+    → level_of firsts g < level_count
 least_occupied firsts set found least g below h = omega (arith, least.below, (in_found firsts set found least g below h).0)
 
 pub likely_second_occupied : (free : Free) (firsts : List Entrant) (second found : Bits64) → AreLikelySecond free firsts second found
-    → (g : ℕ) → g < 64 → has found g ≡ true → level_of firsts g < 256
+    → (g : ℕ) → g < group_count → has found g ≡ true → level_of firsts g < level_count
 likely_second_occupied Ratio firsts second found occupied g below h =
-    is_less (level_of firsts g) 256 (both (has second g) (nat_lt (level_of firsts g) 256) (sym (occupied g below) ∙ h)).1
+    is_less (level_of firsts g) level_count (both (has second g) (nat_lt (level_of firsts g) level_count) (sym (occupied g below) ∙ h)).1
   where
     is_less : (a b : ℕ) → nat_lt a b ≡ true → a < b
     is_less a b h = grind (arith, nat_tests)

@@ -2,6 +2,7 @@ use Rattle.std.specs.Prelude.{◌%◌, Bool, true, false, nat_eq, nat_lt, if◌t
 use Rattle.aps_model.specs.declared.merit.PartFacts.{PartFacts}
 use Rattle.aps_model.specs.Merit.{smaller}
 use Rattle.aps_model.specs.Budget.{part_at}
+use Rattle.aps_model.specs.Limits.{most_partitions}
 use Rattle.aps_ready.specs.declared.entrant.Entrant.{Entrant}
 use Rattle.aps_ready.specs.Entrant.{goes_before}
 
@@ -19,7 +20,7 @@ ahead_by a b rest =
 
 -- the order of candidates of one class, where they have one level too or free time goes by ratio
 abbrev pub is_ahead : List PartFacts → Entrant → Entrant → Bool
-is_ahead parts a b = ahead_by (part_at parts (a.group % 32)) (part_at parts (b.group % 32)) (goes_before a b)
+is_ahead parts a b = ahead_by (part_at parts (a.group % most_partitions)) (part_at parts (b.group % most_partitions)) (goes_before a b)
 
 -- the order of candidates of one class, where the level comes first
 abbrev pub is_ahead_by_level : List PartFacts → Entrant → Entrant → Bool

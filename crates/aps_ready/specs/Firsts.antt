@@ -2,9 +2,11 @@ use Rattle.std.specs.Prelude.{◌≡◌, ℕ, ◌<◌, ◌≤◌, Bool, true, �
 use Rattle.std.specs.List.{range_with_len}
 use Rattle.aps_levels.specs.declared.bits.Bits64.{Bits64}
 use Rattle.aps_levels.specs.Bits.{has}
+use Rattle.aps_levels.specs.Levels.{level_count}
 use Rattle.aps_ready.specs.declared.entrant.Entrant.{Entrant}
 use Rattle.aps_ready.specs.Entrant.{entrant_at, goes_before, vacant}
 use Rattle.aps_ready.specs.Ready.{entrant_in}
+use Rattle.aps_ready.specs.Group.{group_count}
 
 -- the one of a row that goes before all others; nobody where nobody is in it
 abbrev pub first_of : List Entrant → Entrant
@@ -13,7 +15,7 @@ first_of (e ∷ row) = if goes_before e (first_of row) then e else first_of row
 
 -- the first of each group
 abbrev pub firsts_of : List Entrant → List Entrant
-firsts_of row = map (λ g. first_of (map (entrant_in g) row)) (range_with_len 0 64)
+firsts_of row = map (λ g. first_of (map (entrant_in g) row)) (range_with_len 0 group_count)
 
 -- the level of the first of a group, 256 where the group is empty
 abbrev pub level_of : List Entrant → ℕ → ℕ
@@ -21,25 +23,25 @@ level_of firsts g = (entrant_at firsts g).level
 
 -- all groups of the set are empty
 abbrev pub AreEmpty : List Entrant → Bits64 → Type 0
-AreEmpty firsts set = (g : ℕ) → g < 64 → has set g ≡ true → 256 ≤ level_of firsts g
+AreEmpty firsts set = (g : ℕ) → g < group_count → has set g ≡ true → level_count ≤ level_of firsts g
 
 -- the groups of the set at the least level of any of them, which is below 256
 pub record AreLeast (firsts : List Entrant) (set found : ℕ → Bool) : Type 0 where
   pub level : ℕ
-  pub below : level < 256
+  pub below : level < level_count
   pub group : ℕ
-  pub inside : group < 64
+  pub inside : group < group_count
   pub some : found group ≡ true
-  pub these : (g : ℕ) → g < 64 → found g ≡ (nat_eq (level_of firsts g) level && set g)
-  pub least : (g : ℕ) → g < 64 → set g ≡ true → level ≤ level_of firsts g
+  pub these : (g : ℕ) → g < group_count → found g ≡ (nat_eq (level_of firsts g) level && set g)
+  pub least : (g : ℕ) → g < group_count → set g ≡ true → level ≤ level_of firsts g
 
 -- the groups of the set have this level
 pub record AreAt (firsts : List Entrant) (set : ℕ → Bool) (level : ℕ) : Type 0 where
-  pub below : level < 256
-  pub same : (g : ℕ) → g < 64 → set g ≡ true → level_of firsts g ≡ level
+  pub below : level < level_count
+  pub same : (g : ℕ) → g < group_count → set g ≡ true → level_of firsts g ≡ level
 
 -- the group is the only one of the set
 pub record IsOnly (set : ℕ → Bool) (group : ℕ) : Type 0 where
-  pub below : group < 64
+  pub below : group < group_count
   pub here : set group ≡ true
   pub one : (g : ℕ) → set g ≡ true → g ≡ group

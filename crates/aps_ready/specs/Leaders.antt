@@ -2,49 +2,53 @@ use Rattle.std.specs.Prelude.{◌≡◌, ℕ, ◌%◌, ◌<◌, ◌≤◌, Bool,
 use Rattle.aps_model.specs.declared.merit.PartFacts.{PartFacts}
 use Rattle.aps_model.specs.Merit.{smaller}
 use Rattle.aps_model.specs.Budget.{part_at}
-use Rattle.aps_model.specs.Limits.{most_partitions}
+use Rattle.aps_model.specs.Limits.{most_partitions, most_used, thousandths}
 use Rattle.aps_levels.specs.Bits.{has}
 use Rattle.aps_ready.specs.declared.entrant.Entrant.{Entrant}
 use Rattle.aps_ready.specs.declared.leaders.Leaders.{Leaders}
 use Rattle.aps_ready.specs.Entrant.{entrant_at}
+use Rattle.aps_ready.specs.Group.{group_count}
 
 -- the fraction is smaller than that which the partition of a group has used
 abbrev pub is_less_than : List PartFacts → ℕ → ℕ → ℕ → Bool
-is_less_than parts used budget g = smaller used budget (part_at parts (g % 32)).used (part_at parts (g % 32)).budget
+is_less_than parts used budget g =
+    smaller used budget (part_at parts (g % most_partitions)).used (part_at parts (g % most_partitions)).budget
 
 -- it is greater
 abbrev pub is_more_than : List PartFacts → ℕ → ℕ → ℕ → Bool
-is_more_than parts used budget g = smaller (part_at parts (g % 32)).used (part_at parts (g % 32)).budget used budget
+is_more_than parts used budget g =
+    smaller (part_at parts (g % most_partitions)).used (part_at parts (g % most_partitions)).budget used budget
 
 -- the set has a group of the partition
 pub record HasGroup (set : ℕ → Bool) (p : ℕ) : Type 0 where
   pub below : p < most_partitions
   pub group : ℕ
-  pub inside : group < 64
+  pub inside : group < group_count
   pub here : set group ≡ true
-  pub own : group % 32 ≡ p
+  pub own : group % most_partitions ≡ p
 
 -- groups whose partitions have used the fraction of the leaders, and among them all those that were seen; none that was seen has
 -- used less
 pub record AreLeading (parts : List PartFacts) (seen : ℕ → Bool) (leaders : Leaders) : Type 0 where
-  pub level : (g : ℕ) → g < 64 → has leaders.groups g ≡ true → is_less_than parts leaders.used leaders.budget g ≡ false
-  pub all : (g : ℕ) → g < 64 → seen g ≡ true → is_less_than parts leaders.used leaders.budget g ≡ false → has leaders.groups g ≡ true
-  pub least : (g : ℕ) → g < 64 → seen g ≡ true → is_more_than parts leaders.used leaders.budget g ≡ false
-  pub some : 0 < leaders.budget → (g : ℕ) × (g < 64) × (seen g ≡ true) × (has leaders.groups g ≡ true)
+  pub level : (g : ℕ) → g < group_count → has leaders.groups g ≡ true → is_less_than parts leaders.used leaders.budget g ≡ false
+  pub all : (g : ℕ) → g < group_count → seen g ≡ true → is_less_than parts leaders.used leaders.budget g ≡ false
+      → has leaders.groups g ≡ true
+  pub least : (g : ℕ) → g < group_count → seen g ≡ true → is_more_than parts leaders.used leaders.budget g ≡ false
+  pub some : 0 < leaders.budget → (g : ℕ) × (g < group_count) × (seen g ≡ true) × (has leaders.groups g ≡ true)
   pub one : leaders.budget ≡ 0 → leaders.used ≡ 1
-  pub used : leaders.used ≤ 100000000000000
-  pub budget : leaders.budget ≤ 1000
+  pub used : leaders.used ≤ most_used
+  pub budget : leaders.budget ≤ thousandths
 
 -- of these groups those whose partitions have used the fraction of the leaders, than which none has used less
 pub record AreLeaders (parts : List PartFacts) (wanted : ℕ → Bool) (leaders : Leaders) : Type 0 where
-  pub these : (g : ℕ) → g < 64 → has leaders.groups g ≡ (wanted g && not (is_less_than parts leaders.used leaders.budget g))
-  pub least : (g : ℕ) → g < 64 → wanted g ≡ true → is_more_than parts leaders.used leaders.budget g ≡ false
-  pub some : 0 < leaders.budget → (g : ℕ) × (g < 64) × (has leaders.groups g ≡ true)
+  pub these : (g : ℕ) → g < group_count → has leaders.groups g ≡ (wanted g && not (is_less_than parts leaders.used leaders.budget g))
+  pub least : (g : ℕ) → g < group_count → wanted g ≡ true → is_more_than parts leaders.used leaders.budget g ≡ false
+  pub some : 0 < leaders.budget → (g : ℕ) × (g < group_count) × (has leaders.groups g ≡ true)
 
 -- the first of one of the groups of a set, whose stamp is the smallest of their firsts'
 pub record IsEarliest (firsts : List Entrant) (set : ℕ → Bool) (best : Entrant) : Type 0 where
   pub group : ℕ
-  pub below : group < 64
+  pub below : group < group_count
   pub among : set group ≡ true
   pub is : best ≡ entrant_at firsts group
-  pub least : (g : ℕ) → g < 64 → set g ≡ true → best.stamp ≤ (entrant_at firsts g).stamp
+  pub least : (g : ℕ) → g < group_count → set g ≡ true → best.stamp ≤ (entrant_at firsts g).stamp

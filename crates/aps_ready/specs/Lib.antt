@@ -1,4 +1,5 @@
 pub mod Small
+pub mod Group
 pub mod Entrant
 pub mod Gates
 pub mod Ready

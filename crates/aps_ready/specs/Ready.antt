@@ -1,8 +1,10 @@
 use Rattle.std.specs.Prelude.{◌≡◌, ◌≢◌, ℕ, ◌-◌, ◌%◌, ◌<◌, ◌≤◌, nat_lt, nat_eq, if◌then◌else◌, List, [], ◌∷◌, length, slice_set, Option, Some, None}
 use Rattle.aps_model.specs.declared.state.Facts.{Facts}
 use Rattle.aps_model.specs.declared.merit.Contender.{Contender}
+use Rattle.aps_model.specs.Limits.{greatest_priority, last_partition, most_partitions}
 use Rattle.aps_ready.specs.declared.entrant.Entrant.{Entrant}
 use Rattle.aps_ready.specs.Entrant.{entrant_at, vacant}
+use Rattle.aps_ready.specs.Group.{group_count}
 
 -- those who are in, in order of their numbers
 abbrev pub members : List (Option Contender) → List Contender
@@ -25,14 +27,15 @@ with_facts facts c = record { thread = c.thread; facts = facts; stamp = c.stamp 
 
 -- the values of an entrant, and the thread that it stands for
 abbrev pub facts_of : Entrant → Facts
-facts_of e = record { partition = e.group % 32; priority = 255 - e.level; critical = nat_lt 31 e.group }
+facts_of e =
+    record { partition = e.group % most_partitions; priority = greatest_priority - e.level; critical = nat_lt last_partition e.group }
 
 abbrev pub contender_of : Entrant → Contender
 contender_of e = record { thread = e.thread; facts = facts_of e; stamp = e.stamp }
 
 -- who is in there, if anybody is
 abbrev pub seat_of : Entrant → Option Contender
-seat_of e = if nat_lt e.group 64 then Some (contender_of e) else None
+seat_of e = if nat_lt e.group group_count then Some (contender_of e) else None
 
 -- who is in and of a group
 abbrev pub entrant_in : ℕ → Entrant → Entrant
@@ -40,8 +43,8 @@ entrant_in g e = if nat_eq e.group g then e else vacant
 
 -- stamps differ, and whoever is in is in its own place
 pub record IsQueued (row : List Entrant) : Type 0 where
-  pub levels : (x : ℕ) → x < length row → (entrant_at row x).group < 64 → (entrant_at row x).level ≤ 255
-  pub threads : (x : ℕ) → x < length row → (entrant_at row x).group < 64 → (entrant_at row x).thread ≡ x
+  pub levels : (x : ℕ) → x < length row → (entrant_at row x).group < group_count → (entrant_at row x).level ≤ greatest_priority
+  pub threads : (x : ℕ) → x < length row → (entrant_at row x).group < group_count → (entrant_at row x).thread ≡ x
   pub stamps : (x y : ℕ) → x < length row → y < length row
-      → (entrant_at row x).group < 64 → (entrant_at row y).group < 64
+      → (entrant_at row x).group < group_count → (entrant_at row y).group < group_count
       → (entrant_at row x).stamp ≡ (entrant_at row y).stamp → x ≡ y

@@ -2,7 +2,8 @@ use Rattle.std.specs.Prelude.{◌≡◌, ℕ, ◌+◌, ◌<◌, Bool, ◌&&◌, 
 use Rattle.aps_levels.specs.declared.bits.Bits64.{Bits64}
 use Rattle.aps_levels.specs.declared.levels.Levels.{Levels}
 use Rattle.aps_levels.specs.Bits.{has}
-use Rattle.aps_levels.specs.Levels.{has_level}
+use Rattle.aps_levels.specs.Levels.{has_level, level_count}
+use Rattle.aps_ready.specs.Group.{group_count}
 
 abbrev pub no_bits : Bits64
 no_bits = record { word = 0 }
@@ -19,36 +20,36 @@ levels_at of_group g = slice_index_or of_group g no_levels
 -- a level at which the group is
 pub record HasLevel (at_level : List Bits64) (g : ℕ) : Type 0 where
   pub level : ℕ
-  pub below : level < 256
+  pub below : level < level_count
   pub here : has (bits_at at_level level) g ≡ true
 
 -- a group that is at the level
 pub record HasGroup (at_level : List Bits64) (l : ℕ) : Type 0 where
   pub group : ℕ
-  pub below : group < 64
+  pub below : group < group_count
   pub here : has (bits_at at_level l) group ≡ true
 
 -- the levels at which groups are, the levels of each group, and the groups that are at any level
 pub record IsTable (at_level : List Bits64) (levels : Levels) (of_group : List Levels) (occupied : Bits64) : Type 0 where
-  pub each : length at_level ≡ 256
-  pub groups : length of_group ≡ 64
-  pub in_use : (l g : ℕ) → l < 256 → g < 64 → has (bits_at at_level l) g ≡ true → has_level levels l ≡ true
-  pub used : (l : ℕ) → l < 256 → has_level levels l ≡ true → HasGroup at_level l
-  pub same : (l g : ℕ) → l < 256 → g < 64 → has_level (levels_at of_group g) l ≡ has (bits_at at_level l) g
-  pub all : (l g : ℕ) → l < 256 → g < 64 → has (bits_at at_level l) g ≡ true → has occupied g ≡ true
-  pub some : (g : ℕ) → g < 64 → has occupied g ≡ true → HasLevel at_level g
+  pub each : length at_level ≡ level_count
+  pub groups : length of_group ≡ group_count
+  pub in_use : (l g : ℕ) → l < level_count → g < group_count → has (bits_at at_level l) g ≡ true → has_level levels l ≡ true
+  pub used : (l : ℕ) → l < level_count → has_level levels l ≡ true → HasGroup at_level l
+  pub same : (l g : ℕ) → l < level_count → g < group_count → has_level (levels_at of_group g) l ≡ has (bits_at at_level l) g
+  pub all : (l g : ℕ) → l < level_count → g < group_count → has (bits_at at_level l) g ≡ true → has occupied g ≡ true
+  pub some : (g : ℕ) → g < group_count → has occupied g ≡ true → HasLevel at_level g
 
 -- no group of the set is at the level
 abbrev pub IsFree : List Bits64 → (ℕ → Bool) → ℕ → Type 0
-IsFree at_level set l = (g : ℕ) → g < 64 → (has (bits_at at_level l) g && set g) ≡ false
+IsFree at_level set l = (g : ℕ) → g < group_count → (has (bits_at at_level l) g && set g) ≡ false
 
 -- the groups of the set at the least level at which any of them is
 pub record AreAtLeast (at_level : List Bits64) (set : ℕ → Bool) (level : ℕ) (found : ℕ → Bool) : Type 0 where
-  pub below : level < 256
+  pub below : level < level_count
   pub group : ℕ
-  pub inside : group < 64
+  pub inside : group < group_count
   pub some : found group ≡ true
-  pub these : (g : ℕ) → g < 64 → found g ≡ (has (bits_at at_level level) g && set g)
+  pub these : (g : ℕ) → g < group_count → found g ≡ (has (bits_at at_level level) g && set g)
   pub free : (l : ℕ) → l < level → IsFree at_level set l
 
 -- of the levels from `from` on that the word has, each less `from`, the least at which a group of the set is, and those groups
@@ -57,7 +58,7 @@ pub record IsFirst (at_level : List Bits64) (word : Bits64) (set : ℕ → Bool)
   pub below : place < 64
   pub at : level ≡ from + place
   pub group : ℕ
-  pub inside : group < 64
+  pub inside : group < group_count
   pub some : found group ≡ true
-  pub these : (g : ℕ) → g < 64 → found g ≡ (has (bits_at at_level level) g && set g)
+  pub these : (g : ℕ) → g < group_count → found g ≡ (has (bits_at at_level level) g && set g)
   pub earlier : (k : ℕ) → k < place → has word k ≡ true → IsFree at_level set (from + k)

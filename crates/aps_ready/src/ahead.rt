@@ -1,6 +1,8 @@
 //! The class and the priority of the greatest candidate, told by levels alone.
 ghost use Rattle.std.specs.Prelude.{◌≡◌, ◌-◌, ◌<◌};
+ghost use Rattle.aps_model.specs.Limits.{greatest_priority};
 ghost use Rattle.aps_levels.specs.Bits.{has};
+ghost use Rattle.aps_levels.specs.Levels.{level_count};
 ghost use Rattle.aps_ready.specs.Highest.{IsHighest};
 ghost use Rattle.aps_ready.specs.Ready.{IsQueued};
 
@@ -18,8 +20,8 @@ pub struct Ahead {
 /// What a candidate of this class at this level is ahead by.
 #[inline(always)]
 pub fn ahead_at(class: u8, level: u16) -> Ahead
-    requires { level < 256 }
-    ensures { result ≡ record { class = class; priority = 255 - level } }
+    requires { level < level_count }
+    ensures { result ≡ record { class = class; priority = greatest_priority - level } }
 {
     Ahead {
         class,

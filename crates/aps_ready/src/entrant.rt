@@ -1,9 +1,10 @@
 //! Who is in, as it is kept.
 ghost use Rattle.std.specs.Prelude.{◌≡◌, ◌<◌, ◌≤◌};
-ghost use Rattle.aps_model.specs.Limits.{greatest_priority};
+ghost use Rattle.aps_model.specs.Limits.{greatest_priority, last_partition};
 ghost use Rattle.aps_model.specs.declared.state.Facts.{Facts};
 ghost use Rattle.aps_ready.specs.Entrant.{vacant, entrant_of};
 ghost use Rattle.aps_ready.specs.Ready.{seat_of};
+ghost use Rattle.aps_ready.specs.Group.{group_count};
 
 use aps_model::{Contender, Facts, PartitionId, ThreadId};
 
@@ -36,7 +37,7 @@ pub fn vacant() -> Entrant
 #[inline(always)]
 pub fn entrant_of(x: ThreadId, facts: Facts, stamp: u64) -> Entrant
     ensures same { result ≡ entrant_of x facts stamp }
-    ensures partition { facts.partition ≤ 31 }
+    ensures partition { facts.partition ≤ last_partition }
     ensures priority { facts.priority ≤ greatest_priority }
 {
     let partition = facts.partition.index() as u16;
@@ -55,7 +56,7 @@ pub fn entrant_of(x: ThreadId, facts: Facts, stamp: u64) -> Entrant
 /// What is known of thread `x`, which is in so, or not at all.
 #[inline(always)]
 pub fn seat_of(e: &Entrant, x: ThreadId) -> Option<Contender>
-    requires { e.now.group < 64 → e.now.thread ≡ x }
+    requires { e.now.group < group_count → e.now.thread ≡ x }
     ensures { result ≡ seat_of e.now }
 {
     if e.group < 64 {

@@ -3,6 +3,7 @@ ghost use Rattle.std.specs.Prelude.{◌≡◌, ◌≢◌, ℕ, ◌<◌, List, []
 ghost use Rattle.aps_model.specs.Limits.{most_partitions};
 ghost use Rattle.aps_model.specs.declared.merit.PartFacts.{PartFacts};
 ghost use Rattle.aps_ready.specs.Gates.{is_first, is_open_first, is_open_second, open_first, AreGates, AreGatesOf};
+ghost use Rattle.aps_ready.specs.Group.{group_count};
 
 use crate::parts::part_at;
 use aps_levels::Bits64;
@@ -87,7 +88,7 @@ fn is_first(part: &PartFacts, critical: bool) -> bool
 /// Whether the threads of a group are candidates of class 1.
 #[inline(always)]
 pub(crate) fn is_in_first(parts: &[PartFacts], group: usize) -> bool
-    requires { group < 64 }
+    requires { group < group_count }
     ensures { result ≡ open_first parts.now group }
 {
     match parts.get(group % MOST_PARTITIONS) {

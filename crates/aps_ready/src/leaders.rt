@@ -2,10 +2,11 @@
 ghost use Rattle.std.specs.Prelude.{◌≡◌, ℕ, ◌+◌, ◌<◌, ◌≤◌, ◌%◌, ◌||◌, ◌&&◌, nat_eq, nat_lt, true, false, length, Bool, All};
 ghost use Rattle.aps_levels.specs.Bits.{has};
 ghost use Rattle.aps_model.specs.Budget.{part_at};
-ghost use Rattle.aps_model.specs.Limits.{most_partitions};
+ghost use Rattle.aps_model.specs.Limits.{most_partitions, most_used, thousandths};
 ghost use Rattle.aps_model.specs.Merit.{smaller};
 ghost use Rattle.aps_ready.specs.Leaders.{HasGroup, AreLeading, AreLeaders};
 ghost use Rattle.aps_ready.specs.Small.{IsSmall};
+ghost use Rattle.aps_ready.specs.Group.{group_count};
 
 use crate::parts::part_of;
 use aps_levels::Bits64;
@@ -25,7 +26,7 @@ pub struct Leaders {
 #[inline(always)]
 pub fn least_used(parts: &[PartFacts], groups: Bits64) -> Leaders
     requires small { All IsSmall parts.now }
-    requires known { (g : ℕ) → g < 64 → has groups g ≡ true → g % 32 < length parts.now }
+    requires known { (g : ℕ) → g < group_count → has groups g ≡ true → g % most_partitions < length parts.now }
     ensures { AreLeaders parts.now (has groups) result }
 {
     let mut leaders = nobody();
@@ -58,7 +59,7 @@ fn nobody() -> Leaders
 #[inline(always)]
 pub fn partitions_of(groups: Bits64) -> Bits64
     ensures some { (p : ℕ) → has result p ≡ true → HasGroup (has groups) p }
-    ensures all { (g : ℕ) → g < 64 → has groups g ≡ true → has result (g % 32) ≡ true }
+    ensures all { (g : ℕ) → g < group_count → has groups g ≡ true → has result (g % most_partitions) ≡ true }
 {
     groups.join(groups.upper_half()).lower_half()
 }
@@ -70,10 +71,10 @@ fn with_partition(leaders: Leaders, parts: &[PartFacts], groups: Bits64, p: usiz
     requires known { p < length parts.now }
     requires small { All IsSmall parts.now }
     requires one { leaders.budget ≡ 0 → leaders.used ≡ 1 }
-    requires used { leaders.used ≤ 100000000000000 }
-    requires budget { leaders.budget ≤ 1000 }
+    requires used { leaders.used ≤ most_used }
+    requires budget { leaders.budget ≤ thousandths }
     ensures { (seen : ℕ → Bool) → AreLeading parts.now seen leaders
-        → AreLeading parts.now (λ g. seen g || (has groups g && nat_eq (g % 32) p)) result }
+        → AreLeading parts.now (λ g. seen g || (has groups g && nat_eq (g % most_partitions) p)) result }
 {
     let part = part_of(parts, p);
     let these = groups_of(p);
@@ -98,8 +99,8 @@ fn with_partition(leaders: Leaders, parts: &[PartFacts], groups: Bits64, p: usiz
 fn has_less(part: &PartFacts, leaders: &Leaders) -> bool
     requires part { IsSmall part.now }
     requires one { leaders.now.budget ≡ 0 → leaders.now.used ≡ 1 }
-    requires used { leaders.now.used ≤ 100000000000000 }
-    requires budget { leaders.now.budget ≤ 1000 }
+    requires used { leaders.now.used ≤ most_used }
+    requires budget { leaders.now.budget ≤ thousandths }
     ensures { result ≡ smaller part.now.used part.now.budget leaders.now.used leaders.now.budget }
 {
     part.used * leaders.budget < leaders.used * u64::from(part.budget)
@@ -109,8 +110,8 @@ fn has_less(part: &PartFacts, leaders: &Leaders) -> bool
 #[inline(always)]
 fn has_more(part: &PartFacts, leaders: &Leaders) -> bool
     requires part { IsSmall part.now }
-    requires used { leaders.now.used ≤ 100000000000000 }
-    requires budget { leaders.now.budget ≤ 1000 }
+    requires used { leaders.now.used ≤ most_used }
+    requires budget { leaders.now.budget ≤ thousandths }
     ensures { result ≡ smaller leaders.now.used leaders.now.budget part.now.used part.now.budget }
 {
     if part.budget == 0 {
@@ -124,7 +125,7 @@ fn has_more(part: &PartFacts, leaders: &Leaders) -> bool
 #[inline(always)]
 fn groups_of(p: usize) -> Bits64
     requires { p < most_partitions }
-    ensures { (g : ℕ) → g < 64 → has result g ≡ nat_eq (g % 32) p }
+    ensures { (g : ℕ) → g < group_count → has result g ≡ nat_eq (g % most_partitions) p }
 {
     Bits64::none().with(p).with(p + MOST_PARTITIONS)
 }

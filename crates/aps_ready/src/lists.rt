@@ -5,7 +5,9 @@ ghost use Rattle.aps_ready.specs.Entrant.{entrant_at, vacant};
 ghost use Rattle.aps_ready.specs.Firsts.{firsts_of, level_of, AreAt, AreEmpty, AreLeast};
 ghost use Rattle.aps_ready.specs.Leaders.{IsEarliest};
 ghost use Rattle.aps_ready.specs.Lists.{head_of, link, list_of, AreRings, IsNode, IsPlace};
-ghost use Rattle.aps_model.specs.Limits.{most_threads};
+ghost use Rattle.aps_model.specs.Limits.{greatest_priority, most_threads};
+ghost use Rattle.aps_levels.specs.Levels.{level_count};
+ghost use Rattle.aps_ready.specs.Group.{group_count};
 
 use crate::entrant::{Entrant, vacant};
 use crate::ring::{HEADS, NODES, head_of, link, place_for, unlink};
@@ -87,11 +89,11 @@ impl Lists {
     /// Somebody who isn't in comes to its place, with a stamp that no other has.
     #[inline(always)]
     pub fn enter(&mut self, one: Entrant)
-        requires group { one.group < 64 }
-        requires level { one.level ≤ 255 }
+        requires group { one.group < group_count }
+        requires level { one.level ≤ greatest_priority }
         requires inside { one.thread < length self.old }
-        requires out { 64 ≤ (entrant_at self.old one.thread).group }
-        requires stamp { (x : ℕ) → (entrant_at self.old x).group < 64 → (entrant_at self.old x).stamp ≢ one.stamp }
+        requires out { group_count ≤ (entrant_at self.old one.thread).group }
+        requires stamp { (x : ℕ) → (entrant_at self.old x).group < group_count → (entrant_at self.old x).stamp ≢ one.stamp }
         ensures { self.new ≡ slice_set self.old one.thread one }
     {
         let level = one.level as usize;
@@ -108,7 +110,7 @@ impl Lists {
     #[inline(always)]
     pub fn leave(&mut self, x: usize)
         requires inside { x < length self.old }
-        requires there { (entrant_at self.old x).group < 64 }
+        requires there { (entrant_at self.old x).group < group_count }
         ensures { self.new ≡ slice_set self.old x vacant }
     {
         let one = self.row[x];
@@ -126,7 +128,7 @@ impl Lists {
     /// The groups that aren't empty.
     #[inline(always)]
     pub fn occupied(&self) -> Bits64
-        ensures { (g : ℕ) → g < 64 → has result g ≡ nat_lt (level_of (firsts_of self.now) g) 256 }
+        ensures { (g : ℕ) → g < group_count → has result g ≡ nat_lt (level_of (firsts_of self.now) g) level_count }
     {
         self.table.occupied()
     }
@@ -134,8 +136,8 @@ impl Lists {
     /// The first of a group, whose least level this is.
     #[inline(always)]
     pub fn first(&self, level: usize, group: usize) -> Entrant
-        requires group { group < 64 }
-        requires below { level < 256 }
+        requires group { group < group_count }
+        requires below { level < level_count }
         requires level { level_of (firsts_of self.now) group ≡ level }
         ensures { result ≡ entrant_at (firsts_of self.now) group }
     {
@@ -157,7 +159,7 @@ impl Lists {
     #[inline(always)]
     pub fn earliest(&self, level: usize, set: Bits64) -> Entrant
         requires { AreAt (firsts_of self.now) (has set) level }
-        ensures some { (g : ℕ) → g < 64 → has set g ≡ true → IsEarliest (firsts_of self.now) (has set) result }
+        ensures some { (g : ℕ) → g < group_count → has set g ≡ true → IsEarliest (firsts_of self.now) (has set) result }
         ensures none { ((g : ℕ) → has set g ≡ false) → result ≡ vacant }
     {
         let Some(start) = set.least() else {

@@ -1,7 +1,9 @@
 //! The look at the firsts of the groups: who of them is the greatest candidate.
 ghost use Rattle.std.specs.Prelude.{◌≡◌, ℕ, ◌<◌, ◌%◌, true, false, length, IfSome, All};
 ghost use Rattle.aps_model.specs.declared.shape.Free.{Free};
+ghost use Rattle.aps_model.specs.Limits.{most_partitions};
 ghost use Rattle.aps_levels.specs.Bits.{has};
+ghost use Rattle.aps_levels.specs.Levels.{level_count};
 ghost use Rattle.aps_ready.specs.Best.{IsBest};
 ghost use Rattle.aps_ready.specs.Firsts.{firsts_of, level_of, AreAt, IsOnly};
 ghost use Rattle.aps_ready.specs.Gates.{open_first, AreGates};
@@ -9,6 +11,7 @@ ghost use Rattle.aps_ready.specs.Likely.{AreLikelySecond};
 ghost use Rattle.aps_ready.specs.Ready.{IsQueued};
 ghost use Rattle.aps_ready.specs.Small.{IsSmall};
 ghost use Rattle.aps_ready.specs.Winner.{IsWinner};
+ghost use Rattle.aps_ready.specs.Group.{group_count};
 
 use crate::entrant::{Entrant, vacant};
 use crate::gates::{Gates, is_in_first};
@@ -35,7 +38,7 @@ pub fn look(lists: &Lists, gates: Gates, parts: &[PartFacts], free: Free) -> Ent
 pub fn near(lists: &Lists, parts: &[PartFacts]) -> Entrant
     requires small { All IsSmall parts.now }
     requires queued { IsQueued lists.now }
-    ensures { (free : Free) → result.group < 64 → IsWinner free parts.now lists.now result }
+    ensures { (free : Free) → result.group < group_count → IsWinner free parts.now lists.now result }
 {
     let Some(found) = lists.least(lists.occupied()) else {
         return vacant();
@@ -53,7 +56,7 @@ pub fn near(lists: &Lists, parts: &[PartFacts]) -> Entrant
 /// Whether the partitions of these groups exist.
 #[inline(always)]
 fn are_known(parts: &[PartFacts], groups: Bits64) -> bool
-    ensures { result ≡ true → (g : ℕ) → g < 64 → has groups g ≡ true → g % 32 < length parts.now }
+    ensures { result ≡ true → (g : ℕ) → g < group_count → has groups g ≡ true → g % most_partitions < length parts.now }
 {
     let all = partitions_of(groups);
     all.minus(all.below(parts.len())).is_empty()
@@ -62,8 +65,8 @@ fn are_known(parts: &[PartFacts], groups: Bits64) -> bool
 /// The same, where it is a candidate of class 1; else nobody.
 #[inline(always)]
 fn of_first(parts: &[PartFacts], one: Entrant) -> Entrant
-    ensures same { result.group < 64 → result ≡ one }
-    ensures first { result.group < 64 → open_first parts.now result.group ≡ true }
+    ensures same { result.group < group_count → result ≡ one }
+    ensures first { result.group < group_count → open_first parts.now result.group ≡ true }
 {
     if one.group < 64 && is_in_first(parts, one.group as usize) {
         one
@@ -92,7 +95,7 @@ fn best_at_level(lists: &Lists, parts: &[PartFacts], level: usize, groups: Bits6
     requires small { All IsSmall parts.now }
     requires queued { IsQueued lists.now }
     requires level { AreAt (firsts_of lists.now) (has groups) level }
-    requires known { (g : ℕ) → g < 64 → has groups g ≡ true → g % 32 < length parts.now }
+    requires known { (g : ℕ) → g < group_count → has groups g ≡ true → g % most_partitions < length parts.now }
     ensures { IsBest parts.now lists.now (has groups) result }
 {
     match only(groups) {
@@ -124,7 +127,7 @@ fn earliest_leader(lists: &Lists, parts: &[PartFacts], level: usize, groups: Bit
     requires small { All IsSmall parts.now }
     requires queued { IsQueued lists.now }
     requires level { AreAt (firsts_of lists.now) (has groups) level }
-    requires known { (g : ℕ) → g < 64 → has groups g ≡ true → g % 32 < length parts.now }
+    requires known { (g : ℕ) → g < group_count → has groups g ≡ true → g % most_partitions < length parts.now }
     ensures { IsBest parts.now lists.now (has groups) result }
 {
     let leaders = least_used(parts, groups);
@@ -141,8 +144,8 @@ fn earliest_leader(lists: &Lists, parts: &[PartFacts], level: usize, groups: Bit
 fn highest_leader(lists: &Lists, parts: &[PartFacts], groups: Bits64) -> Entrant
     requires small { All IsSmall parts.now }
     requires queued { IsQueued lists.now }
-    requires occupied { (g : ℕ) → g < 64 → has groups g ≡ true → level_of (firsts_of lists.now) g < 256 }
-    requires known { (g : ℕ) → g < 64 → has groups g ≡ true → g % 32 < length parts.now }
+    requires occupied { (g : ℕ) → g < group_count → has groups g ≡ true → level_of (firsts_of lists.now) g < level_count }
+    requires known { (g : ℕ) → g < group_count → has groups g ≡ true → g % most_partitions < length parts.now }
     ensures { IsBest parts.now lists.now (has groups) result }
 {
     match lists.least(least_used(parts, groups).groups) {

@@ -1,7 +1,7 @@
 //! The ready threads, and the greatest candidate among them.
 ghost use Rattle.std.specs.Prelude.{◌≡◌, ◌≢◌, ◌<◌, ◌≤◌, All, List, length, slice_set, slice_index_or, replicate, IfOk, IfSome, Some, None};
 ghost use Rattle.std.specs.Option.{option_map};
-ghost use Rattle.aps_model.specs.Limits.{most_partitions, most_threads};
+ghost use Rattle.aps_model.specs.Limits.{last_thread, most_partitions, most_threads};
 ghost use Rattle.aps_model.specs.Pick.{greatest, missing};
 ghost use Rattle.aps_model.specs.declared.merit.Contender.{Contender};
 ghost use Rattle.aps_model.specs.declared.merit.PartFacts.{PartFacts};
@@ -10,6 +10,7 @@ ghost use Rattle.aps_ready.specs.Ahead.{IsAhead};
 ghost use Rattle.aps_ready.specs.Gates.{AreGates};
 ghost use Rattle.aps_ready.specs.Ready.{contender_of, members, seat_of, without, IsFree, with_facts};
 ghost use Rattle.aps_ready.specs.Small.{IsSmall};
+ghost use Rattle.aps_ready.specs.Group.{group_count};
 
 use crate::ahead::{Ahead, ahead_at, highest};
 use crate::entrant::{Entrant, entrant_of, seat_of};
@@ -211,8 +212,8 @@ impl Ready {
 
     /// Takes somebody out, and tells what is known of it.
     fn pop(&mut self, one: &Entrant) -> Option<Contender>
-        requires group { one.now.group < 64 }
-        requires thread { one.now.thread ≤ 1023 }
+        requires group { one.now.group < group_count }
+        requires thread { one.now.thread ≤ last_thread }
         requires inside { one.now.thread < length self.old }
         requires present { slice_index_or self.old one.now.thread None ≢ None }
         ensures picked { result ≡ Some (contender_of one.now) }
@@ -229,9 +230,9 @@ impl Ready {
         requires gates { AreGates parts.now gates }
         requires small { All IsSmall parts.now }
         ensures greatest { seat_of result ≡ greatest free parts.now (members self.now) }
-        ensures thread { result.group < 64 → result.thread ≤ 1023 }
-        ensures inside { result.group < 64 → result.thread < length self.now }
-        ensures present { result.group < 64 → slice_index_or self.now result.thread None ≢ None }
+        ensures thread { result.group < group_count → result.thread ≤ last_thread }
+        ensures inside { result.group < group_count → result.thread < length self.now }
+        ensures present { result.group < group_count → slice_index_or self.now result.thread None ≢ None }
     {
         look(&self.lists, gates, parts, free)
     }
@@ -240,10 +241,10 @@ impl Ready {
     #[inline(always)]
     fn nearest(&self, parts: &[PartFacts]) -> Entrant
         requires small { All IsSmall parts.now }
-        ensures greatest { (free : Free) → result.group < 64 → seat_of result ≡ greatest free parts.now (members self.now) }
-        ensures thread { result.group < 64 → result.thread ≤ 1023 }
-        ensures inside { result.group < 64 → result.thread < length self.now }
-        ensures present { result.group < 64 → slice_index_or self.now result.thread None ≢ None }
+        ensures greatest { (free : Free) → result.group < group_count → seat_of result ≡ greatest free parts.now (members self.now) }
+        ensures thread { result.group < group_count → result.thread ≤ last_thread }
+        ensures inside { result.group < group_count → result.thread < length self.now }
+        ensures present { result.group < group_count → slice_index_or self.now result.thread None ≢ None }
     {
         near(&self.lists, parts)
     }
@@ -259,7 +260,8 @@ impl Ready {
     /// The lowest partition with a budget and no candidate, as `missing`, by kept gates. It looks at no thread and at no
     /// partition.
     pub fn missing_by(&self, gates: Gates) -> Option<PartitionId>
-        ensures { (parts : List PartFacts) → AreGates parts gates → length parts ≤ most_partitions → result ≡ missing parts (members self.now) }
+        ensures { (parts : List PartFacts) → AreGates parts gates → length parts ≤ most_partitions
+            → result ≡ missing parts (members self.now) }
     {
         let groups = gates.first.join(gates.second).meet(self.lists.occupied());
         let starved = gates.budgeted.minus(groups.join(groups.upper_half()));
@@ -272,7 +274,7 @@ impl Ready {
 
 /// What is known of the thread that an entrant stands for, if it is anybody.
 fn known(e: &Entrant) -> Option<Contender>
-    requires { e.now.group < 64 → e.now.thread ≤ 1023 }
+    requires { e.now.group < group_count → e.now.thread ≤ last_thread }
     ensures { result ≡ seat_of e.now }
 {
     if e.group < 64 {

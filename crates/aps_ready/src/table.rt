@@ -1,8 +1,9 @@
 //! Which groups have somebody at which level.
 ghost use Rattle.std.specs.Prelude.{◌≡◌, ℕ, ◌+◌, ◌<◌, ◌≤◌, ◌&&◌, ◌||◌, not, length, nat_eq, IfOk, IfSome, IfNone, true, false};
 ghost use Rattle.aps_levels.specs.Bits.{has};
-ghost use Rattle.aps_levels.specs.Levels.{has_level};
+ghost use Rattle.aps_levels.specs.Levels.{has_level, level_count};
 ghost use Rattle.aps_ready.specs.Table.{bits_at, levels_at, AreAtLeast, HasLevel, IsFirst, IsFree};
+ghost use Rattle.aps_ready.specs.Group.{group_count};
 
 use aps_levels::{Bits64, Levels};
 use aps_model::NoMemory;
@@ -61,9 +62,10 @@ impl Table {
     /// A group is at a level from now on.
     #[inline(always)]
     pub fn enter(&mut self, level: usize, group: usize)
-        requires level { level < 256 }
-        requires group { group < 64 }
-        ensures { (l g : ℕ) → l < 256 → has (bits_at self.new l) g ≡ ((nat_eq l level && nat_eq g group) || has (bits_at self.old l) g) }
+        requires level { level < level_count }
+        requires group { group < group_count }
+        ensures { (l g : ℕ) → l < level_count
+            → has (bits_at self.new l) g ≡ ((nat_eq l level && nat_eq g group) || has (bits_at self.old l) g) }
     {
         add_group(&mut self.at_level, level, group);
         add_level(&mut self.of_group, level, group);
@@ -74,9 +76,10 @@ impl Table {
     /// A group is no longer at a level.
     #[inline(always)]
     pub fn leave(&mut self, level: usize, group: usize)
-        requires level { level < 256 }
-        requires group { group < 64 }
-        ensures { (l g : ℕ) → l < 256 → has (bits_at self.new l) g ≡ (not (nat_eq l level && nat_eq g group) && has (bits_at self.old l) g) }
+        requires level { level < level_count }
+        requires group { group < group_count }
+        ensures { (l g : ℕ) → l < level_count
+            → has (bits_at self.new l) g ≡ (not (nat_eq l level && nat_eq g group) && has (bits_at self.old l) g) }
     {
         remove_group(&mut self.at_level, &mut self.levels, level, group);
         self.occupied = remove_level(&mut self.of_group, self.occupied, level, group);
@@ -85,8 +88,8 @@ impl Table {
     /// The groups that are at any level.
     #[inline(always)]
     pub fn occupied(&self) -> Bits64
-        ensures some { (g : ℕ) → g < 64 → has result g ≡ true → HasLevel self.now g }
-        ensures all { (l g : ℕ) → l < 256 → g < 64 → has (bits_at self.now l) g ≡ true → has result g ≡ true }
+        ensures some { (g : ℕ) → g < group_count → has result g ≡ true → HasLevel self.now g }
+        ensures all { (l g : ℕ) → l < level_count → g < group_count → has (bits_at self.now l) g ≡ true → has result g ≡ true }
     {
         self.occupied
     }
@@ -95,7 +98,7 @@ impl Table {
     #[inline(always)]
     pub fn least(&self, set: Bits64) -> Option<Found>
         ensures some { IfSome result (λ found. AreAtLeast self.now (has set) found.level (has found.groups)) }
-        ensures none { IfNone result ((l : ℕ) → l < 256 → IsFree self.now (has set) l) }
+        ensures none { IfNone result ((l : ℕ) → l < level_count → IsFree self.now (has set) l) }
     {
         'quarters: for q in 0..QUARTERS {
             let word = self.levels.quarter(q);
@@ -130,7 +133,7 @@ fn least_among(at_level: &[Bits64], word: Bits64, from: usize, set: Bits64) -> O
 #[inline(always)]
 fn add_group(at_level: &mut Vec<Bits64>, level: usize, group: usize)
     requires level { level < length at_level.old.items }
-    requires group { group < 64 }
+    requires group { group < group_count }
     ensures count { length at_level.new.items ≡ length at_level.old.items }
     ensures at { (l g : ℕ) → has (bits_at at_level.new.items l) g
         ≡ ((nat_eq l level && nat_eq g group) || has (bits_at at_level.old.items l) g) }
@@ -141,7 +144,7 @@ fn add_group(at_level: &mut Vec<Bits64>, level: usize, group: usize)
 /// A level is one of those of a group from now on.
 #[inline(always)]
 fn add_level(of_group: &mut Vec<Levels>, level: usize, group: usize)
-    requires level { level < 256 }
+    requires level { level < level_count }
     requires group { group < length of_group.old.items }
     ensures count { length of_group.new.items ≡ length of_group.old.items }
     ensures at { (l g : ℕ) → has_level (levels_at of_group.new.items g) l
@@ -153,16 +156,16 @@ fn add_level(of_group: &mut Vec<Levels>, level: usize, group: usize)
 /// A group is no longer at a level. The levels are those at which groups are, before and afterwards.
 #[inline(always)]
 fn remove_group(at_level: &mut Vec<Bits64>, levels: &mut Levels, level: usize, group: usize)
-    requires level { level < 256 }
-    requires group { group < 64 }
-    requires count { length at_level.old.items ≡ 256 }
-    ensures count { length at_level.new.items ≡ 256 }
+    requires level { level < level_count }
+    requires group { group < group_count }
+    requires count { length at_level.old.items ≡ level_count }
+    ensures count { length at_level.new.items ≡ level_count }
     ensures at { (l g : ℕ) → has (bits_at at_level.new.items l) g
         ≡ (not (nat_eq l level && nat_eq g group) && has (bits_at at_level.old.items l) g) }
-    ensures in_use { (l g : ℕ) → l < 256 → g < 64 → has (bits_at at_level.new.items l) g ≡ true → has_level levels.old l ≡ true
-        → has_level levels.new l ≡ true }
+    ensures in_use { (l g : ℕ) → l < level_count → g < group_count → has (bits_at at_level.new.items l) g ≡ true
+        → has_level levels.old l ≡ true → has_level levels.new l ≡ true }
     ensures before { (l : ℕ) → has_level levels.new l ≡ true → has_level levels.old l ≡ true }
-    ensures own { has_level levels.new level ≡ true → (g : ℕ) × (g < 64) × (has (bits_at at_level.new.items level) g ≡ true) }
+    ensures own { has_level levels.new level ≡ true → (g : ℕ) × (g < group_count) × (has (bits_at at_level.new.items level) g ≡ true) }
 {
     let rest = at_level[level].without(group);
     at_level[level] = rest;
@@ -174,16 +177,16 @@ fn remove_group(at_level: &mut Vec<Bits64>, levels: &mut Levels, level: usize, g
 /// A level is no longer one of those of a group. The answer are the groups that are at any level afterwards.
 #[inline(always)]
 fn remove_level(of_group: &mut Vec<Levels>, occupied: Bits64, level: usize, group: usize) -> Bits64
-    requires level { level < 256 }
-    requires group { group < 64 }
-    requires count { length of_group.old.items ≡ 64 }
-    ensures count { length of_group.new.items ≡ 64 }
+    requires level { level < level_count }
+    requires group { group < group_count }
+    requires count { length of_group.old.items ≡ group_count }
+    ensures count { length of_group.new.items ≡ group_count }
     ensures at { (l g : ℕ) → has_level (levels_at of_group.new.items g) l
         ≡ (not (nat_eq l level && nat_eq g group) && has_level (levels_at of_group.old.items g) l) }
-    ensures all { (l g : ℕ) → l < 256 → g < 64 → has_level (levels_at of_group.new.items g) l ≡ true → has occupied g ≡ true
-        → has result g ≡ true }
+    ensures all { (l g : ℕ) → l < level_count → g < group_count → has_level (levels_at of_group.new.items g) l ≡ true
+        → has occupied g ≡ true → has result g ≡ true }
     ensures before { (g : ℕ) → has result g ≡ true → has occupied g ≡ true }
-    ensures own { has result group ≡ true → (l : ℕ) × (l < 256) × (has_level (levels_at of_group.new.items group) l ≡ true) }
+    ensures own { has result group ≡ true → (l : ℕ) × (l < level_count) × (has_level (levels_at of_group.new.items group) l ≡ true) }
 {
     let rest = &mut of_group[group];
     rest.remove(level);

@@ -3,11 +3,12 @@ use Rattle.aps_model.specs.declared.entry.Entry.{Entry}
 use Rattle.aps_model.specs.declared.shape.Shape.{Shape}
 use Rattle.aps_model.specs.Usage.{names}
 use Rattle.aps_model.specs.History.{IsEntry}
+use Rattle.aps_model.specs.Limits.{longest_tick, most_partitions}
 use Rattle.aps_report.specs.Windows.{cell_of, part_in, billed_in, is_between, HaveCellRoom, HaveParts, HaveEntry, AreUsed}
 use Rattle.aps_report.proofs.Spans.{Reaches, reached}
 use Rattle.aps_report.proofs.Sums.{few, part}
 
-short : (shape : Shape) (k : ℕ) (e : Entry) → IsEntry e → part_in shape k e ≤ 10000000
+short : (shape : Shape) (k : ℕ) (e : Entry) → IsEntry e → part_in shape k e ≤ longest_tick
 short shape k e is = omega (arith, is.short)
 
 -- what the first entries use is far below the greatest number
@@ -25,7 +26,7 @@ billed-is shape k q p e is = rw is refl
 
 -- the parts in the windows that the entry reaches are all of it
 pub parts-HaveEntry : (shape : Shape) (e : Entry) (p place s windows first past : ℕ) (before after : List ℕ)
-    → s ≡ shape.window * shape.tick → place ≡ p → e.billed ≡ Some p → Reaches s windows first past e → length before ≡ windows * 32
+    → s ≡ shape.window * shape.tick → place ≡ p → e.billed ≡ Some p → Reaches s windows first past e → length before ≡ windows * most_partitions
     → HaveParts shape e place first past before after → HaveEntry shape e before after
 parts-HaveEntry shape e p place s windows first past before after is same billed reach places parts = record {
   places = parts.places;

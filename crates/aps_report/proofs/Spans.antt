@@ -3,12 +3,13 @@ use Rattle.std.proofs.lemmas.Bool.Decides.{nat_tests}
 use Rattle.std.proofs.Math.Nat.{mul-le-mul_right, div-mul-le_self, lt-div-mul-add, mul_assoc}
 use Rattle.aps_model.specs.declared.entry.Entry.{Entry}
 use Rattle.aps_model.specs.declared.shape.Shape.{Shape}
+use Rattle.aps_model.specs.Limits.{shortest_tick, shortest_window}
 use Rattle.aps_report.specs.Windows.{part_in, is_between}
 
 -- a window takes time
-pub some_span : (w t : ℕ) → 8 ≤ w → 100000 ≤ t → 0 < w * t
+pub some_span : (w t : ℕ) → shortest_window ≤ w → shortest_tick ≤ t → 0 < w * t
 some_span w t some long =
-    let a : 8 * t ≤ w * t = mul-le-mul_right t some in
+    let a : shortest_window * t ≤ w * t = mul-le-mul_right t some in
     omega arith
 
 -- the end of a window, in nanoseconds

@@ -9,6 +9,7 @@ use Rattle.aps_model.specs.Usage.{names}
 use Rattle.aps_model.specs.History.{IsEntry}
 use Rattle.aps_model.specs.Report.{length_of, total_billed, total_critical, total_ran, total_idle}
 use Rattle.std.proofs.Common.{replicate}
+use Rattle.aps_model.specs.Limits.{longest_tick, most_partitions, most_threads}
 use Rattle.aps_report.specs.Totals.{added, unless_some, Sums, HavePlaces, no_time, sums_with, HaveRoom, AreSums}
 
 -- what an addition leaves at a place
@@ -38,9 +39,9 @@ idle_more h e = sum_by_push _ h e ∙ ap (λ n. total_idle h + n) (idle-at e.ran
 -- the sums over no entries
 pub sums_none : AreSums [] no_time
 sums_none = record {
-  billed = λ p small. get_or-replicate 32 p 0 0 small;
-  critical = λ p small. get_or-replicate 32 p 0 0 small;
-  ran = λ x small. get_or-replicate 1024 x 0 0 small;
+  billed = λ p small. get_or-replicate most_partitions p 0 0 small;
+  critical = λ p small. get_or-replicate most_partitions p 0 0 small;
+  ran = λ x small. get_or-replicate most_threads x 0 0 small;
   idle = refl;
 }
 
@@ -54,10 +55,10 @@ sums_more h e sums places so_far = record {
 }
 
 -- each sum over the first entries is far below the greatest number
-pub few : (f : Entry → ℕ) (h : List Entry) (i : ℕ) → ((e : Entry) → IsEntry e → f e ≤ 10000000) → All IsEntry h → length h < 2 ^ 64 → sum_by f (take i h) < 2 ^ 127
+pub few : (f : Entry → ℕ) (h : List Entry) (i : ℕ) → ((e : Entry) → IsEntry e → f e ≤ longest_tick) → All IsEntry h → length h < 2 ^ 64 → sum_by f (take i h) < 2 ^ 127
 few f h i short entries small =
-    let each : All (λ e. f e ≤ 10000000) h = λ k d here. short (get_or h k d) (entries k d here) in
-    let whole : sum_by f h ≤ length h * 10000000 = sum_by-le f 10000000 h each in
+    let each : All (λ e. f e ≤ longest_tick) h = λ k d here. short (get_or h k d) (entries k d here) in
+    let whole : sum_by f h ≤ length h * longest_tick = sum_by-le f longest_tick h each in
     omega (arith, sum_by-take-le f h i)
 
 pub part : (b : Bool) (n m : ℕ) → n ≤ m → (if b then n else 0) ≤ m
@@ -81,6 +82,6 @@ same_parts sums billed critical ran b k r i =
     ap (λ x. made x sums.critical sums.ran sums.idle) b ∙ ap (λ x. made billed x sums.ran sums.idle) k
     ∙ ap (λ x. made billed critical x sums.idle) r ∙ ap (λ x. made billed critical ran x) i
 
-pub no_time-by : (sums : Sums) → sums.billed ≡ replicate 32 0 → sums.critical ≡ replicate 32 0 → sums.ran ≡ replicate 1024 0 → sums.idle ≡ 0
+pub no_time-by : (sums : Sums) → sums.billed ≡ replicate most_partitions 0 → sums.critical ≡ replicate most_partitions 0 → sums.ran ≡ replicate most_threads 0 → sums.idle ≡ 0
     → sums ≡ no_time
-no_time-by sums b k r i = same_parts sums (replicate 32 0) (replicate 32 0) (replicate 1024 0) b k r i
+no_time-by sums b k r i = same_parts sums (replicate most_partitions 0) (replicate most_partitions 0) (replicate most_threads 0) b k r i

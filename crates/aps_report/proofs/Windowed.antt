@@ -4,6 +4,7 @@ use Rattle.std.specs.List.{flat_map, range_with_len, join_with_byte}
 use Rattle.std.proofs.lemmas.List.Folds.{flat_map-map}
 use Rattle.aps_model.specs.History.{History}
 use Rattle.aps_model.specs.Journal.{line_of}
+use Rattle.aps_model.specs.Limits.{most_partitions}
 use Rattle.aps_model.specs.Loaded.{finished_ticks}
 use Rattle.aps_model.specs.Report.{end_line, window_line, windows_text}
 use Rattle.aps_report.specs.Windows.{cell_of, cell_words, used_in, window_with, AreUsed}
@@ -39,14 +40,14 @@ window-by cells rows window k first start t1 t2 t3 is e1 e2 e3 =
     ∙ ap (λ t. start ++ t) (sym (line-is cells rows window k))
 
 -- the lines from the cells are those of the windows
-lines_same : (h : History) (windows : ℕ) (cells : List ℕ) → AreUsed h.shape h.entries windows cells → length h.rows ≤ 32 → (k : ℕ) → k < windows
+lines_same : (h : History) (windows : ℕ) (cells : List ℕ) → AreUsed h.shape h.entries windows cells → length h.rows ≤ most_partitions → (k : ℕ) → k < windows
     → window_with cells (length h.rows) h.shape.window k ≡ window_line h (k * h.shape.window)
 lines_same h windows cells are few k known =
     let columns = map_range (λ p. decimal (cell_of cells k p)) (λ p. decimal (used_in h.shape h.entries k p)) (length h.rows)
     (λ p here. ap decimal (are.each k p known (omega arith))) in
     ap (λ words. line_of (codes "window" ∷ decimal (k * h.shape.window) ∷ words)) columns
 
-pub windows-by : (h : History) (windows : ℕ) (cells t1 t2 t3 : List ℕ) → length h.rows ≤ 32
+pub windows-by : (h : History) (windows : ℕ) (cells t1 t2 t3 : List ℕ) → length h.rows ≤ most_partitions
     → windows ≡ finished_ticks h.shape h.entries / h.shape.window
     → AreUsed h.shape h.entries windows cells
     → t1 ≡ codes "aps windows 1\n"

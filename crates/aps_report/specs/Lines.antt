@@ -56,7 +56,8 @@ partition_reply command p row used critical_used =
 
 -- the line of the answer to a query of a thread: its own partition, what it inherits, and what it does
 abbrev pub home_words : ℕ → ℕ → Facts → List ℕ
-home_words command x own = codes "reply " ++ (decimal command ++ (codes " thread " ++ (decimal x ++ (codes " own " ++ decimal own.partition))))
+home_words command x own =
+    codes "reply " ++ (decimal command ++ (codes " thread " ++ (decimal x ++ (codes " own " ++ decimal own.partition))))
 
 abbrev pub facts_words : Facts → List ℕ
 facts_words now =

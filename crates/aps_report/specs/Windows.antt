@@ -10,7 +10,7 @@ use Rattle.aps_model.specs.Limits.{most_partitions}
 
 -- the cells of a table have a place for each window and partition
 abbrev pub cell_of : List ℕ → ℕ → ℕ → ℕ
-cell_of cells k p = slice_index cells (k * 32 + p)
+cell_of cells k p = slice_index cells (k * most_partitions + p)
 
 -- the part of an entry's time that lies in a window
 abbrev pub part_in : Shape → ℕ → Entry → ℕ
@@ -26,7 +26,7 @@ used_in shape h k p = used shape.tick h p (k * shape.window) (k * shape.window +
 
 -- the time of one more entry can be added to each cell
 pub record HaveCellRoom (cells : List ℕ) : Type 0 where
-  pub room : (k p : ℕ) → p < 32 → k * 32 + p < length cells → cell_of cells k p < 2 ^ 127
+  pub room : (k p : ℕ) → p < most_partitions → k * most_partitions + p < length cells → cell_of cells k p < 2 ^ 127
 
 -- the window is one of those from one to before another
 abbrev pub is_between : ℕ → ℕ → ℕ → Bool
@@ -35,17 +35,18 @@ is_between first past k = nat_le first k && nat_lt k past
 -- the cells with an entry's time in the windows from one to before another added for one partition
 pub record HaveParts (shape : Shape) (e : Entry) (p first past : ℕ) (before after : List ℕ) : Type 0 where
   pub places : length after ≡ length before
-  pub each : (k q : ℕ) → q < 32 → k * 32 + q < length before
+  pub each : (k q : ℕ) → q < most_partitions → k * most_partitions + q < length before
       → cell_of after k q ≡ cell_of before k q + (if nat_eq p q && is_between first past k then part_in shape k e else 0)
 
 -- the cells with an entry's time added
 pub record HaveEntry (shape : Shape) (e : Entry) (before after : List ℕ) : Type 0 where
   pub places : length after ≡ length before
-  pub each : (k q : ℕ) → q < 32 → k * 32 + q < length before → cell_of after k q ≡ cell_of before k q + billed_in shape k q e
+  pub each : (k q : ℕ) → q < most_partitions → k * most_partitions + q < length before
+      → cell_of after k q ≡ cell_of before k q + billed_in shape k q e
 
 -- the cells are what each partition used in each window
 pub record AreUsed (shape : Shape) (h : List Entry) (windows : ℕ) (cells : List ℕ) : Type 0 where
-  pub places : length cells ≡ windows * 32
+  pub places : length cells ≡ windows * most_partitions
   pub each : (k p : ℕ) → k < windows → p < most_partitions → cell_of cells k p ≡ used_in shape h k p
 
 -- a cell with the space before it

@@ -3,7 +3,7 @@ ghost use Rattle.std.specs.Prelude.{◌≡◌, ◌+◌, ◌<◌, ◌≤◌, ◌�
 ghost use Rattle.std.specs.Io.KnownBytes.{Appends, Keeps};
 ghost use Rattle.aps_io.specs.Causes.{Rose};
 ghost use Rattle.aps_model.specs.Journal.{entry_line, journal_text};
-ghost use Rattle.aps_report.specs.Pieces.{IsMoved, IsPrefixWritten};
+ghost use Rattle.aps_report.specs.Pieces.{IsMoved, IsPrefixWritten, full_piece, piece_room};
 
 use aps_io::{Sink, WriteRefusal, write_all};
 use aps_model::{Entry, History, NoMemory};
@@ -71,7 +71,7 @@ fn write_lines<K: Sink>(
     sink: &mut K,
 ) -> Result<(), WriteRefusal>
     requires empty { piece.old.items ≡ [] }
-    requires room { 65623 ≤ vec_capacity piece.old }
+    requires room { piece_room ≤ vec_capacity piece.old }
     ensures whole { OnOk result (Appends (K.written sink.old) (K.written sink.new) (journal_text entries.now)) }
     ensures prefix { OnErr result (IsPrefixWritten (K.written sink.old) (K.written sink.new) (journal_text entries.now)) }
     ensures fault { IsErrOf result WriteRefusal.WriteFault → Rose (K.faults sink.old) (K.faults sink.new) }
@@ -101,7 +101,7 @@ fn add_line(piece: &mut Vec<u8>, line: &[u8])
 /// Writes the piece and empties it, where it is full.
 fn make_room<K: Sink>(sink: &mut K, piece: &mut Vec<u8>) -> Result<(), WriteRefusal>
     ensures moved { OnOk result (IsMoved (K.written sink.old) (K.written sink.new) piece.old.items piece.new.items) }
-    ensures room { OnOk result (vec_len piece.new < 65536) }
+    ensures room { OnOk result (vec_len piece.new < full_piece) }
     ensures capacity { vec_capacity piece.new ≡ vec_capacity piece.old }
     ensures prefix { OnErr result (IsPrefixWritten (K.written sink.old) (K.written sink.new) piece.old.items) }
     ensures fault { IsErrOf result WriteRefusal.WriteFault → Rose (K.faults sink.old) (K.faults sink.new) }

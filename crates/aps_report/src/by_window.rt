@@ -5,7 +5,7 @@ ghost use Rattle.aps_model.specs.Shape.{IsShape};
 ghost use Rattle.aps_model.specs.History.{IsEntry};
 ghost use Rattle.aps_model.specs.Report.{windows_text};
 ghost use Rattle.aps_report.specs.Windows.{part_in, cell_words, window_with, HaveCellRoom, HaveParts, HaveEntry, AreUsed};
-ghost use Rattle.aps_model.specs.Limits.{last_moment, most_partitions};
+ghost use Rattle.aps_model.specs.Limits.{last_moment, last_tick, longest_tick, most_partitions};
 
 use crate::lines::add_end;
 use crate::zeros::zeros;
@@ -46,8 +46,8 @@ fn add_windows(
     count: usize,
 ) -> Result<(), NoMemory>
     requires rows { rows ≤ most_partitions }
-    requires count { count ≤ 100000000 }
-    requires places { length cells.now ≡ count * 32 }
+    requires count { count ≤ last_tick }
+    requires places { length cells.now ≡ count * most_partitions }
     ensures { OnOk result (string_bytes out.new
         ≡ string_bytes out.old ++ flat_map (window_with cells.now rows window) (range_with_len 0 count)) }
 {
@@ -65,8 +65,8 @@ fn add_window(
     k: usize,
 ) -> Result<(), NoMemory>
     requires rows { rows ≤ most_partitions }
-    requires window { k ≤ 100000000 }
-    requires places { k * 32 + 32 ≤ length cells.now }
+    requires window { k ≤ last_tick }
+    requires places { k * most_partitions + most_partitions ≤ length cells.now }
     ensures { OnOk result (string_bytes out.new ≡ string_bytes out.old ++ window_with cells.now rows window k) }
 {
     add_first(out, k * usize::from(window))?;
@@ -77,8 +77,8 @@ fn add_window(
 
 fn add_cells(out: &mut String, cells: &[u128], rows: usize, k: usize) -> Result<(), NoMemory>
     requires rows { rows ≤ most_partitions }
-    requires window { k ≤ 100000000 }
-    requires places { k * 32 + 32 ≤ length cells.now }
+    requires window { k ≤ last_tick }
+    requires places { k * most_partitions + most_partitions ≤ length cells.now }
     ensures { OnOk result (string_bytes out.new ≡ string_bytes out.old ++ flat_map (cell_words cells.now k) (range_with_len 0 rows)) }
 {
     for p in 0..rows {
@@ -113,7 +113,7 @@ fn table_of(
     entries: &[Entry],
 ) -> Result<Vec<u128>, NoMemory>
     requires shape { IsShape shape.now }
-    requires windows { windows ≤ 100000000 }
+    requires windows { windows ≤ last_tick }
     requires entries { All IsEntry entries.now }
     ensures { IfOk result (λ cells. AreUsed shape.now entries.now windows cells.items) }
 {
@@ -130,12 +130,12 @@ fn table_of(
 /// Adds an entry that begins in this window, where a window has so many ns.
 fn add_entry(cells: &mut [u128], shape: &Shape, windows: usize, e: &Entry, span: u64, first: u64)
     requires shape { IsShape shape.now }
-    requires windows { windows ≤ 100000000 }
+    requires windows { windows ≤ last_tick }
     requires entry { IsEntry e.now }
     requires span { span ≡ shape.now.window * shape.now.tick }
     requires first { first ≡ e.now.from / span }
     requires near { first * span ≤ last_moment }
-    requires places { length cells.old ≡ windows * 32 }
+    requires places { length cells.old ≡ windows * most_partitions }
     requires room { HaveCellRoom cells.old }
     ensures { HaveEntry shape.now e.now cells.old cells.new }
 {
@@ -158,9 +158,9 @@ fn add_parts(
     requires shape { IsShape shape.now }
     requires partition { partition < most_partitions }
     requires range { first ≤ past }
-    requires windows { past ≤ 100000000 }
+    requires windows { past ≤ last_tick }
     requires entry { IsEntry e.now }
-    requires places { past * 32 ≤ length cells.old }
+    requires places { past * most_partitions ≤ length cells.old }
     requires room { HaveCellRoom cells.old }
     ensures { HaveParts shape.now e.now partition first past cells.old cells.new }
 {
@@ -171,10 +171,10 @@ fn add_parts(
 
 fn part_in(shape: &Shape, k: usize, e: &Entry) -> u64
     requires shape { IsShape shape.now }
-    requires window { k ≤ 100000000 }
+    requires window { k ≤ last_tick }
     requires entry { IsEntry e.now }
     ensures same { result ≡ part_in shape.now k e.now }
-    ensures short { result ≤ 10000000 }
+    ensures short { result ≤ longest_tick }
 {
     let first = k as u64 * u64::from(shape.window);
     let past = first + u64::from(shape.window);

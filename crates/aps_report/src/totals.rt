@@ -28,7 +28,8 @@ impl Model for Totals {
 
     ghost view = { λ t. record { billed = t.billed.items; critical = t.critical.items; ran = t.ran.items; idle = t.idle } };
 
-    ghost invariant = { λ t. HavePlaces (record { billed = t.billed.items; critical = t.critical.items; ran = t.ran.items; idle = t.idle }) };
+    ghost invariant = { λ t. HavePlaces
+        (record { billed = t.billed.items; critical = t.critical.items; ran = t.ran.items; idle = t.idle }) };
 }
 
 impl Totals {

@@ -5,6 +5,7 @@ use Rattle.aps_model.specs.declared.entry.Entry.{Entry}
 use Rattle.aps_model.specs.declared.entry.Order.{Order}
 use Rattle.aps_model.specs.History.{History}
 use Rattle.aps_model.specs.Legal.{IsLegal}
+use Rattle.aps_model.specs.Limits.{most_cpus}
 use Rattle.aps_model.specs.Loaded.{finished_ticks}
 use Rattle.aps_model.specs.Scenario.{Scenario}
 use Rattle.aps_model.specs.Valid.{IsScenario}
@@ -29,7 +30,7 @@ start_ready history order valid legal =
         run = refl;
         place = omega arith;
         room = omega arith;
-        free = λ c less. get_or-replicate 16 c false false less;
+        free = λ c less. get_or-replicate most_cpus c false false less;
         sums = sums_none history.scenario window short;
       };
       early = omega arith;

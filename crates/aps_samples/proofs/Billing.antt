@@ -8,6 +8,7 @@ use Rattle.aps_model.specs.declared.entry.Entry.{Entry}
 use Rattle.aps_model.specs.declared.entry.Order.{Order}
 use Rattle.aps_model.specs.declared.shape.Shape.{Shape}
 use Rattle.aps_model.specs.Legal.{IsLegal}
+use Rattle.aps_model.specs.Limits.{longest_window, most_partitions, most_time_of_tick}
 use Rattle.aps_model.specs.Scenario.{Scenario}
 use Rattle.aps_model.specs.Usage.{billed_by, critical_used, names, overlap, used, window_critical, window_used}
 use Rattle.aps_model.specs.Valid.{IsScenario}
@@ -31,14 +32,14 @@ use Rattle.aps_samples.proofs.Freed.{BeginLater, critical_longer, free_longer, f
 
 -- ---- at the start
 
-pub sums_none : (scenario : Scenario) (window : ℕ) → window ≤ 400 → AreSums scenario [] 0 window (record { all = opened window; free = opened window; span = window })
+pub sums_none : (scenario : Scenario) (window : ℕ) → window ≤ longest_window → AreSums scenario [] 0 window (record { all = opened window; free = opened window; span = window })
 sums_none scenario window short =
     let none = counts_none (shape_with scenario window) short in
     record { all = none; free = subst (λ h. Counts (shape_with scenario window) h 0 (opened window)) (sym (freed_none scenario)) none; span = refl }
 
 -- ---- one entry more
 
-none_on : (w : Window) (p tick : ℕ) → length w.slots ≡ 32 → 32 ≤ p → billed_on w p tick ≡ 0
+none_on : (w : Window) (p tick : ℕ) → length w.slots ≡ most_partitions → most_partitions ≤ p → billed_on w p tick ≡ 0
 none_on w p tick count past =
     ap (λ (slots : List Slot). (slot_at slots (w.tick - tick)).billed) (get_or_past w.slots p [] (omega (arith, count, past)))
     ∙ ap (λ (slot : Slot). slot.billed) (get_or_past [] (w.tick - tick) no_slot (omega arith))
@@ -57,11 +58,11 @@ own_time tick p k e is at whole =
     within k n time at = grind (arith, nat_tests)
 
 -- no tick gets too much of a partition
-room : (shape : Shape) (h : List Entry) (j : ℕ) (w : Window) (e : Entry) → Counts shape h j w → IsInOneTick shape.tick e → (e.from < e.to → e.from / shape.tick ≡ j) → e.to - e.from ≤ 160000000
-    → ((p : ℕ) → used shape.tick h p j (j + 1) + billed_by shape.tick p j (j + 1) e ≤ 160000000) → HasRoom w j e
+room : (shape : Shape) (h : List Entry) (j : ℕ) (w : Window) (e : Entry) → Counts shape h j w → IsInOneTick shape.tick e → (e.from < e.to → e.from / shape.tick ≡ j) → e.to - e.from ≤ most_time_of_tick
+    → ((p : ℕ) → used shape.tick h p j (j + 1) + billed_by shape.tick p j (j + 1) e ≤ most_time_of_tick) → HasRoom w j e
 room shape h j w e counts whole at short few = record {
   now = counts.tick;
-  fits = λ p is some. elim (cases_lt p 32) [
+  fits = λ p is some. elim (cases_lt p most_partitions) [
     | inl inside ↦
         let before : billed_on w p j ≡ used shape.tick h p j (j + 1) =
         billed_on_is w (bills_of shape.tick h) p j counts.stands inside (omega (arith, counts.tick)) (omega (arith, counts.tick)) ∙ used_same shape.tick h p j (j + 1) counts.each in
@@ -73,7 +74,7 @@ room shape h j w e counts whole at short few = record {
 }
 
 few_used : (scenario : Scenario) (order : Order) (h : List Entry) (e : Entry) (p j : ℕ) → IsScenario scenario → IsLegal scenario order (h ++ e ∷ [])
-    → used scenario.shape.tick h p j (j + 1) + billed_by scenario.shape.tick p j (j + 1) e ≤ 160000000
+    → used scenario.shape.tick h p j (j + 1) + billed_by scenario.shape.tick p j (j + 1) e ≤ most_time_of_tick
 few_used scenario order h e p j valid legal =
     let small = usage_small scenario order (h ++ e ∷ []) j (j + 1) valid legal in
     let each = small.each p in
@@ -83,12 +84,12 @@ few_used scenario order h e p j valid legal =
     omega (arith, each, all, both, one)
 
 pub room_all : (scenario : Scenario) (order : Order) (h : List Entry) (j window : ℕ) (sums : Sums) (e : Entry) → IsScenario scenario → IsLegal scenario order (h ++ e ∷ []) → AreSums scenario h j window sums
-    → IsInOneTick scenario.shape.tick e → (e.from < e.to → e.from / scenario.shape.tick ≡ j) → e.to - e.from ≤ 160000000 → HasRoom sums.all j e
+    → IsInOneTick scenario.shape.tick e → (e.from < e.to → e.from / scenario.shape.tick ≡ j) → e.to - e.from ≤ most_time_of_tick → HasRoom sums.all j e
 room_all scenario order h j window sums e valid legal are whole at short =
     room (shape_with scenario window) h j sums.all e are.all whole at short (λ p. few_used scenario order h e p j valid legal)
 
 pub room_free : (scenario : Scenario) (order : Order) (h : List Entry) (j window : ℕ) (sums : Sums) (e : Entry) → IsScenario scenario → IsLegal scenario order (h ++ e ∷ []) → AreSums scenario h j window sums
-    → IsInOneTick scenario.shape.tick e → (e.from < e.to → e.from / scenario.shape.tick ≡ j) → e.to - e.from ≤ 160000000 → HasRoom sums.free j e
+    → IsInOneTick scenario.shape.tick e → (e.from < e.to → e.from / scenario.shape.tick ≡ j) → e.to - e.from ≤ most_time_of_tick → HasRoom sums.free j e
 room_free scenario order h j window sums e valid legal are whole at short =
     room (shape_with scenario window) (freed scenario h) j sums.free e are.free whole at short
     (λ p. let few = few_used scenario order h e p j valid legal in let same = freed_used scenario scenario.shape.tick p j (j + 1) h in omega (arith, few, same))
@@ -104,7 +105,7 @@ sums_more scenario h j window before after e mark are whole at is all free span 
 
 -- ---- another window, and a tick more
 
-pub sums_resized : (scenario : Scenario) (h : List Entry) (j window other : ℕ) (sums : Sums) → AreSums scenario h j window sums → other ≤ 400
+pub sums_resized : (scenario : Scenario) (h : List Entry) (j window other : ℕ) (sums : Sums) → AreSums scenario h j window sums → other ≤ longest_window
     → AreSums scenario h j other (record { all = resized other sums.all; free = resized other sums.free; span = other })
 sums_resized scenario h j window other sums are short = record {
   all = counts_resized (shape_with scenario window) (shape_with scenario other) h j sums.all are.all refl short;
@@ -135,13 +136,13 @@ sums_of_window scenario h later j window sums are after wide =
     let first : j + 1 - window ≡ first_at scenario (h ++ later) j = ap (λ w. j + 1 - w) wide in
     record {
       used = used_are shape h j sums.all are.all
-          ∙ map_range (window_used shape h j) (used_at scenario (h ++ later) j) 32
+          ∙ map_range (window_used shape h j) (used_at scenario (h ++ later) j) most_partitions
           (λ p less. sym (used_longer tick p (j + 1 - window) (j + 1) h later after) ∙ ap (λ a. used tick (h ++ later) p a (j + 1)) first);
       critical = critical_are shape h j sums.all are.all
-          ∙ map_range (window_critical shape h j) (critical_at scenario (h ++ later) j) 32
+          ∙ map_range (window_critical shape h j) (critical_at scenario (h ++ later) j) most_partitions
           (λ p less. sym (critical_longer tick p (j + 1 - window) (j + 1) h later after) ∙ ap (λ a. critical_used tick (h ++ later) p a (j + 1)) first);
       free = critical_are shape (freed scenario h) j sums.free are.free
-          ∙ map_range (window_critical shape (freed scenario h) j) (free_at scenario (h ++ later) j) 32
+          ∙ map_range (window_critical shape (freed scenario h) j) (free_at scenario (h ++ later) j) most_partitions
           (λ p less. freed_free scenario tick p (j + 1 - window) (j + 1) h ∙ sym (free_longer scenario tick p (j + 1 - window) (j + 1) h later after)
           ∙ ap (λ a. free_used scenario tick (h ++ later) p a (j + 1)) first);
     }

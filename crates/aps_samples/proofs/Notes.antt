@@ -3,6 +3,7 @@ use Rattle.std.proofs.Common.{◌≡◌, ℕ, ◌/◌, ◌+◌, ◌*◌, ◌<◌
 use Rattle.std.specs.List.{AllByRecursion}
 use Rattle.aps_model.specs.declared.entry.Entry.{Entry}
 use Rattle.aps_model.specs.After.{state_after}
+use Rattle.aps_model.specs.Limits.{most_partitions}
 use Rattle.aps_model.specs.Loaded.{state_of_tick}
 use Rattle.aps_model.specs.Scenario.{Scenario}
 use Rattle.aps_model.specs.SchedulerState.{SchedulerState}
@@ -36,8 +37,8 @@ here test tick j h e is =
 -- this is so of tick j, by the state of a later history and the picks of an earlier one
 pub record IsSplit (scenario : Scenario) (later h : List Entry) (j : ℕ) (note : Note) : Type 0 where
   pub begun : IsBegun (state_of_tick scenario later j) note
-  pub lacking : (p : ℕ) → p < 32 → slice_index_or note.lacking p false ≡ any_of (lacks_test scenario p) scenario.shape.tick j (j + 1) h
-  pub out : (p : ℕ) → p < 32 → slice_index_or note.out p false ≡ any_of (out_test scenario p) scenario.shape.tick j (j + 1) h
+  pub lacking : (p : ℕ) → p < most_partitions → slice_index_or note.lacking p false ≡ any_of (lacks_test scenario p) scenario.shape.tick j (j + 1) h
+  pub out : (p : ℕ) → p < most_partitions → slice_index_or note.out p false ≡ any_of (out_test scenario p) scenario.shape.tick j (j + 1) h
   pub starved : note.starved ≡ any_of starved_test scenario.shape.tick j (j + 1) h
   pub changed : note.changed ≡ any_of (changes_by scenario) scenario.shape.tick j (j + 1) h
 

@@ -3,6 +3,7 @@ use Rattle.std.proofs.Common.{◌≡◌, ℕ, ◌/◌, ◌+◌, ◌<◌, ◌≤�
 use Rattle.std.proofs.lemmas.Bool.Decides.{nat_tests}
 use Rattle.std.proofs.lemmas.List.{get_or-replicate}
 use Rattle.aps_model.specs.declared.entry.Entry.{Entry}
+use Rattle.aps_model.specs.Limits.{most_partitions}
 use Rattle.aps_model.specs.Loaded.{has_starved, is_among}
 use Rattle.aps_model.specs.Scenario.{Scenario}
 use Rattle.aps_samples.specs.declared.lasts.Lasts.{Lasts}
@@ -110,8 +111,8 @@ lasts_none scenario h = record {
   changed = last_none (changes_in scenario h) (changes_pass scenario h);
 }
   where
-    from : (was : ℕ → ℕ → Bool) (p : ℕ) → p < 32 → PassesBy was → IsLast was 0 (slice_index (replicate 32 0) p)
-    from was p less passes = let zero : slice_index (replicate 32 0) p ≡ 0 = get_or-replicate 32 p 0 0 less in rw zero (last_none was passes)
+    from : (was : ℕ → ℕ → Bool) (p : ℕ) → p < most_partitions → PassesBy was → IsLast was 0 (slice_index (replicate most_partitions 0) p)
+    from was p less passes = let zero : slice_index (replicate most_partitions 0) p ≡ 0 = get_or-replicate most_partitions p 0 0 less in rw zero (last_none was passes)
 
 pub lasts_more : (scenario : Scenario) (h : List Entry) (j : ℕ) (note : Note) (before after : Lasts) → IsNote scenario h j note → AreLasts scenario h j before
     → IsPassed j note before after → AreLasts scenario h (j + 1) after

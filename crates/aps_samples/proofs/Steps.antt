@@ -10,6 +10,7 @@ use Rattle.aps_model.specs.declared.entry.Entry.{Entry}
 use Rattle.aps_model.specs.declared.entry.Order.{Order}
 use Rattle.aps_model.specs.After.{state_after}
 use Rattle.aps_model.specs.Legal.{IsLegal}
+use Rattle.aps_model.specs.Limits.{most_cpus, most_time_of_tick}
 use Rattle.aps_model.specs.Scenario.{Scenario}
 use Rattle.aps_model.specs.Valid.{IsScenario}
 use Rattle.aps_core.specs.Run.{Run, Setup, state_of}
@@ -59,7 +60,7 @@ pub up_more : (scenario : Scenario) (order : Order) (h : List Entry) (j : ℕ) (
     → (up : IsUpTo scenario order h j cursor) → cursor.next < length h
     → ((entry_at h cursor.next).from < (entry_at h cursor.next).to → (entry_at h cursor.next).from / scenario.shape.tick ≡ j)
     → core ≡ with_entry cursor.core (entry_at h cursor.next)
-    → (entry_at h cursor.next).cpu < 16 → length cursor.free ≡ 16 → mark ≡ is_free (kind_of scenario (take cursor.next h) (entry_at h cursor.next))
+    → (entry_at h cursor.next).cpu < most_cpus → length cursor.free ≡ most_cpus → mark ≡ is_free (kind_of scenario (take cursor.next h) (entry_at h cursor.next))
     → GoesOnBy cursor.sums.all j (entry_at h cursor.next) (entry_at h cursor.next).critical sums.all
     → GoesOnBy cursor.sums.free j (entry_at h cursor.next) (slice_index_or cursor.free (entry_at h cursor.next).cpu false) sums.free → sums.span ≡ cursor.sums.span
     → IsUpTo scenario order h j (record { core = core; next = cursor.next + 1; free = set cursor.free (entry_at h cursor.next).cpu mark; sums = sums })
@@ -97,7 +98,7 @@ rooms scenario order h j cursor valid legal up less at =
     let more = legal_to scenario order h cursor.next legal less in
     let whole = in_one_tick scenario order h cursor.next valid legal less in
     let fits = entry_fits scenario order h cursor.next valid legal less in
-    let short : e.to - e.from ≤ 160000000 = let s = fits.short in omega (arith, s) in
+    let short : e.to - e.from ≤ most_time_of_tick = let s = fits.short in omega (arith, s) in
     (room_all scenario order g j up.window cursor.sums e valid more up.sums whole at short, room_free scenario order g j up.window cursor.sums e valid more up.sums whole at short)
 
 -- ---- the pass

@@ -3,6 +3,7 @@ use Rattle.std.proofs.Common.{◌≡◌, ℕ, ◌+◌, ◌*◌, ◌<◌, ◌≤�
 use Rattle.std.proofs.lemmas.List.{take-append-drop}
 use Rattle.std.proofs.lemmas.List.Elements.{recursion_from_All}
 use Rattle.aps_model.specs.declared.entry.Entry.{Entry}
+use Rattle.aps_model.specs.Limits.{last_tick, longest_window, shortest_window}
 use Rattle.aps_model.specs.Loaded.{finished_ticks, state_of_tick}
 use Rattle.aps_model.specs.Scenario.{Scenario}
 use Rattle.aps_core.specs.Run.{Setup}
@@ -94,8 +95,8 @@ note_at es h t scenario a b same ticks named at finished up' keeps' =
     note_whole (scenario_of a.cursor) h a.tick b at.ready.valid place cut has
 
 pub record IsWide (window : ℕ) : Type 0 where
-  pub long : 8 ≤ window
-  pub short : window ≤ 400
+  pub long : shortest_window ≤ window
+  pub short : window ≤ longest_window
 
 pub wide_at : (h : List Entry) (a b : Samples) → IsAt h a → IsNote (scenario_of a.cursor) h a.tick b.note → IsWide b.note.window
 wide_at h a b at note =
@@ -113,7 +114,7 @@ pub record IsTicked (scenario : Scenario) (h : List Entry) (a b d : Samples) : T
   pub sums : AreOfWindow scenario h d.tick (resized_by b.note.window d.cursor.sums)
   pub next : IsAt h (one_on d (later_by (resized_by b.note.window d.cursor.sums)))
 
-ticked_of : (h : List Entry) (a b d : Samples) (lasts : Lasts) → IsAt h a → a.tick < finished_ticks (scenario_of a.cursor).shape h → a.tick < 100000000
+ticked_of : (h : List Entry) (a b d : Samples) (lasts : Lasts) → IsAt h a → a.tick < finished_ticks (scenario_of a.cursor).shape h → a.tick < last_tick
     → GoesUpTo h ((a.tick + 1) * tick_of a) a b → IsNote (scenario_of a.cursor) h a.tick b.note → IsPassed b.tick b.note b.lasts lasts
     → GoesUpTo h ((a.tick + 1) * tick_of a + 1) (with_lasts b lasts) d → BeginsIfMet (scenario_of b.cursor) h ((a.tick + 1) * tick_of a) (with_lasts b lasts) d
     → IsTicked (scenario_of a.cursor) h a b d
@@ -177,7 +178,7 @@ ticked_of h a b d lasts at finished few up note passed on begins =
     }
 
 pub ticked : (es h : List Entry) (t : ℕ) (scenario : Scenario) (a b d : Samples) (lasts : Lasts) → es ≡ h → t ≡ tick_of a → scenario_of a.cursor ≡ scenario
-    → IsAt h a → a.tick < finished_ticks scenario.shape h → a.tick < 100000000
+    → IsAt h a → a.tick < finished_ticks scenario.shape h → a.tick < last_tick
     → GoesUpTo es ((a.tick + 1) * t) a b → KeepsNotes (scenario_of a.cursor) es a b → IsPassed b.tick b.note b.lasts lasts
     → GoesUpTo es ((a.tick + 1) * t + 1) (with_lasts b lasts) d → BeginsIfMet (scenario_of b.cursor) es ((a.tick + 1) * t) (with_lasts b lasts) d
     → IsTicked scenario h a b d

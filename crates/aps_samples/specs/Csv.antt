@@ -15,7 +15,8 @@ use Rattle.aps_samples.specs.Sample.{sample_of}
 -- the cells of a partition in the first line
 abbrev pub row_titles : PartitionRow → List ℕ
 row_titles row =
-    codes "," ++ (row.name ++ (codes "_used," ++ (row.name ++ (codes "_critical," ++ (row.name ++ (codes "_allowance," ++ (row.name ++ codes "_demand")))))))
+    codes "," ++ (row.name
+    ++ (codes "_used," ++ (row.name ++ (codes "_critical," ++ (row.name ++ (codes "_allowance," ++ (row.name ++ codes "_demand")))))))
 
 abbrev pub head_line : List PartitionRow → List ℕ
 head_line rows = (codes "end_ns,window,full,steady" ++ flat_map row_titles rows) ++ codes "\n"

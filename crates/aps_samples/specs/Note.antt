@@ -14,7 +14,14 @@ use Rattle.aps_samples.specs.Picks.{changes_in, lacks, was_out}
 
 -- the note of no tick
 abbrev pub no_note : Note
-no_note = record { window = 0; allowance = replicate most_partitions 0; lacking = replicate most_partitions false; out = replicate most_partitions false; starved = false; changed = false }
+no_note = record {
+  window = 0;
+  allowance = replicate most_partitions 0;
+  lacking = replicate most_partitions false;
+  out = replicate most_partitions false;
+  starved = false;
+  changed = false;
+}
 
 -- what this state says of a tick that begins with it
 pub record IsBegun (s : SchedulerState) (note : Note) : Type 0 where
@@ -33,8 +40,10 @@ pub record IsFresh (s : SchedulerState) (note : Note) : Type 0 where
 pub record IsAdded (look : Look) (before after : Note) : Type 0 where
   pub window : after.window ≡ before.window
   pub allowance : after.allowance ≡ before.allowance
-  pub lacking : (p : ℕ) → p < most_partitions → slice_index_or after.lacking p false ≡ (slice_index_or before.lacking p false || slice_index_or look.lacking p false)
-  pub out : (p : ℕ) → p < most_partitions → slice_index_or after.out p false ≡ (slice_index_or before.out p false || slice_index_or look.out p false)
+  pub lacking : (p : ℕ) → p < most_partitions
+      → slice_index_or after.lacking p false ≡ (slice_index_or before.lacking p false || slice_index_or look.lacking p false)
+  pub out : (p : ℕ) → p < most_partitions
+      → slice_index_or after.out p false ≡ (slice_index_or before.out p false || slice_index_or look.out p false)
   pub starved : after.starved ≡ (before.starved || look.starved)
   pub changed : after.changed ≡ (before.changed || look.changed)
 

@@ -6,7 +6,7 @@ use Rattle.aps_model.specs.declared.entry.Done.TheVariants.{Nothing}
 use Rattle.aps_model.specs.After.{state_after}
 use Rattle.aps_model.specs.History.{History}
 use Rattle.aps_model.specs.Legal.{IsLegal}
-use Rattle.aps_model.specs.Limits.{most_cpus}
+use Rattle.aps_model.specs.Limits.{last_tick, most_cpus}
 use Rattle.aps_model.specs.Loaded.{finished_ticks}
 use Rattle.aps_model.specs.Scenario.{Scenario}
 use Rattle.aps_model.specs.Valid.{IsScenario}
@@ -80,7 +80,7 @@ pub record IsReady (h : List Entry) (s : Samples) : Type 0 where
   pub valid : IsScenario (scenario_of s.cursor)
   pub legal : IsLegal (scenario_of s.cursor) (order_of s.cursor) h
   pub up : IsUpTo (scenario_of s.cursor) (order_of s.cursor) h s.tick s.cursor
-  pub early : s.tick ≤ 100000000
+  pub early : s.tick ≤ last_tick
 
 -- it goes on to the first entry that doesn't end before the bound
 pub record GoesUpTo (h : List Entry) (bound : ℕ) (before after : Samples) : Type 0 where
@@ -140,7 +140,7 @@ at_start history order = record {
   cursor = record {
     core = start_of history order;
     next = 0;
-    free = replicate 16 false;
+    free = replicate most_cpus false;
     sums = record {
       all = opened history.scenario.shape.window;
       free = opened history.scenario.shape.window;

@@ -13,7 +13,8 @@ no_lasts = record { lacked = replicate most_partitions 0; out = replicate most_p
 
 -- tick j passes, of which this is the note
 pub record IsPassed (j : ℕ) (note : Note) (before after : Lasts) : Type 0 where
-  pub lacked : (p : ℕ) → p < most_partitions → slice_index after.lacked p ≡ later (slice_index before.lacked p) (slice_index_or note.lacking p false) j
+  pub lacked : (p : ℕ) → p < most_partitions
+      → slice_index after.lacked p ≡ later (slice_index before.lacked p) (slice_index_or note.lacking p false) j
   pub out : (p : ℕ) → p < most_partitions → slice_index after.out p ≡ later (slice_index before.out p) (slice_index_or note.out p false) j
   pub starved : after.starved ≡ later before.starved note.starved j
   pub changed : after.changed ≡ later before.changed note.changed j

@@ -49,7 +49,8 @@ was_out scenario h p a b = any_of (out_test scenario p) scenario.shape.tick a b 
 
 -- the step of the entry, which follows on these, made a change
 abbrev pub changes_by : Scenario → List Entry → Entry → Bool
-changes_by scenario before e = nat_lt (length (state_after scenario before).changes) (length (state_after scenario (before ++ e ∷ [])).changes)
+changes_by scenario before e =
+    nat_lt (length (state_after scenario before).changes) (length (state_after scenario (before ++ e ∷ [])).changes)
 
 -- some step of ticks a to b-1 did
 unfoldable pub changes_in : Scenario → List Entry → ℕ → ℕ → Bool

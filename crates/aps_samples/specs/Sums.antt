@@ -2,6 +2,7 @@
 use Rattle.std.specs.Prelude.{◌≡◌, ℕ, ◌+◌, ◌-◌, ◌/◌, ◌<◌, ◌≤◌, ◌++◌, List, [], ◌∷◌, Bool, Some}
 use Rattle.aps_model.specs.declared.entry.Entry.{Entry}
 use Rattle.aps_model.specs.declared.shape.Shape.{Shape}
+use Rattle.aps_model.specs.Limits.{most_time_of_tick}
 use Rattle.aps_model.specs.Scenario.{Scenario}
 use Rattle.aps_window.specs.Entries.{IsInOneTick}
 use Rattle.aps_window.specs.Window.{Window, billed_on}
@@ -24,12 +25,13 @@ freed scenario h = freed_from scenario [] h
 -- the time of the entry has room in the tick at which the window stands
 pub record HasRoom (window : Window) (tick : ℕ) (e : Entry) : Type 0 where
   pub now : window.tick ≡ tick
-  pub fits : (p : ℕ) → e.billed ≡ Some p → e.from < e.to → billed_on window p tick + (e.to - e.from) ≤ 160000000
+  pub fits : (p : ℕ) → e.billed ≡ Some p → e.from < e.to → billed_on window p tick + (e.to - e.from) ≤ most_time_of_tick
 
 -- the window has the time of the entry too, with this mark
 abbrev pub GoesOnBy : Window → ℕ → Entry → Bool → Window → Type 0
 GoesOnBy before tick e mark after =
-    (shape : Shape) (h : List Entry) → Counts shape h tick before → IsInOneTick shape.tick e → (e.from < e.to → e.from / shape.tick ≡ tick) → Counts shape (h ++ marked e mark ∷ []) tick after
+    (shape : Shape) (h : List Entry) → Counts shape h tick before → IsInOneTick shape.tick e → (e.from < e.to → e.from / shape.tick ≡ tick)
+    → Counts shape (h ++ marked e mark ∷ []) tick after
 
 -- the shape with another window
 abbrev pub shape_with : Scenario → ℕ → Shape

@@ -1,7 +1,7 @@
 //! The last ticks in which something was so, as ticks pass.
 ghost use Rattle.std.specs.Prelude.{◌≡◌, ℕ, ◌+◌, ◌<◌, ◌≤◌, slice_index, slice_index_or, false, if◌then◌else◌};
 ghost use Rattle.aps_samples.specs.Passed.{IsPassed, later, no_lasts};
-ghost use Rattle.aps_model.specs.Limits.{most_partitions};
+ghost use Rattle.aps_model.specs.Limits.{last_tick, most_partitions};
 
 use crate::note::Note;
 use aps_model::limits::MOST_PARTITIONS;
@@ -31,7 +31,7 @@ impl Lasts {
 
     /// Tick `j` passes, of which this is the note.
     pub fn pass(&mut self, note: &Note, j: u64)
-        requires { j ≤ 100000000 }
+        requires { j ≤ last_tick }
         ensures { IsPassed j note.now self.old self.new }
     {
         self.lacked = all_later(&self.lacked, &note.lacking, j);
@@ -43,7 +43,7 @@ impl Lasts {
 
 /// Of each partition, the tick after `j` where it was so in that.
 fn all_later(lasts: &[u64; 32], was: &[bool; 32], j: u64) -> [u64; 32]
-    requires { j ≤ 100000000 }
+    requires { j ≤ last_tick }
     ensures { (p : ℕ) → p < most_partitions → slice_index result p ≡ later (slice_index lasts.now p) (slice_index_or was.now p false) j }
 {
     let mut all = [0; MOST_PARTITIONS];
@@ -55,7 +55,7 @@ fn all_later(lasts: &[u64; 32], was: &[bool; 32], j: u64) -> [u64; 32]
 
 /// The tick after `j` where it was so in that.
 fn later(last: u64, was: bool, j: u64) -> u64
-    requires { j ≤ 100000000 }
+    requires { j ≤ last_tick }
     ensures { result ≡ later last was j }
 {
     if was { j + 1 } else { last }

@@ -66,7 +66,8 @@ fn no_part() -> PartFacts
 fn lacking(core: &Core, parts: &[PartFacts], e: &Entry) -> [bool; 32]
     requires last { (before : List Entry) × (core.now.entries ≡ before ++ e.now ∷ []) }
     requires parts { parts.now ≡ parts_now (state_of core.now) core.now.entries }
-    ensures { (p : ℕ) → p < most_partitions → slice_index_or result p false ≡ not (had_candidate (state_of core.now) core.now.entries e.now.cpu p) }
+    ensures { (p : ℕ) → p < most_partitions
+        → slice_index_or result p false ≡ not (had_candidate (state_of core.now) core.now.entries e.now.cpu p) }
 {
     // the check wants to see here that the entries of the core are legal
     let _history = core.history();

@@ -1,7 +1,7 @@
 //! What is noted of one tick.
 ghost use Rattle.std.specs.Prelude.{◌≡◌, ℕ, ◌<◌, ◌≤◌, ◌/◌, ◌*◌, ◌||◌, All, slice_index, slice_index_or, false};
 ghost use Rattle.aps_model.specs.Audit.{allowance};
-ghost use Rattle.aps_model.specs.Limits.{most_partitions};
+ghost use Rattle.aps_model.specs.Limits.{most_partitions, thousandths};
 ghost use Rattle.aps_model.specs.Partition.{IsRow, row_or_none};
 ghost use Rattle.aps_model.specs.Shape.{IsShape};
 ghost use Rattle.aps_core.specs.Run.{state_of};
@@ -70,7 +70,8 @@ impl Note {
 
 /// Of each partition, whether one or the other holds.
 fn either(a: &[bool; 32], b: &[bool; 32]) -> [bool; 32]
-    ensures { (p : ℕ) → p < most_partitions → slice_index_or result p false ≡ (slice_index_or a.now p false || slice_index_or b.now p false) }
+    ensures { (p : ℕ) → p < most_partitions
+        → slice_index_or result p false ≡ (slice_index_or a.now p false || slice_index_or b.now p false) }
 {
     let mut all = [false; MOST_PARTITIONS];
     for p in 0..MOST_PARTITIONS {
@@ -106,7 +107,7 @@ fn allowance_at(shape: &Shape, rows: &[PartitionRow], p: usize) -> Nanos
 /// The time that a budget allows in a window, in ns.
 fn allowance(shape: &Shape, budget: u16) -> Nanos
     requires shape { IsShape shape.now }
-    requires budget { budget ≤ 1000 }
+    requires budget { budget ≤ thousandths }
     ensures { result ≡ allowance shape.now budget }
 {
     u64::from(budget) * shape.whole() / u64::from(shape.parts)

@@ -8,7 +8,7 @@ ghost use Rattle.aps_model.specs.Valid.{IsScenario};
 ghost use Rattle.aps_samples.specs.Look.{IsLook};
 ghost use Rattle.aps_samples.specs.Pass.{BeginsIfMet, GoesUpTo, IsAt, IsReady, IsUpTo, KeepsNotes, Opens, RunsIn, at_start, entry_at, is_before, order_of, scenario_of};
 ghost use Rattle.aps_samples.specs.Sample.{sample_of};
-ghost use Rattle.aps_model.specs.Limits.{most_entries, most_partitions};
+ghost use Rattle.aps_model.specs.Limits.{last_tick, most_entries, most_partitions};
 
 use crate::lasts::Lasts;
 use crate::look::Look;
@@ -82,7 +82,7 @@ impl Samples {
         requires at { IsAt history.now.entries self.old }
         requires of { scenario_of self.old.cursor ≡ history.now.scenario }
         requires finished { self.old.tick < finished_ticks history.now.scenario.shape history.now.entries }
-        requires few { self.old.tick < 100000000 }
+        requires few { self.old.tick < last_tick }
         ensures same { result ≡ sample_of history.now.scenario history.now.entries self.old.tick }
         ensures at { IsAt history.now.entries self.new }
         ensures of { scenario_of self.new.cursor ≡ history.now.scenario }

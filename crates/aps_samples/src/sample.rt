@@ -1,6 +1,7 @@
 //! The sample of a finished tick.
 ghost use Rattle.std.specs.Prelude.{◌≡◌, ℕ, ◌+◌, ◌≤◌, slice_index, nat_lt, not, ◌&&◌};
 ghost use Rattle.aps_model.specs.After.{state_after};
+ghost use Rattle.aps_model.specs.Limits.{last_tick};
 ghost use Rattle.aps_model.specs.Loaded.{has_change};
 ghost use Rattle.aps_samples.specs.Lasts.{AreLasts};
 ghost use Rattle.aps_samples.specs.Note.{IsNote};
@@ -41,7 +42,7 @@ pub fn sample_at(history: &History, note: &Note, lasts: &Lasts, sums: &Sums, j: 
     requires changes { (a b : ℕ)
         → has_change (state_after history.now.scenario history.now.entries).changes a b
         ≡ changes_in history.now.scenario history.now.entries a b }
-    requires j { j ≤ 100000000 }
+    requires j { j ≤ last_tick }
     ensures { result ≡ sample_of history.now.scenario history.now.entries j }
 {
     let end = j + 1;

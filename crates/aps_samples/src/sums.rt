@@ -1,7 +1,7 @@
 //! What each partition was billed in the last ticks, and what of that was critical, and what ran in free time.
 ghost use Rattle.std.specs.Prelude.{◌≡◌, ℕ, ◌+◌, ◌-◌, ◌<◌, ◌≤◌, List, IfOk, Some};
 ghost use Rattle.aps_model.specs.History.{IsEntry};
-ghost use Rattle.aps_model.specs.Limits.{longest_window};
+ghost use Rattle.aps_model.specs.Limits.{last_tick, longest_window, shortest_window};
 ghost use Rattle.aps_window.specs.Window.{advanced, opened, resized};
 ghost use Rattle.aps_core.specs.Counts.{critical_in, used_in};
 ghost use Rattle.aps_samples.specs.Sums.{GoesOnBy, HasRoom};
@@ -23,7 +23,7 @@ pub struct Sums {
 impl Sums {
     /// Nothing billed; the last `window` ticks count, 8 to 400. `NoMemory` comes where memory runs out.
     pub fn new(alloc: Global, window: u16) -> Result<Sums, NoMemory>
-        requires least { 8 ≤ window }
+        requires least { shortest_window ≤ window }
         requires most { window ≤ longest_window }
         ensures { IfOk result (λ sums. sums ≡ record { all = opened window; free = opened window; span = window }) }
     {
@@ -51,7 +51,7 @@ impl Sums {
 
     /// From now on the last `window` ticks count, 8 to 400.
     pub fn resize(&mut self, window: u16)
-        requires least { 8 ≤ window }
+        requires least { shortest_window ≤ window }
         requires most { window ≤ longest_window }
         requires all { self.old.all.span ≡ self.old.span }
         requires free { self.old.free.span ≡ self.old.span }
@@ -66,8 +66,8 @@ impl Sums {
 
     /// Goes on to the next tick.
     pub fn go_on(&mut self)
-        requires all { self.old.all.tick < 100000000 }
-        requires free { self.old.free.tick < 100000000 }
+        requires all { self.old.all.tick < last_tick }
+        requires free { self.old.free.tick < last_tick }
         ensures { self.new ≡ record { all = advanced 1 self.old.all; free = advanced 1 self.old.free; span = self.old.span } }
     {
         self.all.advance(1);

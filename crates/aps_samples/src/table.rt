@@ -6,7 +6,7 @@ ghost use Rattle.aps_model.specs.Legal.{IsLegal};
 ghost use Rattle.aps_model.specs.Loaded.{finished_ticks};
 ghost use Rattle.aps_samples.specs.Csv.{bit, csv_text, first_cells, head_line, line_at, part_cells, past_of, row_titles, sample_line};
 ghost use Rattle.aps_samples.specs.Pass.{IsAt, scenario_of};
-ghost use Rattle.aps_model.specs.Limits.{longest_tick, most_entries, most_partitions};
+ghost use Rattle.aps_model.specs.Limits.{last_tick, longest_tick, most_entries, most_partitions};
 
 use crate::pass::Samples;
 use crate::retracing::rows_after;
@@ -141,7 +141,7 @@ fn add_lines(
     requires of { scenario_of samples.old.cursor ≡ history.now.scenario }
     requires first { samples.old.tick ≡ 0 }
     requires finished { end ≤ finished_ticks history.now.scenario.shape history.now.entries }
-    requires few { end ≤ 100000000 }
+    requires few { end ≤ last_tick }
     ensures { OnOk result (string_bytes out.new
         ≡ string_bytes out.old ++ flat_map (line_at history.now.scenario history.now.entries) (range_with_len first (end - first))) }
 {
@@ -158,7 +158,7 @@ fn add_lines(
 fn add_line(out: &mut String, tick: u64, rows: usize, sample: &Sample) -> Result<(), NoMemory>
     requires tick { tick ≤ longest_tick }
     requires rows { rows ≤ most_partitions }
-    requires sample { sample.now.tick ≤ 100000000 }
+    requires sample { sample.now.tick ≤ last_tick }
     ensures { OnOk result (string_bytes out.new ≡ string_bytes out.old ++ sample_line tick rows sample.now) }
 {
     add_first(out, tick, sample)?;
@@ -179,7 +179,7 @@ fn add_parts(out: &mut String, sample: &Sample, rows: usize) -> Result<(), NoMem
 
 fn add_first(out: &mut String, tick: u64, sample: &Sample) -> Result<(), NoMemory>
     requires tick { tick ≤ longest_tick }
-    requires sample { sample.now.tick ≤ 100000000 }
+    requires sample { sample.now.tick ≤ last_tick }
     ensures { OnOk result (string_bytes out.new ≡ string_bytes out.old ++ first_cells tick sample.now) }
 {
     let end = (sample.tick + 1) * tick;

@@ -6,6 +6,7 @@ use Rattle.toml.specs.Data.{Data, Members, get_member}
 use Rattle.aps_model.specs.declared.command.Call.{Call}
 use Rattle.aps_model.specs.declared.command.Call.TheVariants as call
 use Rattle.aps_model.specs.declared.scenario.ThreadRow.{ThreadRow}
+use Rattle.aps_model.specs.Limits.{longest_window, most_critical, shortest_window}
 use Rattle.aps_model.specs.Name.{IsName}
 use Rattle.aps_model.specs.Scenario.{no_thread_row}
 use Rattle.aps_model.specs.Valid.{IsCall, IsWindow, created_name}
@@ -69,7 +70,7 @@ module _ (parts : ℕ) (place : Place) (t : Members) (asked : Call) where
       let max = bind-ok (value_of (row_max 0 parts) place t) _ asked critical.2 in
       let none : ℕ = 0 in
       let budget_range = required-ok Budget 0 parts 1 place t budget.0 budget.1 in
-      let critical_range = defaulted-ok Critical 0 64000000000 1 none place t critical.0 (record { above = omega arith; below = omega arith; whole = refl }) critical.1 in
+      let critical_range = defaulted-ok Critical 0 most_critical 1 none place t critical.0 (record { above = omega arith; below = omega arith; whole = refl }) critical.1 in
       let max_range = defaulted-ok Max 0 parts 1 parts place t max.0 (record { above = omega arith; below = omega arith; whole = omega arith }) max.1 in
       let found : Call = call.Create name.0 parent.0 budget.0 critical.0 max.0 in
       let same : found ≡ asked = ok-same found asked _ refl max.2 in
@@ -122,7 +123,7 @@ module _ (parts : ℕ) (place : Place) (t : Members) (asked : Call) where
         named = named-ok Partition place t partition.0 partition.1;
         some = one;
         few_parts = below budget.0 parts (ranged Budget 0 parts None place t budget.0 budget.1);
-        short_critical = below critical.0 64000000000 (ranged Critical 0 64000000000 (Some 0) place t critical.0 critical.1);
+        short_critical = below critical.0 most_critical (ranged Critical 0 most_critical (Some 0) place t critical.0 critical.1);
         max_parts = below max.0 parts (ranged Max 0 parts (Some parts) place t max.0 max.1);
       }) refl
     where
@@ -156,9 +157,9 @@ module _ (parts : ℕ) (place : Place) (t : Members) (asked : Call) where
           ]
         ]
       ] in
-      others threads found same (one, windowed window.0 (ranged Window 8 400 (Some 100) place t window.0 window.1)) refl
+      others threads found same (one, windowed window.0 (ranged Window shortest_window longest_window (Some 100) place t window.0 window.1)) refl
     where
-      windowed : (x : Option ℕ) → IfSome x (InRange 8 400 1) → IfSome x IsWindow
+      windowed : (x : Option ℕ) → IfSome x (InRange shortest_window longest_window 1) → IfSome x IsWindow
       windowed None range = tt
       windowed (Some n) range = record { long = range.above; short = range.below }
 

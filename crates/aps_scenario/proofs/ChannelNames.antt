@@ -5,6 +5,7 @@ use Rattle.std.proofs.lemmas.Map.Keys.{IsDistinct-push}
 use Rattle.std.proofs.lemmas.Cmp.{nat_list_eq_equiv}
 use Rattle.std.specs.List.{IsDistinct}
 use Rattle.std.specs.Str.{bytes_eq}
+use Rattle.aps_model.specs.Limits.{most_channels}
 use Rattle.toml.specs.Data.{Data, Members}
 use Rattle.aps_model.specs.Name.{IsName}
 use Rattle.aps_scenario.specs.declared.key.Key.TheVariants.{Channel, Name}
@@ -47,15 +48,15 @@ more n channels new read is_new = record {
 }
 
 pub record AreChannels (channels : List (List ℕ)) : Type 0 where
-  pub few : length channels ≤ 256
+  pub few : length channels ≤ most_channels
   pub each : All IsName channels
   pub distinct : IsDistinct bytes_eq channels
 
 pub channels_at-ok : (t : Members) (channels : List (List ℕ)) → channels_at t ≡ Ok channels → AreChannels channels
 unfolding IsDistinct channels_at
 channels_at-ok t channels e =
-    let elements = bind-ok (value_of (row_tables Channel 256) place.Top t) _ channels e in
-    let few : items_len elements.0 ≤ 256 = tables-ok Channel 256 place.Top t elements.0 elements.1 in
+    let elements = bind-ok (value_of (row_tables Channel most_channels) place.Top t) _ channels e in
+    let few : items_len elements.0 ≤ most_channels = tables-ok Channel most_channels place.Top t elements.0 elements.1 in
     let none : AreRead 0 [] = record { count = refl; each = All-nil IsName; distinct = tt } in
     let read : AreRead (0 + items_len elements.0) channels =
     read_each-keeps next_channel channels_with_new AreRead (λ n so_far d new before read. more n so_far new before (next_channel-ok so_far d new read)) elements.0 0 [] channels none elements.2 in

@@ -7,6 +7,7 @@ use Rattle.toml.specs.Data.{Data, Items, no_items, item, Members, get_member, as
 use Rattle.aps_model.specs.declared.command.CommandRow.{CommandRow}
 use Rattle.aps_model.specs.declared.scenario.ThreadRow.{ThreadRow}
 use Rattle.aps_model.specs.declared.shape.Shape.{Shape}
+use Rattle.aps_model.specs.Limits.{most_commands}
 use Rattle.aps_model.specs.Valid.{IsCommand, created_name as created_by}
 use Rattle.aps_scenario.specs.declared.key.Key.TheVariants.{Command, Name, Tick}
 use Rattle.aps_scenario.specs.declared.kind.Kind.{Kind}
@@ -132,12 +133,12 @@ module _ (shape : Shape) (threads : List ThreadRow) (some_tick : 1 ≤ shape.tic
       ∙ append_assoc (names_of so_far) (listed (created_name d)) (created_names rest)
 
   pub record AreCommands (t : Members) (commands : List CommandRow) : Type 0 where
-    pub few : length commands ≤ 1024
+    pub few : length commands ≤ most_commands
     pub each : All IsOne commands
     pub names : created_at t ≡ names_of commands
 
   -- the array of commands, as it is looked at for names
-  array_in : (t : Members) (items : Items) → value_of (row_tables Command 1024) place.Top t ≡ Ok items → items_or_none (commands_in t) ≡ items
+  array_in : (t : Members) (items : Items) → value_of (row_tables Command most_commands) place.Top t ≡ Ok items → items_or_none (commands_in t) ≡ items
   array_in t items e = by_member (get_member (key_text Command) t) e
     where
       or_wrong : (o : Option Items) (x : Items) → or_wrong_kind o ≡ Ok x → o ≡ Some x
@@ -148,21 +149,21 @@ module _ (shape : Shape) (threads : List ThreadRow) (some_tick : 1 ≤ shape.tic
       ok_at (Ok x) e = cc
       ok_at (Err kind) e = absurd (cc)
 
-      by_array : (d : Data) → array_of 0 1024 d ≡ Ok items → items_or_none (as_array d) ≡ items
+      by_array : (d : Data) → array_of 0 most_commands d ≡ Ok items → items_or_none (as_array d) ≡ items
       by_array d e =
           let p = bind-ok (or_wrong_kind (as_array d)) _ items e in
-          let q = cond-ok (nat_le 0 (items_len p.0) && nat_le (items_len p.0) 1024) p.0 items OutOfRange p.2 in
+          let q = cond-ok (nat_le 0 (items_len p.0) && nat_le (items_len p.0) most_commands) p.0 items OutOfRange p.2 in
           ap items_or_none (or_wrong (as_array d) p.0 p.1) ∙ q.1
 
-      by_member : (o : Option Data) → at_key place.Top Command (given (row_tables Command 1024) o) ≡ Ok items → items_or_none (then_of o as_array) ≡ items
+      by_member : (o : Option Data) → at_key place.Top Command (given (row_tables Command most_commands) o) ≡ Ok items → items_or_none (then_of o as_array) ≡ items
       by_member None e = cc
-      by_member (Some d) e = by_array d (ok_at (array_of 0 1024 d) e)
+      by_member (Some d) e = by_array d (ok_at (array_of 0 most_commands d) e)
 
   pub commands_at-ok : (t : Members) (commands : List CommandRow) → commands_at shape threads t ≡ Ok commands → AreCommands t commands
   unfolding commands_at
   commands_at-ok t commands e =
-      let elements = bind-ok (value_of (row_tables Command 1024) place.Top t) _ commands e in
-      let few : items_len elements.0 ≤ 1024 = tables-ok Command 1024 place.Top t elements.0 elements.1 in
+      let elements = bind-ok (value_of (row_tables Command most_commands) place.Top t) _ commands e in
+      let few : items_len elements.0 ≤ most_commands = tables-ok Command most_commands place.Top t elements.0 elements.1 in
       let none : AreRead 0 [] = record { count = refl; each = All-nil IsOne } in
       let read : AreRead (0 + items_len elements.0) commands =
       read_each-keeps (next_command shape threads) commands_with_new AreRead

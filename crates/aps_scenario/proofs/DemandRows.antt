@@ -11,6 +11,7 @@ use Rattle.aps_model.specs.declared.demand.Demand.{Demand}
 use Rattle.aps_model.specs.declared.shape.Shape.{Shape}
 use Rattle.aps_model.specs.declared.shape.Free.TheVariants.{Priority}
 use Rattle.aps_model.specs.declared.shape.Bankruptcy.TheVariants.{Basic}
+use Rattle.aps_model.specs.Limits.{longest_tick, longest_window, microsecond, most_cpus, most_critical, most_demands, shortest_tick, shortest_window}
 use Rattle.aps_model.specs.Shape.{IsShape}
 use Rattle.aps_scenario.specs.declared.key.Key.TheVariants as key
 use Rattle.aps_scenario.specs.declared.kind.Kind.TheVariants.{Duplicate}
@@ -47,9 +48,9 @@ sizes_at-ok t shape e =
     let same : found ≡ shape = ok-same found shape _ refl window.2 in
     let million : ℕ = 1000000 in
     let hundred : ℕ = 100 in
-    let cpus_range = required-ok key.Cpus 1 16 1 place.Top t cpus.0 cpus.1 in
-    let tick_range = defaulted-ok key.Tick 100000 10000000 1000 million place.Top t tick.0 (record { above = omega arith; below = omega arith; whole = refl }) tick.1 in
-    let window_range = defaulted-ok key.Window 8 400 1 hundred place.Top t window.0 (record { above = omega arith; below = omega arith; whole = refl }) window.1 in
+    let cpus_range = required-ok key.Cpus 1 most_cpus 1 place.Top t cpus.0 cpus.1 in
+    let tick_range = defaulted-ok key.Tick shortest_tick longest_tick microsecond million place.Top t tick.0 (record { above = omega arith; below = omega arith; whole = refl }) tick.1 in
+    let window_range = defaulted-ok key.Window shortest_window longest_window 1 hundred place.Top t window.0 (record { above = omega arith; below = omega arith; whole = refl }) window.1 in
     subst IsShape same (record {
       parts = parts_of-either version.0;
       some_cpu = cpus_range.above;
@@ -86,7 +87,7 @@ next_demand-ok demands d new e =
     let need = bind-ok (value_of row_need here p.0) _ new other.2 in
     let found : Demand = record { name = name.0; need = need.0 } in
     let same : found ≡ new = ok-same found new _ refl need.2 in
-    let range = required-ok key.Need 0 64000000000 1 here p.0 need.0 need.1 in
+    let range = required-ok key.Need 0 most_critical 1 here p.0 need.0 need.1 in
     let apart = neither (bytes_eq name.0 system_name) (is_among demands name.0) (refuse_if-ok _ _ _ _ other.0 other.1) in
     let is_new : IsNew demands found = record { need = range.below; system = differs name.0 apart.0; other = apart.1 } in
     subst (IsNew demands) same is_new
@@ -117,8 +118,8 @@ pub AreDemands-from_parts : (t : Members) (shape : Shape) (demands : List Demand
     → AreDemands (record { shape = shape; demands = demands })
 unfolding IsDistinct asked_at
 AreDemands-from_parts t shape demands sizes e =
-    let elements = bind-ok (value_of (row_tables key.Demand 31) place.Top t) _ demands e in
-    let few : items_len elements.0 ≤ 31 = tables-ok key.Demand 31 place.Top t elements.0 elements.1 in
+    let elements = bind-ok (value_of (row_tables key.Demand most_demands) place.Top t) _ demands e in
+    let few : items_len elements.0 ≤ most_demands = tables-ok key.Demand most_demands place.Top t elements.0 elements.1 in
     let none : AreRead 0 [] = record { count = refl; needs = All-nil IsNeed; distinct = tt; others = All-nil (λ (demand : Demand). demand.name ≢ system_name) } in
     let read : AreRead (0 + items_len elements.0) demands =
     read_each-keeps next_demand demands_with_new AreRead (λ n so_far d new before step. more n so_far new before (next_demand-ok so_far d new step)) elements.0 0 [] demands none elements.2 in

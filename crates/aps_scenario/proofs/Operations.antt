@@ -9,6 +9,7 @@ use Rattle.std.specs.Char.{is_ascii_digit}
 use Rattle.std.specs.Str.{bytes_eq}
 use Rattle.aps_model.specs.declared.program.Op.{Op}
 use Rattle.aps_model.specs.declared.program.Op.TheVariants.{Run, Forever, Sleep, Yield, Send, Receive, Reply, Join, Priority, CriticalOn, CriticalOff, Repeat, Exit}
+use Rattle.aps_model.specs.Limits.{greatest_priority, last_moment}
 use Rattle.aps_model.specs.Program.{IsOp}
 use Rattle.aps_scenario.specs.declared.operation.OperationFault.{OperationFault}
 use Rattle.aps_scenario.specs.declared.operation.OperationFault.TheVariants.{Unknown, Bad}
@@ -76,9 +77,9 @@ module _ (channels joinable : List (List ℕ)) (op : Op) where
   numbered make most (Some n) within valid e = subst (IsOp (length channels) joinable) (cc) (valid n (within n refl))
 
   run-ok : (text : List ℕ) → run text ≡ Ok op → IsRead
-  run-ok text e = by_number (number 10000000000000 text) (number-ok 10000000000000 text) e
+  run-ok text e = by_number (number last_moment text) (number-ok last_moment text) e
     where
-      by_number : (o : Option ℕ) → ((n : ℕ) → o ≡ Some n → IsUpTo 10000000000000 n) → run_or_forever o text ≡ Ok op → IsRead
+      by_number : (o : Option ℕ) → ((n : ℕ) → o ≡ Some n → IsUpTo last_moment n) → run_or_forever o text ≡ Ok op → IsRead
       by_number (Some n) within e =
           let range = within n refl in
           subst (IsOp (length channels) joinable) {x = Run n} (cc) (record { some = range.some; short = range.few })
@@ -88,10 +89,10 @@ module _ (channels joinable : List (List ℕ)) (op : Op) where
 
   sleep-ok : (text : List ℕ) → sleep text ≡ Ok op → IsRead
   sleep-ok text e =
-      numbered Sleep 10000000000000 (number 10000000000000 text) (number-ok 10000000000000 text) (λ n range. record { some = range.some; short = range.few }) e
+      numbered Sleep last_moment (number last_moment text) (number-ok last_moment text) (λ n range. record { some = range.some; short = range.few }) e
 
   priority-ok : (text : List ℕ) → priority text ≡ Ok op → IsRead
-  priority-ok text e = numbered Priority 255 (number 255 text) (number-ok 255 text) (λ n range. record { some = range.some; few = range.few }) e
+  priority-ok text e = numbered Priority greatest_priority (number greatest_priority text) (number-ok greatest_priority text) (λ n range. record { some = range.some; few = range.few }) e
 
   channel-ok : (name : List ℕ) (c : ℕ) → channel channels name ≡ Ok c → c < length channels
   channel-ok name c e =

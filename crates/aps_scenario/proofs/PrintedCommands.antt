@@ -14,6 +14,7 @@ use Rattle.aps_model.specs.declared.shape.Free.{Free}
 use Rattle.aps_model.specs.declared.shape.Free.TheVariants as free
 use Rattle.aps_model.specs.declared.shape.Bankruptcy.{Bankruptcy}
 use Rattle.aps_model.specs.declared.shape.Bankruptcy.TheVariants.{Basic, Cancel, Reboot}
+use Rattle.aps_model.specs.Limits.{longest_window, most_critical, shortest_window}
 use Rattle.aps_model.specs.Name.{IsName}
 use Rattle.aps_model.specs.Scenario.{no_thread_row}
 use Rattle.aps_model.specs.Valid.{IsCall, IsCommand}
@@ -63,7 +64,7 @@ module _ (shape : Shape) (threads : List ThreadRow) (named : All (λ (row : Thre
         le-leb budget shape.parts is.few_parts,
         no_rest budget,
         le-leb 0 critical (omega arith),
-        le-leb critical 64000000000 is.short_critical,
+        le-leb critical most_critical is.short_critical,
         no_rest critical,
         le-leb 0 max (omega arith),
         le-leb max shape.parts is.max_parts,
@@ -90,7 +91,7 @@ module _ (shape : Shape) (threads : List ThreadRow) (named : All (λ (row : Thre
         no_rest tick,
         is_name-true partition is.named,
         le-leb 0 critical (omega arith),
-        le-leb critical 64000000000 is.short_critical,
+        le-leb critical most_critical is.short_critical,
         no_rest critical,
       ) refl
   modify-reads partition None (Some critical) (Some max) tick place within is =
@@ -100,7 +101,7 @@ module _ (shape : Shape) (threads : List ThreadRow) (named : All (λ (row : Thre
         no_rest tick,
         is_name-true partition is.named,
         le-leb 0 critical (omega arith),
-        le-leb critical 64000000000 is.short_critical,
+        le-leb critical most_critical is.short_critical,
         no_rest critical,
         le-leb 0 max (omega arith),
         le-leb max shape.parts is.max_parts,
@@ -139,7 +140,7 @@ module _ (shape : Shape) (threads : List ThreadRow) (named : All (λ (row : Thre
         le-leb budget shape.parts is.few_parts,
         no_rest budget,
         le-leb 0 critical (omega arith),
-        le-leb critical 64000000000 is.short_critical,
+        le-leb critical most_critical is.short_critical,
         no_rest critical,
       ) refl
   modify-reads partition (Some budget) (Some critical) (Some max) tick place within is =
@@ -152,7 +153,7 @@ module _ (shape : Shape) (threads : List ThreadRow) (named : All (λ (row : Thre
         le-leb budget shape.parts is.few_parts,
         no_rest budget,
         le-leb 0 critical (omega arith),
-        le-leb critical 64000000000 is.short_critical,
+        le-leb critical most_critical is.short_critical,
         no_rest critical,
         le-leb 0 max (omega arith),
         le-leb max shape.parts is.max_parts,
@@ -220,8 +221,8 @@ module _ (shape : Shape) (threads : List ThreadRow) (named : All (λ (row : Thre
         le-leb 0 tick (omega arith),
         le-leb tick (shape.ticks - 1) (omega arith),
         no_rest tick,
-        le-leb 8 window is.1.long,
-        le-leb window 400 is.1.short,
+        le-leb shortest_window window is.1.long,
+        le-leb window longest_window is.1.short,
         no_rest window,
       ) refl
   set_parameters-reads (Some window) None None (Some bankruptcy) tick place within is =
@@ -229,8 +230,8 @@ module _ (shape : Shape) (threads : List ThreadRow) (named : All (λ (row : Thre
         le-leb 0 tick (omega arith),
         le-leb tick (shape.ticks - 1) (omega arith),
         no_rest tick,
-        le-leb 8 window is.1.long,
-        le-leb window 400 is.1.short,
+        le-leb shortest_window window is.1.long,
+        le-leb window longest_window is.1.short,
         no_rest window,
         bankruptcy-reads bankruptcy,
       ) refl
@@ -239,8 +240,8 @@ module _ (shape : Shape) (threads : List ThreadRow) (named : All (λ (row : Thre
         le-leb 0 tick (omega arith),
         le-leb tick (shape.ticks - 1) (omega arith),
         no_rest tick,
-        le-leb 8 window is.1.long,
-        le-leb window 400 is.1.short,
+        le-leb shortest_window window is.1.long,
+        le-leb window longest_window is.1.short,
         no_rest window,
       ) refl
   set_parameters-reads (Some window) None (Some limit) (Some bankruptcy) tick place within is =
@@ -248,8 +249,8 @@ module _ (shape : Shape) (threads : List ThreadRow) (named : All (λ (row : Thre
         le-leb 0 tick (omega arith),
         le-leb tick (shape.ticks - 1) (omega arith),
         no_rest tick,
-        le-leb 8 window is.1.long,
-        le-leb window 400 is.1.short,
+        le-leb shortest_window window is.1.long,
+        le-leb window longest_window is.1.short,
         no_rest window,
         bankruptcy-reads bankruptcy,
       ) refl
@@ -258,8 +259,8 @@ module _ (shape : Shape) (threads : List ThreadRow) (named : All (λ (row : Thre
         le-leb 0 tick (omega arith),
         le-leb tick (shape.ticks - 1) (omega arith),
         no_rest tick,
-        le-leb 8 window is.1.long,
-        le-leb window 400 is.1.short,
+        le-leb shortest_window window is.1.long,
+        le-leb window longest_window is.1.short,
         no_rest window,
         free-reads word,
       ) refl
@@ -268,8 +269,8 @@ module _ (shape : Shape) (threads : List ThreadRow) (named : All (λ (row : Thre
         le-leb 0 tick (omega arith),
         le-leb tick (shape.ticks - 1) (omega arith),
         no_rest tick,
-        le-leb 8 window is.1.long,
-        le-leb window 400 is.1.short,
+        le-leb shortest_window window is.1.long,
+        le-leb window longest_window is.1.short,
         no_rest window,
         free-reads word,
         bankruptcy-reads bankruptcy,
@@ -279,8 +280,8 @@ module _ (shape : Shape) (threads : List ThreadRow) (named : All (λ (row : Thre
         le-leb 0 tick (omega arith),
         le-leb tick (shape.ticks - 1) (omega arith),
         no_rest tick,
-        le-leb 8 window is.1.long,
-        le-leb window 400 is.1.short,
+        le-leb shortest_window window is.1.long,
+        le-leb window longest_window is.1.short,
         no_rest window,
         free-reads word,
       ) refl
@@ -289,8 +290,8 @@ module _ (shape : Shape) (threads : List ThreadRow) (named : All (λ (row : Thre
         le-leb 0 tick (omega arith),
         le-leb tick (shape.ticks - 1) (omega arith),
         no_rest tick,
-        le-leb 8 window is.1.long,
-        le-leb window 400 is.1.short,
+        le-leb shortest_window window is.1.long,
+        le-leb window longest_window is.1.short,
         no_rest window,
         free-reads word,
         bankruptcy-reads bankruptcy,

@@ -4,6 +4,7 @@ use Rattle.std.proofs.lemmas.List.{get_or-take, get_or_default, length-take-le, 
 use Rattle.std.proofs.lemmas.List.Elements.{All-get_or, All-append, All-from_recursion}
 use Rattle.std.proofs.Math.Seq.{take-set-lt, drop-cons}
 use Rattle.aps_model.specs.declared.partition.PartitionRow.{PartitionRow}
+use Rattle.aps_model.specs.Limits.{most_critical}
 use Rattle.aps_model.specs.Partition.{row_or_none, no_row, IsFundedRow}
 use Rattle.aps_model.specs.Valid.{IsTree}
 use Rattle.aps_scenario.specs.PrintedTree.{given_back, rows_before, listed}
@@ -94,7 +95,7 @@ abbrev pub HasParent : ℕ → PartitionRow → Type 0
 HasParent bound row = row.parent < bound
 
 abbrev pub HasShortCritical : PartitionRow → Type 0
-HasShortCritical row = row.critical ≤ 64000000000
+HasShortCritical row = row.critical ≤ most_critical
 
 pub listed-parents : (parts bound n : ℕ) (rows : List PartitionRow) → length rows ≡ suc n → suc n ≤ bound → IsTree parts rows → All (HasParent bound) (listed n rows)
 listed-parents parts bound zero rows count most tree = λ k d inside.

@@ -13,6 +13,7 @@ use Rattle.std.specs.List.{IsDistinct, list_any}
 use Rattle.std.specs.Str.{bytes_eq}
 use Rattle.aps_model.specs.declared.program.Op.{Op}
 use Rattle.aps_model.specs.declared.program.Op.TheVariants.{Run, Forever, Sleep, Yield, Send, Receive, Reply, Join, Priority, CriticalOn, CriticalOff, Repeat, Exit}
+use Rattle.aps_model.specs.Limits.{greatest_priority, last_moment}
 use Rattle.aps_model.specs.Name.{IsName}
 use Rattle.aps_model.specs.Program.{IsOp}
 use Rattle.aps_scenario.specs.Channels.{is_among}
@@ -70,9 +71,9 @@ among-IsName name (other ∷ names) each among =
 
 pub operation-reads : (channels joinable : List (List ℕ)) (op : Op) → All IsName channels → IsDistinct bytes_eq channels → All IsName joinable
     → IsOp (length channels) joinable op → operation_of channels joinable (operation_text channels op) ≡ Ok op
-operation-reads channels joinable (Run ns) named distinct names is = rw (number-decimal 10000000000000 ns (omega arith) is.some is.short) refl
+operation-reads channels joinable (Run ns) named distinct names is = rw (number-decimal last_moment ns (omega arith) is.some is.short) refl
 operation-reads channels joinable Forever named distinct names is = refl
-operation-reads channels joinable (Sleep ns) named distinct names is = rw (number-decimal 10000000000000 ns (omega arith) is.some is.short) refl
+operation-reads channels joinable (Sleep ns) named distinct names is = rw (number-decimal last_moment ns (omega arith) is.some is.short) refl
 operation-reads channels joinable Yield named distinct names is = refl
 operation-reads channels joinable (Send c) named distinct names is =
     rw (is_name-true (channel_name channels c) (All-get_or IsName channels c [] is named), channel-found channels c is distinct) refl
@@ -82,7 +83,7 @@ operation-reads channels joinable Reply named distinct names is = refl
 operation-reads channels joinable (Join name) named distinct names is =
     let among : is_among joinable name ≡ true = is in
     rw (is_name-true name (among-IsName name joinable names among), among) refl
-operation-reads channels joinable (Priority n) named distinct names is = rw (number-decimal 255 n (omega arith) is.some is.few) refl
+operation-reads channels joinable (Priority n) named distinct names is = rw (number-decimal greatest_priority n (omega arith) is.some is.few) refl
 operation-reads channels joinable CriticalOn named distinct names is = refl
 operation-reads channels joinable CriticalOff named distinct names is = refl
 operation-reads channels joinable Repeat named distinct names is = refl

@@ -7,6 +7,7 @@ use Rattle.std.specs.Str.{bytes_eq}
 use Rattle.toml.specs.Data.{Data}
 use Rattle.toml.specs.View.{items_of}
 use Rattle.aps_model.specs.declared.partition.PartitionRow.{PartitionRow}
+use Rattle.aps_model.specs.Limits.{most_critical}
 use Rattle.aps_model.specs.Partition.{row_or_none, no_row, partition_named, IsFundedRow}
 use Rattle.aps_model.specs.Name.{IsName}
 use Rattle.aps_model.specs.Valid.{IsTree}
@@ -45,7 +46,7 @@ partition-reads parts before rows place row is =
       le-leb row.budget parts budget,
       no_rest row.budget,
       le-leb 0 row.critical (omega arith),
-      le-leb row.critical 64000000000 is.ranges.critical,
+      le-leb row.critical most_critical is.ranges.critical,
       no_rest row.critical,
       le-leb row.budget row.max is.ranges.budget,
       le-leb row.max parts is.ranges.max,

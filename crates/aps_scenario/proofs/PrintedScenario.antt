@@ -13,6 +13,7 @@ use Rattle.aps_model.specs.declared.command.CommandRow.{CommandRow}
 use Rattle.aps_model.specs.declared.scenario.ThreadRow.{ThreadRow}
 use Rattle.aps_model.specs.declared.shape.Free.{Free as FreeType}
 use Rattle.aps_model.specs.declared.shape.Bankruptcy.{Bankruptcy as BankruptcyType}
+use Rattle.aps_model.specs.Limits.{last_partition, longest_call, longest_tick, longest_window, most_channels, most_commands, most_cpus, most_threads, most_ticks, percent, shortest_tick, shortest_window, thousandths}
 use Rattle.aps_model.specs.Scenario.{Scenario}
 use Rattle.aps_model.specs.Shape.{IsShape}
 use Rattle.aps_model.specs.Valid.{IsScenario, joinable}
@@ -45,11 +46,11 @@ use Rattle.aps_scenario.proofs.PrintedValues.{in_range-Ok}
 
 -- ---- sizes
 
-version-reads : (parts : ℕ) → (parts ≡ 100) ⊎ (parts ≡ 1000) → in_range 1 2 1 (version_of parts) ≡ Ok (version_of parts)
+version-reads : (parts : ℕ) → (parts ≡ percent) ⊎ (parts ≡ thousandths) → in_range 1 2 1 (version_of parts) ≡ Ok (version_of parts)
 version-reads parts (inl hundred) = rw hundred refl
 version-reads parts (inr thousand) = rw thousand refl
 
-version-parts : (parts : ℕ) → (parts ≡ 100) ⊎ (parts ≡ 1000) → parts_of (version_of parts) ≡ parts
+version-parts : (parts : ℕ) → (parts ≡ percent) ⊎ (parts ≡ thousandths) → parts_of (version_of parts) ≡ parts
 version-parts parts (inl hundred) = rw hundred refl
 version-parts parts (inr thousand) = rw thousand refl
 
@@ -59,13 +60,13 @@ shape-reads s is =
     rw (
       version-reads s.shape.parts is.parts,
       version-parts s.shape.parts is.parts,
-      in_range-Ok 1 16 s.shape.cpus is.some_cpu is.few_cpus,
-      le-leb 100000 s.shape.tick is.tick_long,
-      le-leb s.shape.tick 10000000 is.tick_short,
+      in_range-Ok 1 most_cpus s.shape.cpus is.some_cpu is.few_cpus,
+      le-leb shortest_tick s.shape.tick is.tick_long,
+      le-leb s.shape.tick longest_tick is.tick_short,
       is.tick_whole,
-      in_range-Ok 8 400 s.shape.window is.window_long is.window_short,
-      in_range-Ok 1 1000000 s.shape.ticks is.some_tick is.few_ticks,
-      in_range-Ok 1 100000 s.shape.call_ns is.some_call is.short_call,
+      in_range-Ok shortest_window longest_window s.shape.window is.window_long is.window_short,
+      in_range-Ok 1 most_ticks s.shape.ticks is.some_tick is.few_ticks,
+      in_range-Ok 1 longest_call s.shape.call_ns is.some_call is.short_call,
       free-reads s.shape.free,
       bankruptcy-reads s.shape.bankruptcy,
     ) refl
@@ -81,12 +82,12 @@ partitions-read s is =
     let rest = length-drop 1 (listed_rows s.partitions) in
     let size : items_len (items_of (map (partition_table s.partitions) (drop 1 (listed_rows s.partitions)))) ≡ length s.partitions - 1 =
     items_len-map (partition_table s.partitions) (drop 1 (listed_rows s.partitions)) ∙ omega arith in
-    rw (size, le-leb 0 (length s.partitions - 1) (omega arith), le-leb (length s.partitions - 1) 31 (omega arith)) (partition_array-reads s.shape.parts s.partitions is.tree)
+    rw (size, le-leb 0 (length s.partitions - 1) (omega arith), le-leb (length s.partitions - 1) last_partition (omega arith)) (partition_array-reads s.shape.parts s.partitions is.tree)
 
 channels_at-reads : (s : Scenario) → IsScenario s → channels_at (scenario_members s) ≡ Ok s.channels
 unfolding channels_at
 channels_at-reads s is =
-    rw (items_len-map channel_table s.channels, le-leb 0 (length s.channels) (omega arith), le-leb (length s.channels) 256 is.few_channels)
+    rw (items_len-map channel_table s.channels, le-leb 0 (length s.channels) (omega arith), le-leb (length s.channels) most_channels is.few_channels)
     (channels-read s.channels is.channels is.channel_names)
 
 -- ---- threads and commands
@@ -98,13 +99,13 @@ threads_at-reads s is =
       joinable-reads s is,
       items_len-map (thread_table s.partitions s.channels) s.threads,
       le-leb 0 (length s.threads) (omega arith),
-      le-leb (length s.threads) 1024 is.few_threads,
+      le-leb (length s.threads) most_threads is.few_threads,
     ) (threads-read s.channels (joinable s) is.channels is.channel_names (joinable-IsName s is) s.shape.parts s.partitions is.tree s.threads is.threads is.thread_names)
 
 commands_at-reads : (s : Scenario) → IsScenario s → commands_at s.shape s.threads (scenario_members s) ≡ Ok s.commands
 unfolding commands_at
 commands_at-reads s is =
-    rw (items_len-map (command_table s.threads) s.commands, le-leb 0 (length s.commands) (omega arith), le-leb (length s.commands) 1024 is.few_commands)
+    rw (items_len-map (command_table s.threads) s.commands, le-leb 0 (length s.commands) (omega arith), le-leb (length s.commands) most_commands is.few_commands)
     (commands-read s.shape s.threads (λ k d within. (is.threads k d within).name) is.thread_names s.commands is.commands)
 
 -- ---- how deep arrays and tables nest

@@ -12,6 +12,7 @@ use Rattle.aps_model.specs.declared.program.Op.{Op}
 use Rattle.aps_model.specs.declared.scenario.Policy.{Policy as PolicyType}
 use Rattle.aps_model.specs.declared.scenario.Policy.TheVariants.{Fifo, Rr}
 use Rattle.aps_model.specs.declared.scenario.ThreadRow.{ThreadRow}
+use Rattle.aps_model.specs.Limits.{greatest_priority, most_operations}
 use Rattle.aps_model.specs.Name.{IsName}
 use Rattle.aps_model.specs.Partition.{row_or_none, no_row, partition_named, IsFundedRow}
 use Rattle.aps_model.specs.Program.{IsProgram, IsOp, is_last_op, ends_well}
@@ -105,7 +106,7 @@ module _ (channels joinable : List (List ℕ)) (named : All IsName channels) (di
   unfolding program_at
   program-reads thread t ops there is =
       let size : items_len (items_of (map (λ op. string (operation_text channels op)) ops)) ≡ length ops = items_len-map (λ op. string (operation_text channels op)) ops in
-      rw (there, size, le-leb 1 (length ops) (some-operation ops is.ends), le-leb (length ops) 256 is.few, size) (operations-read thread ops is)
+      rw (there, size, le-leb 1 (length ops) (some-operation ops is.ends), le-leb (length ops) most_operations is.few, size) (operations-read thread ops is)
 
   -- ---- threads
 
@@ -127,7 +128,7 @@ module _ (channels joinable : List (List ℕ)) (named : All IsName channels) (di
           is_name-true (row_or_none partitions row.partition).name own.name,
           found,
           le-leb 1 row.priority is.priority.some,
-          le-leb row.priority 255 is.priority.few,
+          le-leb row.priority greatest_priority is.priority.few,
           no_rest row.priority,
           policy-reads row.policy,
           program-reads i _ row.program refl is.program,

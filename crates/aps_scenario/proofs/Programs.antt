@@ -6,6 +6,7 @@ use Rattle.std.proofs.lemmas.List.Elements.{All-append, All-nil, All-from_recurs
 use Rattle.std.specs.List.{list_any}
 use Rattle.toml.specs.Data.{Data, Members, as_str}
 use Rattle.aps_model.specs.declared.program.Op.{Op}
+use Rattle.aps_model.specs.Limits.{most_operations}
 use Rattle.aps_model.specs.Program.{IsOp, IsProgram, is_last_op, ends_well}
 use Rattle.aps_scenario.specs.declared.kind.Kind.{Kind}
 use Rattle.aps_scenario.specs.declared.kind.Kind.TheVariants.{BadOperation}
@@ -97,8 +98,8 @@ unfolding program_at
 program_at-ok channels joinable thread t ops e =
     let elements = bind-ok (value_of row_program (Thread thread) t) _ ops e in
     let many : ℕ = items_len elements.0 in
-    let range : HasLength 1 256 elements.0 =
-    elim (value_of-ok row_program (Thread thread) t elements.0 elements.1) [ inl none ↦ absurd (cc) | inr p ↦ array_of-ok 1 256 p.0 elements.0 p.1 ] in
+    let range : HasLength 1 most_operations elements.0 =
+    elim (value_of-ok row_program (Thread thread) t elements.0 elements.1) [ inl none ↦ absurd (cc) | inr p ↦ array_of-ok 1 most_operations p.0 elements.0 p.1 ] in
     let none : AreRead (items_len elements.0) channels joinable thread 0 [] =
     record { long = refl; each = All-nil (IsOp (length channels) joinable); going = λ before. refl; ended = λ here some. absurd (omega arith) } in
     let read : AreRead (items_len elements.0) channels joinable thread (0 + items_len elements.0) ops =
@@ -108,6 +109,6 @@ program_at-ok channels joinable thread t ops e =
     (operation_in-ok (items_len elements.0) channels joinable thread (length so_far) d new (at_operation-ok (items_len elements.0) channels joinable thread (length so_far) _ new step)))
     elements.0 0 [] ops none elements.2 in
     let long : length ops ≡ 0 + items_len elements.0 = read.long in
-    let few : items_len elements.0 ≤ 256 = range.few in
+    let few : items_len elements.0 ≤ most_operations = range.few in
     let some : 1 ≤ items_len elements.0 = range.some in
     record { each = read.each; few = omega arith; ends = read.ended (omega arith) (omega arith) }

@@ -26,6 +26,7 @@ use Rattle.aps_model.specs.declared.shape.Free.TheVariants as free
 use Rattle.aps_model.specs.declared.shape.Bankruptcy.{Bankruptcy as BankruptcyType}
 use Rattle.aps_model.specs.declared.shape.Bankruptcy.TheVariants.{Basic, Cancel, Reboot}
 use Rattle.aps_model.specs.declared.shape.Shape.{Shape}
+use Rattle.aps_model.specs.Limits.{most_critical, most_ticks, percent, thousandths}
 use Rattle.aps_model.specs.Name.{IsName, is_name_byte}
 use Rattle.aps_model.specs.Partition.{row_or_none, no_row, IsFundedRow}
 use Rattle.aps_model.specs.Program.{IsOp}
@@ -132,10 +133,10 @@ in_each P shown (x ∷ xs) all each =
 
 -- ---- numbers and words
 
-fits : (n : ℕ) → n ≤ 64000000000 → IsPlain (number n)
+fits : (n : ℕ) → n ≤ most_critical → IsPlain (number n)
 fits n small = omega arith
 
-fits_some : (o : Option ℕ) (most : ℕ) → most ≤ 64000000000 → IfSome o (λ n. n ≤ most) → IfSome o (λ n. IsPlain (number n))
+fits_some : (o : Option ℕ) (most : ℕ) → most ≤ most_critical → IfSome o (λ n. n ≤ most) → IfSome o (λ n. IsPlain (number n))
 fits_some None most bound small = tt
 fits_some (Some n) most bound small = fits n (omega (arith, small))
 
@@ -199,7 +200,7 @@ operation-ascii channels names op.Exit named known is = tested (operation_text c
 
 -- ---- commands
 
-module _ (threads : List ThreadRow) (named : All (λ (row : ThreadRow). IsName row.name) threads) (parts : ℕ) (few : parts ≤ 1000) where
+module _ (threads : List ThreadRow) (named : All (λ (row : ThreadRow). IsName row.name) threads) (parts : ℕ) (few : parts ≤ thousandths) where
   thread-ascii : (x : ℕ) → x < length threads → IsAsciiText (thread_name threads x)
   thread-ascii x within = name-ascii _ (All-get_or (λ (row : ThreadRow). IsName row.name) threads x no_thread_row within named)
 
@@ -212,7 +213,7 @@ module _ (threads : List ThreadRow) (named : All (λ (row : ThreadRow). IsName r
       (with_value Name (string name) (name-ascii name is.named) table))))
   in_call (call.Modify partition budget critical max) is table =
       with_some Max number max (fits_some max parts (omega arith) is.max_parts)
-      (with_some Critical number critical (fits_some critical 64000000000 (omega arith) is.short_critical)
+      (with_some Critical number critical (fits_some critical most_critical (omega arith) is.short_critical)
       (with_some Budget number budget (fits_some budget parts (omega arith) is.few_parts)
       (with_value Partition (string partition) (name-ascii partition is.named) table)))
   in_call (call.Lookup partition) is table = with_value Partition (string partition) (name-ascii partition is) table
@@ -228,7 +229,7 @@ module _ (threads : List ThreadRow) (named : All (λ (row : ThreadRow). IsName r
   in_call (call.MarkCritical x) is table = with_value Thread (string (thread_name threads x)) (thread-ascii x is) table
   in_call (call.ClearCritical x) is table = with_value Thread (string (thread_name threads x)) (thread-ascii x is) table
 
-  in_command : (ticks : ℕ) (row : CommandRow) → ticks ≤ 1000000 → IsCommand parts ticks (length threads) row → IsPlain (command_table threads row)
+  in_command : (ticks : ℕ) (row : CommandRow) → ticks ≤ most_ticks → IsCommand parts ticks (length threads) row → IsPlain (command_table threads row)
   in_command ticks row short is =
       let first = with_value Tick (number row.tick) (fits row.tick (omega (arith, is.tick))) no_keys in
       (in_call row.call is.call (with_value Do (string (call_word row.call)) (call-ascii row.call) first)).members
@@ -244,7 +245,8 @@ listed-funded parts (suc n) rows count tree =
     (listed-funded parts n (rows_before rows (suc n)) size (before-tree parts rows tree n count))
     (All-from_recursion (IsFundedRow parts) (row_or_none rows (suc n) ∷ []) (last, tt))
 
-in_partition : (parts : ℕ) (rows : List PartitionRow) (row : PartitionRow) → parts ≤ 1000 → IsTree parts rows → IsFundedRow parts row → row.parent < length rows → IsPlain (partition_table rows row)
+in_partition : (parts : ℕ) (rows : List PartitionRow) (row : PartitionRow) → parts ≤ thousandths → IsTree parts rows → IsFundedRow parts row → row.parent < length rows
+    → IsPlain (partition_table rows row)
 in_partition parts rows row few tree is under =
     let above : IsFundedRow parts (row_or_none rows row.parent) = All-get_or (IsFundedRow parts) rows row.parent no_row under tree.funded.each in
     (with_value Max (number row.max) (fits row.max (omega (arith, is.max)))
@@ -253,7 +255,7 @@ in_partition parts rows row few tree is under =
     (with_value Parent (string (row_or_none rows row.parent).name) (name-ascii _ above.name)
     (with_value Name (string row.name) (name-ascii row.name is.name) no_keys))))).members
 
-in_partitions : (parts : ℕ) (rows : List PartitionRow) → parts ≤ 1000 → IsTree parts rows → IsPlain (partition_array rows)
+in_partitions : (parts : ℕ) (rows : List PartitionRow) → parts ≤ thousandths → IsTree parts rows → IsPlain (partition_array rows)
 in_partitions parts rows few tree =
     let some = tree.some in
     let funded = listed-funded parts (length rows - 1) rows (omega arith) tree in
@@ -291,19 +293,19 @@ in_shape shape is =
     (with_value Window (number shape.window) (fits shape.window (omega (arith, is.window_short)))
     (with_value Tick (number shape.tick) (fits shape.tick (omega (arith, is.tick_short)))
     (with_value Cpus (number shape.cpus) (fits shape.cpus (omega (arith, is.few_cpus)))
-    (with_value Version (number (version_of shape.parts)) (version_fits (nat_eq shape.parts 100)) no_keys))))))))
+    (with_value Version (number (version_of shape.parts)) (version_fits (nat_eq shape.parts percent)) no_keys))))))))
   where
     version_fits : (hundred : Bool) → IsPlain (number (if hundred then 1 else 2))
     version_fits true = omega arith
     version_fits false = omega arith
 
-few_parts : (parts : ℕ) → (parts ≡ 100) ⊎ (parts ≡ 1000) → parts ≤ 1000
+few_parts : (parts : ℕ) → (parts ≡ percent) ⊎ (parts ≡ thousandths) → parts ≤ thousandths
 few_parts parts (inl hundred) = omega arith
 few_parts parts (inr thousand) = omega arith
 
 in_scenario : (s : Scenario) → IsScenario s → AreMembersPlain (scenario_members s)
 in_scenario s is =
-    let few : s.shape.parts ≤ 1000 = few_parts s.shape.parts is.shape.parts in
+    let few : s.shape.parts ≤ thousandths = few_parts s.shape.parts is.shape.parts in
     let commands = in_each (IsCommand s.shape.parts s.shape.ticks (length s.threads)) (command_table s.threads) s.commands is.commands
     (λ row known. in_command s.threads (λ k d within. (is.threads k d within).name) s.shape.parts few s.shape.ticks row is.shape.few_ticks known) in
     let threads = in_each (IsThreadRow (length s.partitions) (length s.channels) (joinable s)) (thread_table s.partitions s.channels) s.threads is.threads (λ row known. in_thread s row is known) in

@@ -2,6 +2,7 @@
 use Rattle.std.proofs.Common.{◌≡◌, ℕ, Bool, true, false, cond, ◌⊎◌, inl, inr, Ok, refl, subst, arith, nat_eq}
 use Rattle.toml.specs.Data.{Members}
 use Rattle.aps_model.specs.declared.shape.Shape.{Shape}
+use Rattle.aps_model.specs.Limits.{longest_call, longest_tick, longest_window, microsecond, most_cpus, most_ticks, percent, shortest_tick, shortest_window, thousandths}
 use Rattle.aps_model.specs.Shape.{IsShape}
 use Rattle.aps_scenario.specs.declared.key.Key.TheVariants.{Cpus, Tick, Window, Ticks, CallNs}
 use Rattle.aps_scenario.specs.declared.refusal.Place.TheVariants.{Top}
@@ -9,8 +10,8 @@ use Rattle.aps_scenario.specs.Row.{value_of}
 use Rattle.aps_scenario.specs.Sizes.{shape_at, parts_of, row_version, row_cpus, row_tick, row_window, row_ticks, row_call_ns, row_free, row_limit, row_bankruptcy}
 use Rattle.aps_scenario.proofs.Values.{bind-ok, ok-same, required-ok, defaulted-ok}
 
-pub parts_of-either : (version : ℕ) → (parts_of version ≡ 100) ⊎ (parts_of version ≡ 1000)
-parts_of-either version = let low : ℕ = 100 in let high : ℕ = 1000 in either (nat_eq version 1) low high
+pub parts_of-either : (version : ℕ) → (parts_of version ≡ percent) ⊎ (parts_of version ≡ thousandths)
+parts_of-either version = let low : ℕ = percent in let high : ℕ = thousandths in either (nat_eq version 1) low high
   where
     either : (b : Bool) (low high : ℕ) → (cond b low high ≡ low) ⊎ (cond b low high ≡ high)
     either true low high = inl refl
@@ -43,11 +44,11 @@ shape_at-ok t shape e =
     let million : ℕ = 1000000 in
     let hundred : ℕ = 100 in
     let thousand : ℕ = 1000 in
-    let cpus_range = required-ok Cpus 1 16 1 Top t cpus.0 cpus.1 in
-    let tick_range = defaulted-ok Tick 100000 10000000 1000 million Top t tick.0 (record { above = omega arith; below = omega arith; whole = refl }) tick.1 in
-    let window_range = defaulted-ok Window 8 400 1 hundred Top t window.0 (record { above = omega arith; below = omega arith; whole = refl }) window.1 in
-    let ticks_range = required-ok Ticks 1 1000000 1 Top t ticks.0 ticks.1 in
-    let call_range = defaulted-ok CallNs 1 100000 1 thousand Top t call_ns.0 (record { above = omega arith; below = omega arith; whole = refl }) call_ns.1 in
+    let cpus_range = required-ok Cpus 1 most_cpus 1 Top t cpus.0 cpus.1 in
+    let tick_range = defaulted-ok Tick shortest_tick longest_tick microsecond million Top t tick.0 (record { above = omega arith; below = omega arith; whole = refl }) tick.1 in
+    let window_range = defaulted-ok Window shortest_window longest_window 1 hundred Top t window.0 (record { above = omega arith; below = omega arith; whole = refl }) window.1 in
+    let ticks_range = required-ok Ticks 1 most_ticks 1 Top t ticks.0 ticks.1 in
+    let call_range = defaulted-ok CallNs 1 longest_call 1 thousand Top t call_ns.0 (record { above = omega arith; below = omega arith; whole = refl }) call_ns.1 in
     subst IsShape same (record {
       parts = parts_of-either version.0;
       some_cpu = cpus_range.above;

@@ -9,6 +9,7 @@ use Rattle.std.specs.Str.{bytes_eq}
 use Rattle.toml.specs.Data.{Data, Members}
 use Rattle.aps_model.specs.declared.partition.PartitionRow.{PartitionRow}
 use Rattle.aps_model.specs.declared.scenario.ThreadRow.{ThreadRow}
+use Rattle.aps_model.specs.Limits.{greatest_priority, most_threads}
 use Rattle.aps_model.specs.Valid.{IsThreadRow}
 use Rattle.aps_scenario.specs.declared.key.Key.TheVariants.{Thread, Name, Partition, Priority}
 use Rattle.aps_scenario.specs.declared.kind.Kind.TheVariants.{Duplicate}
@@ -53,7 +54,7 @@ module _ (partitions : List PartitionRow) (some_partition : 0 < length partition
       let found : ThreadRow = record { name = name.0; partition = partition.0; priority = priority.0; policy = policy.0; critical = critical.0; program = program.0 } in
       let same : found ≡ row = ok-same found row _ refl program.2 in
       let default : ℕ = 10 in
-      let range = defaulted-ok Priority 1 255 1 default _ p.0 priority.0 (record { above = omega arith; below = omega arith; whole = refl }) priority.1 in
+      let range = defaulted-ok Priority 1 greatest_priority 1 default _ p.0 priority.0 (record { above = omega arith; below = omega arith; whole = refl }) priority.1 in
       subst (IsNew threads) same (record {
         valid = record {
           name = named-ok Name _ p.0 name.0 name.1;
@@ -79,15 +80,15 @@ module _ (partitions : List PartitionRow) (some_partition : 0 < length partition
   }
 
   pub record AreThreads (threads : List ThreadRow) : Type 0 where
-    pub few : length threads ≤ 1024
+    pub few : length threads ≤ most_threads
     pub each : All IsOne threads
     pub distinct : IsDistinct bytes_eq (map name_of threads)
 
   pub threads_at-ok : (t : Members) (threads : List ThreadRow) → threads_at partitions channels joinable t ≡ Ok threads → AreThreads threads
   unfolding IsDistinct threads_at
   threads_at-ok t threads e =
-      let elements = bind-ok (value_of (row_tables Thread 1024) place.Top t) _ threads e in
-      let few : items_len elements.0 ≤ 1024 = tables-ok Thread 1024 place.Top t elements.0 elements.1 in
+      let elements = bind-ok (value_of (row_tables Thread most_threads) place.Top t) _ threads e in
+      let few : items_len elements.0 ≤ most_threads = tables-ok Thread most_threads place.Top t elements.0 elements.1 in
       let none : AreRead 0 [] = record { count = refl; each = All-nil IsOne; distinct = tt } in
       let read : AreRead (0 + items_len elements.0) threads =
       read_each-keeps (next_thread partitions channels joinable) threads_with_new AreRead

@@ -15,6 +15,7 @@ use Rattle.std.specs.Str.{bytes_eq}
 use Rattle.toml.specs.Data.{Data, Members}
 use Rattle.aps_model.specs.Name.{IsName}
 use Rattle.aps_model.specs.declared.partition.PartitionRow.{PartitionRow}
+use Rattle.aps_model.specs.Limits.{last_partition, most_critical}
 use Rattle.aps_model.specs.Partition.{row_or_none, no_row, partition_named, IsFundedRow}
 use Rattle.aps_model.specs.Valid.{IsRoot, IsTree, subtree_budget}
 use Rattle.aps_scenario.specs.declared.key.Key.{Key}
@@ -62,10 +63,10 @@ record IsNew (parts : ℕ) (rows : List PartitionRow) (new : PartitionRow) : Typ
   pub parent : new.parent < length rows
   pub within_max : new.budget ≤ new.max
   pub max : new.max ≤ parts
-  pub critical : new.critical ≤ 64000000000
+  pub critical : new.critical ≤ most_critical
   pub funded : new.budget ≤ (row_or_none rows new.parent).budget
 
-no_critical : InRange 0 64000000000 1 0
+no_critical : InRange 0 most_critical 1 0
 no_critical = record { above = omega arith; below = omega arith; whole = refl }
 
 whole_range : (low high : ℕ) → low ≤ high → InRange low high 1 high
@@ -89,7 +90,7 @@ next_partition-ok parts rows d new some e =
     let max = bind-ok (value_of (row_max budget.0 parts) here p.0) _ new critical.2 in
     let funded = bind-ok (refuse_if (nat_lt (row_or_none rows parent.0).budget budget.0) BudgetOver here Budget) _ new max.2 in
     let budget_range = required-ok Budget 0 parts 1 here p.0 budget.0 budget.1 in
-    let critical_range = defaulted-ok Critical 0 64000000000 1 0 here p.0 critical.0 no_critical critical.1 in
+    let critical_range = defaulted-ok Critical 0 most_critical 1 0 here p.0 critical.0 no_critical critical.1 in
     let max_range = defaulted-ok Max budget.0 parts 1 parts here p.0 max.0 (whole_range budget.0 parts budget_range.below) max.1 in
     let test : nat_lt (row_or_none rows parent.0).budget budget.0 ≡ false = refuse_if-ok _ _ _ _ funded.0 funded.1 in
     let found : PartitionRow = record { name = name.0; parent = parent.0; budget = budget.0; critical = critical.0; max = max.0 } in
@@ -214,8 +215,8 @@ module _ (parts n : ℕ) (rows : List PartitionRow) (new : PartitionRow) (read :
 pub partitions_at-ok : (parts : ℕ) (t : Members) (rows : List PartitionRow) → partitions_at parts t ≡ Ok rows → IsTree parts rows
 unfolding partitions_at
 partitions_at-ok parts t rows e =
-    let elements = bind-ok (value_of (row_tables Partition 31) place.Top t) _ rows e in
-    let few : items_len elements.0 ≤ 31 = tables-ok Partition 31 place.Top t elements.0 elements.1 in
+    let elements = bind-ok (value_of (row_tables Partition last_partition) place.Top t) _ rows e in
+    let few : items_len elements.0 ≤ last_partition = tables-ok Partition last_partition place.Top t elements.0 elements.1 in
     let read : AreRead parts (1 + items_len elements.0) rows =
     read_each-keeps (next_partition parts) rows_with_new (AreRead parts)
     (λ n so_far d new before read. more parts n so_far new before (next_partition-ok parts so_far d new (omega (arith, before.count, before.some)) read))

@@ -2,6 +2,7 @@
 use Rattle.std.proofs.Common.{◌≡◌, ◌≢◌, ◌∙◌, ℕ, List, Option, Some, None, Result, Ok, Err, refl, ap, subst, inl, inr, arith, nat_eq}
 use Rattle.std.proofs.lemmas.Bool.{cases_Bool}
 use Rattle.std.proofs.lemmas.Bool.Decides.{nat_tests}
+use Rattle.aps_model.specs.Limits.{thousandths}
 use Rattle.toml.specs.Data.{Members}
 use Rattle.aps_model.specs.Scenario.{Scenario}
 use Rattle.aps_model.specs.Upgrade.{upgraded}
@@ -53,15 +54,15 @@ reads-IsScenario bytes s e = table-IsScenario _ s e
 
 upgraded-IsScenario : (s : Scenario) → IsScenario s → IsScenario (upgraded s)
 upgraded-IsScenario s is =
-    elim (cases_Bool (nat_eq s.shape.parts 1000)) [
+    elim (cases_Bool (nat_eq s.shape.parts thousandths)) [
       | inl same ↦ rw same is
       | inr other ↦
-          let apart : s.shape.parts ≢ 1000 = grind (arith, nat_tests) in
+          let apart : s.shape.parts ≢ thousandths = grind (arith, nat_tests) in
           rw other (IsScenario-scaled s is (parts_small s.shape is.shape apart))
     ]
 
 upgraded-twice : (s : Scenario) → upgraded (upgraded s) ≡ upgraded s
-upgraded-twice s = elim (cases_Bool (nat_eq s.shape.parts 1000)) [ inl same ↦ rw (same, same) refl | inr other ↦ rw other refl ]
+upgraded-twice s = elim (cases_Bool (nat_eq s.shape.parts thousandths)) [ inl same ↦ rw (same, same) refl | inr other ↦ rw other refl ]
 
 pub upgraded_text-twice : (bytes text : List ℕ) → upgraded_text bytes ≡ Ok text → upgraded_text text ≡ Ok text
 upgraded_text-twice bytes text e =

@@ -13,6 +13,7 @@ use Rattle.aps_model.specs.declared.partition.PartitionRow.{PartitionRow}
 use Rattle.aps_model.specs.declared.command.CommandRow.{CommandRow}
 use Rattle.aps_model.specs.declared.command.Call.{Call}
 use Rattle.aps_model.specs.declared.command.Call.TheVariants.{Create, Modify, Lookup, QueryPartition, QueryThread, QueryParameters, SetParameters, Statistics, MarkCritical, ClearCritical}
+use Rattle.aps_model.specs.Limits.{percent, thousandths}
 use Rattle.aps_model.specs.Partition.{row_or_none, no_row, IsFundedRow}
 use Rattle.aps_model.specs.Scenario.{Scenario}
 use Rattle.aps_model.specs.Shape.{IsShape}
@@ -104,11 +105,11 @@ module _ (rows : List PartitionRow) where
       ∙ places_scaled (λ p. cond (is_within (scaled rows) (length rows) i p) (row_or_none (scaled rows) p).budget 0)
       (λ p. cond (is_within rows (length rows) i p) (row_or_none rows p).budget 0) (length rows) (share_scaled i)
 
-  pub tree_scaled : IsTree 100 rows → IsTree 1000 (scaled rows)
+  pub tree_scaled : IsTree percent rows → IsTree thousandths (scaled rows)
   tree_scaled tree =
       let long : length (scaled rows) ≡ length rows = length-map rows row_times_ten in
       let top : row_or_none (scaled rows) 0 ≡ row_times_ten (row_or_none rows 0) = row_scaled rows 0 in
-      let whole : (row_or_none rows 0).max ≡ 100 = tree.root.max in
+      let whole : (row_or_none rows 0).max ≡ percent = tree.root.max in
       record {
         some = omega (arith, tree.some);
         few = omega (arith, tree.few);
@@ -116,10 +117,10 @@ module _ (rows : List PartitionRow) where
         parents = λ i over within. rw (row_scaled rows i) (tree.parents i over (omega arith));
         names = rw (names_same rows rows) tree.names;
         funded = record {
-          each = All-map (IsFundedRow 1000) row_times_ten rows (λ k d within.
+          each = All-map (IsFundedRow thousandths) row_times_ten rows (λ k d within.
               let one = tree.funded.each k d within in
               record { name = one.name; budget = omega (arith, one.budget); max = omega (arith, one.max); critical = one.critical });
-          budgets = let before : sum_by budget_of rows ≡ 100 = sym (sum-map budget_of rows) ∙ tree.funded.budgets in
+          budgets = let before : sum_by budget_of rows ≡ percent = sym (sum-map budget_of rows) ∙ tree.funded.budgets in
               let after : sum_by budget_of (scaled rows) ≡ sum_by budget_of rows * 10 = budgets_scaled rows rows in
               sum-map budget_of (scaled rows) ∙ omega arith;
         };
@@ -132,7 +133,7 @@ module _ (rows : List PartitionRow) where
 
 -- ---- commands
 
-at_most_scaled : (x : Option ℕ) → IfSome x (λ n. n ≤ 100) → IfSome (option_map times_ten x) (λ n. n ≤ 1000)
+at_most_scaled : (x : Option ℕ) → IfSome x (λ n. n ≤ percent) → IfSome (option_map times_ten x) (λ n. n ≤ thousandths)
 at_most_scaled None within = tt
 at_most_scaled (Some n) within = omega arith
 
@@ -140,7 +141,7 @@ some_scaled : (x : Option ℕ) → IsSome x → IsSome (option_map times_ten x)
 some_scaled None some = absurd (cc)
 some_scaled (Some n) some = refl
 
-call_scaled : (threads : ℕ) (call : Call) → IsCall 100 threads call → IsCall 1000 threads (call_times_ten call)
+call_scaled : (threads : ℕ) (call : Call) → IsCall percent threads call → IsCall thousandths threads (call_times_ten call)
 call_scaled threads (Create name parent budget critical max) valid = record {
   named = valid.named;
   under = valid.under;
@@ -168,7 +169,7 @@ call_scaled threads (Statistics partition) valid = valid
 call_scaled threads (MarkCritical thread) valid = valid
 call_scaled threads (ClearCritical thread) valid = valid
 
-pub in_hundredths : (threads : ℕ) (call : Call) → IsCall 100 threads call → IsInHundredths call
+pub in_hundredths : (threads : ℕ) (call : Call) → IsCall percent threads call → IsInHundredths call
 in_hundredths threads (Create name parent budget critical max) valid = (valid.few_parts, valid.max_parts)
 in_hundredths threads (Modify partition budget critical max) valid = (valid.few_parts, valid.max_parts)
 in_hundredths threads (Lookup partition) valid = tt
@@ -215,13 +216,20 @@ created_scaled (row ∷ rest) = created_first row rest (name_by row) refl (creat
 -- ---- the whole
 
 -- parts that aren't 1,000 are 100
-pub parts_small : (shape : Shape) → IsShape shape → shape.parts ≢ 1000 → shape.parts ≡ 100
+pub parts_small : (shape : Shape) → IsShape shape → shape.parts ≢ thousandths → shape.parts ≡ percent
 parts_small shape sizes other = elim sizes.parts [ inl small ↦ small | inr large ↦ absurd (other large) ]
 
-pub IsScenario-scaled : (s : Scenario) → IsScenario s → s.shape.parts ≡ 100
-    → IsScenario (record { shape = record s.shape { parts = 1000 }; partitions = map row_times_ten s.partitions; channels = s.channels; threads = s.threads; commands = map command_scaled s.commands })
+pub IsScenario-scaled : (s : Scenario) → IsScenario s → s.shape.parts ≡ percent
+    → IsScenario (record {
+      shape = record s.shape { parts = thousandths };
+      partitions = map row_times_ten s.partitions;
+      channels = s.channels;
+      threads = s.threads;
+      commands = map command_scaled s.commands;
+    })
 IsScenario-scaled s valid small =
-    let after : Scenario = record { shape = record s.shape { parts = 1000 }; partitions = map row_times_ten s.partitions; channels = s.channels; threads = s.threads; commands = map command_scaled s.commands } in
+    let after : Scenario =
+    record { shape = record s.shape { parts = thousandths }; partitions = map row_times_ten s.partitions; channels = s.channels; threads = s.threads; commands = map command_scaled s.commands } in
     let known : joinable s ≡ joinable after = sym (ap (λ names. names ++ filter_map name_by (map command_scaled s.commands)) (names_same s.partitions s.partitions)
     ∙ ap (λ names. map name_of s.partitions ++ names) (created_scaled s.commands)) in
     let many : length s.partitions ≡ length after.partitions = sym (length-map s.partitions row_times_ten) in
@@ -249,7 +257,7 @@ IsScenario-scaled s valid small =
           (subst (λ names. All (IsThreadRow (length s.partitions) (length s.channels) names) s.threads) known valid.threads);
       thread_names = valid.thread_names;
       few_commands = omega (arith, length-map s.commands command_scaled, valid.few_commands);
-      commands = All-map (IsCommand 1000 s.shape.ticks (length s.threads)) command_scaled s.commands (λ k d within.
+      commands = All-map (IsCommand thousandths s.shape.ticks (length s.threads)) command_scaled s.commands (λ k d within.
           let one = valid.commands k d within in
           record { tick = one.tick; call = call_scaled (length s.threads) (get_or s.commands k d).call (subst (λ parts. IsCall parts (length s.threads) (get_or s.commands k d).call) small one.call) });
     }

@@ -20,7 +20,7 @@ use Rattle.aps_scenario.specs.Partitions.{system_name}
 use Rattle.aps_scenario.specs.Refusal.{Refusal}
 use Rattle.aps_scenario.specs.Row.{◌>>=◌, Row, row_integer, row_name, value_of, only, table_of, refuse_if}
 use Rattle.aps_scenario.specs.Sizes.{parts_of, row_version, row_cpus, row_tick, row_window}
-use Rattle.aps_model.specs.Limits.{most_critical}
+use Rattle.aps_model.specs.Limits.{most_critical, most_demands}
 
 -- demands, and the shape of a scenario that is to meet them
 pub record Demands : Type 0 where
@@ -34,7 +34,7 @@ IsNeed demand = demand.need ≤ most_critical
 -- every number and list has its range, and each name is one of its own
 pub record AreDemands (d : Demands) : Type 0 where
   pub shape : IsShape d.shape
-  pub few : length d.demands ≤ 31
+  pub few : length d.demands ≤ most_demands
   pub needs : All IsNeed d.demands
   pub names : IsDistinct bytes_eq (map (λ (demand : Demand). demand.name) d.demands)
   pub others : All (λ (demand : Demand). demand.name ≢ system_name) d.demands
@@ -99,7 +99,7 @@ demands_from = read_each next_demand demands_with_new
 
 unfoldable pub asked_at : Members → Result (List Demand) Finding
 asked_at t = do
-  elements ← value_of (row_tables key.Demand 31) place.Top t
+  elements ← value_of (row_tables key.Demand most_demands) place.Top t
   demands_from [] elements
 
 -- what a document's top table asks, or the first part that breaks a rule

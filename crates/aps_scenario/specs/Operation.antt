@@ -9,7 +9,7 @@ use Rattle.aps_scenario.specs.declared.operation.OperationFault.{OperationFault}
 use Rattle.aps_scenario.specs.declared.operation.OperationFault.TheVariants.{Unknown, Bad}
 use Rattle.aps_scenario.specs.Row.{is_name}
 use Rattle.aps_scenario.specs.Channels.{is_among}
-use Rattle.aps_model.specs.Limits.{last_moment}
+use Rattle.aps_model.specs.Limits.{greatest_priority, last_moment}
 
 -- ---- numbers
 
@@ -42,7 +42,7 @@ abbrev pub sleep : List ℕ → Result Op OperationFault
 sleep text = or_bad Sleep (number last_moment text)
 
 abbrev pub priority : List ℕ → Result Op OperationFault
-priority text = or_bad Priority (number 255 text)
+priority text = or_bad Priority (number greatest_priority text)
 
 -- the place of a channel by its name
 abbrev pub channel_named : List (List ℕ) → List ℕ → Option ℕ
@@ -89,7 +89,8 @@ after_word [] text = Some text
 after_word (w ∷ word) [] = None
 after_word (w ∷ word) (c ∷ cs) = if c == w then after_word word cs else None
 
-abbrev pub either_way : Option (List ℕ) → (List ℕ → Result Op OperationFault) → (List ℕ → Result Op OperationFault) → List ℕ → Result Op OperationFault
+abbrev pub either_way : Option (List ℕ) → (List ℕ → Result Op OperationFault) → (List ℕ → Result Op OperationFault)
+    → List ℕ → Result Op OperationFault
 either_way (Some rest) reads other text = reads rest
 either_way None reads other text = other text
 

@@ -15,7 +15,7 @@ use Rattle.aps_scenario.specs.declared.refusal.Place.{Place}
 use Rattle.aps_scenario.specs.declared.refusal.Place.TheVariants as place
 use Rattle.aps_scenario.specs.Elements.{row_tables, read_each}
 use Rattle.aps_scenario.specs.Row.{◌>>=◌, Row, row_integer, row_name, name as name_in, value_of, only, table_of, refuse_if}
-use Rattle.aps_model.specs.Limits.{most_critical}
+use Rattle.aps_model.specs.Limits.{last_partition, most_critical}
 
 abbrev pub partition_keys : List Key
 partition_keys = Name ∷ Parent ∷ Budget ∷ Critical ∷ Max ∷ []
@@ -88,5 +88,5 @@ system parts = record { name = system_name; parent = 0; budget = parts; critical
 -- the partitions of the top table, the root first
 unfoldable pub partitions_at : ℕ → Members → Result (List PartitionRow) Finding
 partitions_at parts t = do
-  elements ← value_of (row_tables Partition 31) place.Top t
+  elements ← value_of (row_tables Partition last_partition) place.Top t
   partitions_from parts (system parts ∷ []) elements

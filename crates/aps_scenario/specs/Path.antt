@@ -33,9 +33,13 @@ abbrev pub prefix_text : Place → List ℕ
 prefix_text Top = []
 prefix_text place = place_text place ++ codes "."
 
+-- the most bytes of a key that is told
+abbrev pub longest_key : ℕ
+longest_key = 32
+
 -- 1 to 32 letters, digits, '_' and '-'
 abbrev pub is_printable : List ℕ → Bool
-is_printable key = (nat_le 1 (length key) && nat_le (length key) 32) && list_all is_name_byte key
+is_printable key = (nat_le 1 (length key) && nat_le (length key) longest_key) && list_all is_name_byte key
 
 -- an unknown key as it is told
 abbrev pub printed_key : List ℕ → List ℕ
@@ -43,7 +47,7 @@ printed_key key = if is_printable key then key else codes "?"
 
 -- a key of at most 32 bytes, as it is held
 abbrev pub held : List ℕ → KeyText
-held key = record { bytes = key ++ replicate (32 - length key) 0; len = length key }
+held key = record { bytes = key ++ replicate (longest_key - length key) 0; len = length key }
 
 abbrev pub path_text : Part → List ℕ
 path_text (Table place) = place_text place

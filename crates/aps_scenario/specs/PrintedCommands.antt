@@ -19,7 +19,8 @@ thread_name threads x = (slice_index_or threads x no_thread_row).name
 -- a table with the keys that a command has beside those of all, where these are the threads
 abbrev pub call_members : List ThreadRow → Call → Members → Members
 call_members threads (call.Create name parent budget critical max) t =
-    put Max (number max) (put Critical (number critical) (put Budget (number budget) (put Parent (string parent) (put Name (string name) t))))
+    put Max (number max) (put Critical (number critical)
+    (put Budget (number budget) (put Parent (string parent) (put Name (string name) t))))
 call_members threads (call.Modify partition budget critical max) t =
     put_some Max number max (put_some Critical number critical (put_some Budget number budget (put Partition (string partition) t)))
 call_members threads (call.Lookup partition) t = put Partition (string partition) t

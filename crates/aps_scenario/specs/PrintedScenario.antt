@@ -2,6 +2,7 @@
 use Rattle.std.specs.Prelude.{ℕ, nat_eq, if◌then◌else◌}
 use Rattle.toml.specs.Data.{string, boolean, Members, no_members}
 use Rattle.aps_model.specs.declared.shape.Shape.{Shape}
+use Rattle.aps_model.specs.Limits.{percent}
 use Rattle.aps_model.specs.Scenario.{Scenario}
 use Rattle.aps_scenario.specs.declared.key.Key.TheVariants.{Version, Cpus, Tick, Window, Ticks, CallNs, Free, Limit, Bankruptcy, Partition, Channel, Thread, Command}
 use Rattle.aps_scenario.specs.PrintedCommands.{command_table}
@@ -12,7 +13,7 @@ use Rattle.aps_scenario.specs.PrintedWords.{free_word, bankruptcy_word}
 
 -- the version that counts budgets in these parts
 abbrev pub version_of : ℕ → ℕ
-version_of parts = if nat_eq parts 100 then 1 else 2
+version_of parts = if nat_eq parts percent then 1 else 2
 
 abbrev pub shape_members : Shape → Members
 shape_members shape =

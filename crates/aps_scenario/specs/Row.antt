@@ -2,6 +2,7 @@
 use Rattle.std.specs.Prelude.{ℕ, ℤ, pos, negsuc, ◌%◌, ◌==◌, ◌&&◌, nat_le, Bool, List, [], ◌∷◌, length, Option, Some, None, Result, Ok, Err, if◌then◌else◌}
 use Rattle.std.specs.List.{list_any, list_all}
 use Rattle.std.specs.Str.{bytes_eq}
+use Rattle.aps_model.specs.Limits.{longest_name}
 use Rattle.toml.specs.Data.{Data, Members, no_members, member, get_member, as_integer, as_str, as_bool, as_table}
 use Rattle.aps_model.specs.Name.{is_name_byte}
 use Rattle.aps_scenario.specs.declared.key.Key.{Key}
@@ -55,7 +56,7 @@ word words d = do
   word_in words text
 
 abbrev pub is_name : List ℕ → Bool
-is_name text = (nat_le 1 (length text) && nat_le (length text) 15) && list_all is_name_byte text
+is_name text = (nat_le 1 (length text) && nat_le (length text) longest_name) && list_all is_name_byte text
 
 -- a text that can be a name
 abbrev pub name : Data → Result (List ℕ) Kind

@@ -1,6 +1,6 @@
 -- The sizes and the policies of the top table.
 use Rattle.std.specs.Prelude.{ℕ, false, Bool, nat_eq, if◌then◌else◌, Some, None, Result, Ok}
-use Rattle.aps_model.specs.Limits.{longest_call, longest_tick, longest_window, microsecond, most_cpus, most_ticks, shortest_tick, shortest_window}
+use Rattle.aps_model.specs.Limits.{longest_call, longest_tick, longest_window, microsecond, most_cpus, most_ticks, percent, shortest_tick, shortest_window, thousandths}
 use Rattle.toml.specs.Data.{Members}
 use Rattle.aps_model.specs.declared.shape.Shape.{Shape}
 use Rattle.aps_model.specs.declared.shape.Free.{Free}
@@ -42,7 +42,7 @@ row_bankruptcy = row_word key.Bankruptcy bankruptcy_words (Some Basic)
 
 -- the parts in which a version counts budgets
 abbrev pub parts_of : ℕ → ℕ
-parts_of version = if nat_eq version 1 then 100 else 1000
+parts_of version = if nat_eq version 1 then percent else thousandths
 
 unfoldable pub shape_at : Members → Result Shape Finding
 shape_at t = do

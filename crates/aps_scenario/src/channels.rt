@@ -1,5 +1,6 @@
 //! The channels of a scenario, as the elements of an array.
 ghost use Rattle.std.specs.Prelude.{◌≡◌, ◌≤◌, [], length};
+ghost use Rattle.aps_model.specs.Limits.{most_channels};
 ghost use Rattle.toml.specs.View.{view, table_view, array_view};
 ghost use Rattle.aps_scenario.specs.Refusal.{Gives};
 ghost use Rattle.aps_scenario.specs.Channels as spec;
@@ -26,7 +27,7 @@ pub fn is_among(names: &[Name], name: &Name) -> bool
 /// The channel after these ones.
 #[tactic(auto, unfolding(crate::specs::Channels::channel_at))]
 fn next_channel(channels: &[Name], value: &Value) -> Result<Name, Finding>
-    requires { length channels.now ≤ 256 }
+    requires { length channels.now ≤ most_channels }
     ensures { result ≡ spec.next_channel channels.now (view value.now) }
 {
     let place = Place::Channel(channels.len() as u16);
@@ -39,7 +40,7 @@ fn next_channel(channels: &[Name], value: &Value) -> Result<Name, Finding>
 
 /// The channels of these elements.
 fn channels_of(alloc: Global, array: &Array) -> Result<Vec<Name>, Failure>
-    requires { length array.now.items ≤ 256 }
+    requires { length array.now.items ≤ most_channels }
     ensures { Gives (λ channels. channels.items) result (spec.channels_from [] (array_view array.now)) }
 {
     let mut channels = Vec::new(alloc);

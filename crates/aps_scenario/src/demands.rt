@@ -1,10 +1,12 @@
 //! The demands of processor time that a text states.
 ghost use Rattle.std.specs.Prelude.{◌≡◌, ◌≤◌, [], length};
+ghost use Rattle.aps_model.specs.Limits.{most_demands};
 ghost use Rattle.toml.specs.View.{view, table_view, array_view};
 ghost use Rattle.aps_model.specs.declared.demand.Demand.{Demand};
 ghost use Rattle.aps_scenario.specs.Document.{or_told};
 ghost use Rattle.aps_scenario.specs.Refusal.{Gives, Tells};
 ghost use Rattle.aps_scenario.specs.Demands as spec;
+ghost use Rattle.aps_scenario.specs.Demands.{};
 
 use crate::key::Key;
 use crate::kind::Kind;
@@ -148,7 +150,7 @@ fn asked_at(alloc: Global, table: &Table) -> Result<Vec<Demand>, Failure>
 
 /// The demands of these elements.
 fn demands_from(alloc: Global, array: &Array) -> Result<Vec<Demand>, Failure>
-    requires { length array.now.items ≤ 31 }
+    requires { length array.now.items ≤ most_demands }
     ensures { Gives (λ demands. demands.items) result (spec.demands_from [] (array_view array.now)) }
 {
     let mut demands = Vec::new(alloc);
@@ -162,7 +164,7 @@ fn demands_from(alloc: Global, array: &Array) -> Result<Vec<Demand>, Failure>
 /// The demand after these ones.
 #[tactic(auto, unfolding(crate::specs::Demands::demand_at))]
 fn next_demand(demands: &[Demand], value: &Value) -> Result<Demand, Finding>
-    requires { length demands.now ≤ 31 }
+    requires { length demands.now ≤ most_demands }
     ensures { result ≡ spec.next_demand demands.now (view value.now) }
 {
     let place = Place::Demand(demands.len() as u16);

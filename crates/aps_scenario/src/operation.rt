@@ -2,7 +2,7 @@
 ghost use Rattle.std.specs.Prelude.{◌≡◌, ◌≤◌, length, IfOk, IfSome, option_map};
 ghost use Rattle.aps_scenario.specs.Operation as spec;
 ghost use Rattle.aps_model.specs.declared.program.Op.TheVariants as op;
-ghost use Rattle.aps_model.specs.Limits.{last_moment};
+ghost use Rattle.aps_model.specs.Limits.{last_moment, most_channels};
 
 use crate::channels::is_among;
 use aps_model::limits::LAST_MOMENT;
@@ -109,7 +109,7 @@ fn channel_named(channels: &[Name], name: &Name) -> Option<usize>
 
 // The channel of this name.
 fn channel(text: &[u8], channels: &[Name]) -> Result<ChannelId, OperationFault>
-    requires { length channels.now ≤ 256 }
+    requires { length channels.now ≤ most_channels }
     ensures { result ≡ spec.channel channels.now text.now }
 {
     let Ok(name) = Name::new(text) else {
@@ -151,7 +151,7 @@ fn constant(text: &str) -> Result<Op, OperationFault>
 
 #[tactic(auto, using(crate::proofs::Operations::behind_some, crate::proofs::Operations::behind_none))]
 fn named_or_constant(text: &str, channels: &[Name], joinable: &[Name]) -> Result<Op, OperationFault>
-    requires { length channels.now ≤ 256 }
+    requires { length channels.now ≤ most_channels }
     ensures { result ≡ spec.named_or_constant channels.now joinable.now text.now }
 {
     let bytes = text.as_bytes();
@@ -170,7 +170,7 @@ fn named_or_constant(text: &str, channels: &[Name], joinable: &[Name]) -> Result
 /// The operation that a text is, where these are the channels and the names that may be joined.
 #[tactic(auto, using(crate::proofs::Operations::behind_some, crate::proofs::Operations::behind_none))]
 pub fn operation_of(text: &str, channels: &[Name], joinable: &[Name]) -> Result<Op, OperationFault>
-    requires { length channels.now ≤ 256 }
+    requires { length channels.now ≤ most_channels }
     ensures { result ≡ spec.operation_of channels.now joinable.now text.now }
 {
     let bytes = text.as_bytes();

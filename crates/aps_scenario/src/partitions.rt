@@ -1,7 +1,7 @@
 //! The partitions of a scenario, as the elements of an array.
 ghost use Rattle.std.specs.Prelude.{◌≡◌, ◌<◌, ◌≤◌, [], ◌∷◌, length, OnOk, IfOk};
 ghost use Rattle.toml.specs.View.{view, table_view, array_view};
-ghost use Rattle.aps_model.specs.Limits.{most_partitions};
+ghost use Rattle.aps_model.specs.Limits.{last_partition, most_partitions};
 ghost use Rattle.aps_model.specs.Partition.{row_or_none, partition_named};
 ghost use Rattle.aps_scenario.specs.Refusal.{Gives};
 ghost use Rattle.aps_scenario.specs.Row.{value_of};
@@ -154,7 +154,7 @@ fn system(alloc: Global, parts: u16) -> Result<Vec<PartitionRow>, NoMemory>
 
 /// The root and the partitions of these elements, each with the budget that is left to it.
 fn partitions_of(alloc: Global, parts: u16, array: &Array) -> Result<Vec<PartitionRow>, Failure>
-    requires { length array.now.items ≤ 31 }
+    requires { length array.now.items ≤ last_partition }
     ensures { Gives (λ rows. rows.items) result (spec.partitions_from parts (spec.system parts ∷ []) (array_view array.now)) }
 {
     let mut rows = system(alloc, parts)?;

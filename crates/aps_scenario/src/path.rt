@@ -4,6 +4,8 @@ ghost use Rattle.std.specs.Fmt.{decimal};
 ghost use Rattle.std.specs.List.{list_all};
 ghost use Rattle.aps_model.specs.Name.{is_name_byte};
 ghost use Rattle.aps_scenario.specs.Path as spec;
+ghost use Rattle.aps_scenario.specs.Path.{longest_key};
+ghost use Rattle.aps_scenario.specs.PathText.{longest_path};
 
 use crate::key::Key;
 use crate::refusal::{Part, Place};
@@ -44,7 +46,7 @@ impl PathText {
     /// The bytes of the path.
     pub fn text(&self) -> &[u8]
         ensures same { result.now ≡ self.now }
-        ensures short { length result.now ≤ 64 }
+        ensures short { length result.now ≤ longest_path }
     {
         &self.bytes[..self.len as usize]
     }
@@ -59,7 +61,7 @@ impl PathText {
     }
 
     fn push(&mut self, byte: u8)
-        requires { length self.old < 64 }
+        requires { length self.old < longest_path }
         ensures is { self.new ≡ self.old ++ byte ∷ [] }
         ensures long { length self.new ≡ length self.old + 1 }
     {
@@ -68,7 +70,7 @@ impl PathText {
     }
 
     fn push_text(&mut self, text: &[u8])
-        requires { length self.old + length text.now ≤ 64 }
+        requires { length self.old + length text.now ≤ longest_path }
         ensures is { self.new ≡ self.old ++ text.now }
         ensures long { length self.new ≡ length self.old + length text.now }
     {
@@ -80,7 +82,7 @@ impl PathText {
     // The number in decimal.
     #[tactic(auto, using(crate::proofs::Paths::one_digit, crate::proofs::Paths::last_digit))]
     fn push_number(&mut self, number: u16)
-        requires { length self.old + length (decimal number) ≤ 64 }
+        requires { length self.old + length (decimal number) ≤ longest_path }
         ensures is { self.new ≡ self.old ++ decimal number }
         ensures long { length self.new ≡ length self.old + length (decimal number) }
     {
@@ -184,7 +186,7 @@ impl KeyText {
 
     // These bytes, with zeros behind them.
     fn of(key: &[u8]) -> KeyText
-        requires { length key.now ≤ 32 }
+        requires { length key.now ≤ longest_key }
         ensures { result ≡ spec.held key.now }
     {
         let mut bytes = [0; MOST_KEY_BYTES];
@@ -199,7 +201,7 @@ impl KeyText {
 
     fn text(&self) -> &[u8]
         ensures is { result.now ≡ take self.now.len self.now.bytes }
-        ensures short { length result.now ≤ 32 }
+        ensures short { length result.now ≤ longest_key }
     {
         let len = (self.len as usize).min(MOST_KEY_BYTES);
         &self.bytes[..len]

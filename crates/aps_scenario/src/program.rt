@@ -1,5 +1,6 @@
 //! The program of a thread.
 ghost use Rattle.std.specs.Prelude.{◌≡◌, ◌≤◌, [], length};
+ghost use Rattle.aps_model.specs.Limits.{most_channels, most_operations};
 ghost use Rattle.toml.specs.View.{view, table_view, array_view};
 ghost use Rattle.aps_model.specs.Program.{is_last_op};
 ghost use Rattle.aps_scenario.specs.Refusal.{Gives};
@@ -42,7 +43,7 @@ fn operation(
     channels: &[Name],
     joinable: &[Name],
 ) -> Result<Op, Kind>
-    requires { length channels.now ≤ 256 }
+    requires { length channels.now ≤ most_channels }
     ensures { result ≡ spec.operation_in count channels.now joinable.now index (view value.now) }
 {
     let Some(text) = value.as_str() else {
@@ -68,8 +69,8 @@ fn next_operation(
     joinable: &[Name],
     thread: u16,
 ) -> Result<Op, Finding>
-    requires few_channels { length channels.now ≤ 256 }
-    requires few { length ops.now ≤ 256 }
+    requires few_channels { length channels.now ≤ most_channels }
+    requires few { length ops.now ≤ most_operations }
     ensures { result ≡ spec.next_operation count channels.now joinable.now thread ops.now (view value.now) }
 {
     let index = ops.len() as u16;
@@ -91,8 +92,8 @@ fn operations_of(
     joinable: &[Name],
     thread: u16,
 ) -> Result<Vec<Op>, Failure>
-    requires few_channels { length channels.now ≤ 256 }
-    requires few { length array.now.items ≤ 256 }
+    requires few_channels { length channels.now ≤ most_channels }
+    requires few { length array.now.items ≤ most_operations }
     ensures { Gives (λ ops. ops.items) result (spec.operations_from count channels.now joinable.now thread [] (array_view array.now)) }
 {
     let mut ops = Vec::new(alloc);
@@ -112,7 +113,7 @@ pub fn program_at(
     channels: &[Name],
     joinable: &[Name],
 ) -> Result<Program, Failure>
-    requires { length channels.now ≤ 256 }
+    requires { length channels.now ≤ most_channels }
     ensures { Gives (λ program. program) result (spec.program_at channels.now joinable.now thread (table_view table.now)) }
 {
     let array = array_at(

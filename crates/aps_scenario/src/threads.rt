@@ -3,7 +3,7 @@ ghost use Rattle.std.specs.Prelude.{◌≡◌, ◌<◌, ◌≤◌, [], length};
 ghost use Rattle.toml.specs.View.{view, table_view, array_view};
 ghost use Rattle.aps_scenario.specs.Refusal.{Gives};
 ghost use Rattle.aps_scenario.specs.Threads as spec;
-ghost use Rattle.aps_model.specs.Limits.{most_partitions, most_threads};
+ghost use Rattle.aps_model.specs.Limits.{most_channels, most_partitions, most_threads};
 
 use crate::key::Key;
 use crate::kind::Kind;
@@ -46,7 +46,7 @@ fn next_thread(
 ) -> Result<ThreadRow, Failure>
     requires some_partition { 0 < length partitions.now }
     requires few_partitions { length partitions.now ≤ most_partitions }
-    requires few_channels { length channels.now ≤ 256 }
+    requires few_channels { length channels.now ≤ most_channels }
     requires few { length threads.now ≤ most_threads }
     ensures { Gives (λ row. row) result (spec.next_thread partitions.now channels.now joinable.now threads.now (view value.now)) }
 {
@@ -72,7 +72,7 @@ fn thread_values(
 ) -> Result<ThreadRow, Failure>
     requires some_partition { 0 < length partitions.now }
     requires few_partitions { length partitions.now ≤ most_partitions }
-    requires few_channels { length channels.now ≤ 256 }
+    requires few_channels { length channels.now ≤ most_channels }
     ensures { Gives (λ row. row) result
         (spec.thread_values partitions.now channels.now joinable.now index name (table_view table.now)) }
 {
@@ -102,7 +102,7 @@ fn threads_of(
 ) -> Result<Vec<ThreadRow>, Failure>
     requires some_partition { 0 < length partitions.now }
     requires few_partitions { length partitions.now ≤ most_partitions }
-    requires few_channels { length channels.now ≤ 256 }
+    requires few_channels { length channels.now ≤ most_channels }
     requires few { length array.now.items ≤ most_threads }
     ensures { Gives (λ threads. threads.items) result
         (spec.threads_from partitions.now channels.now joinable.now [] (array_view array.now)) }
@@ -127,7 +127,7 @@ pub fn threads_at(
 ) -> Result<Vec<ThreadRow>, Failure>
     requires some_partition { 0 < length partitions.now }
     requires few_partitions { length partitions.now ≤ most_partitions }
-    requires few_channels { length channels.now ≤ 256 }
+    requires few_channels { length channels.now ≤ most_channels }
     ensures { Gives (λ threads. threads.items) result (spec.threads_at partitions.now channels.now joinable.now (table_view table.now)) }
 {
     match tables_at(table, Place::Top, Key::Thread, MOST_THREADS)? {

@@ -2,6 +2,7 @@
 ghost use Rattle.std.specs.Prelude.{◌≡◌, ◌≤◌, All, IfSome, map};
 ghost use Rattle.std.specs.Option.{option_map};
 ghost use Rattle.aps_model.specs.declared.command.CommandRow.{CommandRow as Row};
+ghost use Rattle.aps_model.specs.Limits.{percent};
 ghost use Rattle.aps_model.specs.Partition.{AreRows};
 ghost use Rattle.aps_model.specs.Upgrade as spec;
 ghost use Rattle.aps_scenario.specs.Upgrading.{IsInHundredths};
@@ -11,7 +12,7 @@ use aps_model::{Call, CommandRow, PartitionRow, Scenario};
 const PARTS: u16 = 1000;
 
 fn upgrade_rows(rows: &mut Vec<PartitionRow>)
-    requires { AreRows 100 rows.old.items }
+    requires { AreRows percent rows.old.items }
     ensures { rows.new.items ≡ map spec.row_times_ten rows.old.items }
 {
     for i in 0..rows.len() {
@@ -20,8 +21,8 @@ fn upgrade_rows(rows: &mut Vec<PartitionRow>)
 }
 
 fn upgraded_row(row: &PartitionRow) -> PartitionRow
-    requires budget { row.now.budget ≤ 100 }
-    requires max { row.now.max ≤ 100 }
+    requires budget { row.now.budget ≤ percent }
+    requires max { row.now.max ≤ percent }
     ensures { result ≡ spec.row_times_ten row.now }
 {
     PartitionRow {
@@ -34,7 +35,7 @@ fn upgraded_row(row: &PartitionRow) -> PartitionRow
 }
 
 fn times_ten(parts: &Option<u16>) -> Option<u16>
-    requires { IfSome parts.now (λ n. n ≤ 100) }
+    requires { IfSome parts.now (λ n. n ≤ percent) }
     ensures { result ≡ option_map spec.times_ten parts.now }
 {
     match parts {

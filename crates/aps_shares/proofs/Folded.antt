@@ -13,15 +13,16 @@ use Rattle.aps_shares.specs.declared.shares.Shares.{Shares}
 use Rattle.aps_shares.specs.Share.{counted, counts_with, has_had, is_asked, no_counts, no_share, share_with}
 use Rattle.aps_shares.specs.Shares.{AreFew, AreFewCounts, AreUpTo, IsFew, counts_up_to, share_up_to, tick_of_all}
 use Rattle.std.specs.Prelude.{◌&&◌}
+use Rattle.aps_model.specs.Limits.{last_tick, most_partitions}
 
 -- ---- one window more
 
-pub none_told : (scenario : Scenario) (h : List Entry) (s : Shares) → s.counts ≡ no_counts → ((p : ℕ) → p < 32 → get_or s.each p no_share ≡ no_share) → AreUpTo scenario h 0 s
+pub none_told : (scenario : Scenario) (h : List Entry) (s : Shares) → s.counts ≡ no_counts → ((p : ℕ) → p < most_partitions → get_or s.each p no_share ≡ no_share) → AreUpTo scenario h 0 s
 unfolding counts_up_to share_up_to
 none_told scenario h s counts each = record { counts = counts; each = each }
 
 pub one_told : (scenario : Scenario) (h : List Entry) (n turn : ℕ) (s t : Shares) (sample : Sample) → sample ≡ sample_of scenario h n → turn ≡ tick_of_all scenario.shape → AreUpTo scenario h n s
-    → t.counts ≡ counts_with s.counts sample → ((p : ℕ) → p < 32 → get_or t.each p no_share ≡ share_with turn p (get_or s.each p no_share) sample) → AreUpTo scenario h (n + 1) t
+    → t.counts ≡ counts_with s.counts sample → ((p : ℕ) → p < most_partitions → get_or t.each p no_share ≡ share_with turn p (get_or s.each p no_share) sample) → AreUpTo scenario h (n + 1) t
 unfolding counts_up_to share_up_to
 one_told scenario h n turn s t sample is same so_far counts each = record {
   counts = counts ∙ (λ i. counts_with (so_far.counts i) (is i))
@@ -43,7 +44,7 @@ fold_few count f step a (suc n) z =
     let rest = fold_few count f step (a + 1) n (f z a) in
     omega (arith, one, rest)
 
-counts_few : (scenario : Scenario) (h : List Entry) (n : ℕ) → n ≤ 100000000 → AreFewCounts (counts_up_to scenario h n)
+counts_few : (scenario : Scenario) (h : List Entry) (n : ℕ) → n ≤ last_tick → AreFewCounts (counts_up_to scenario h n)
 unfolding counts_up_to
 counts_few scenario h n few =
     let f : Counts → ℕ → Counts = λ c j. counts_with c (sample_of scenario h j) in
@@ -52,7 +53,7 @@ counts_few scenario h n few =
     let steady = fold_few (λ (c : Counts). c.steady) f (λ (c : Counts) j. counted_few c.steady (sample_of scenario h j).steady) 0 n no_counts in
     record { full = omega (arith, full, few); unchanged = omega (arith, unchanged, few); steady = omega (arith, steady, few) }
 
-share_few : (scenario : Scenario) (h : List Entry) (p n : ℕ) → n ≤ 100000000 → IsFew (share_up_to scenario h p n)
+share_few : (scenario : Scenario) (h : List Entry) (p n : ℕ) → n ≤ last_tick → IsFew (share_up_to scenario h p n)
 unfolding share_up_to
 share_few scenario h p n few =
     let f : Share → ℕ → Share = λ share j. share_with (tick_of_all scenario.shape) p share (sample_of scenario h j) in
@@ -60,7 +61,7 @@ share_few scenario h p n few =
     let had = fold_few (λ (s : Share). s.had) f (λ (s : Share) j. counted_few s.had (is_asked p (sample_of scenario h j) && has_had p (sample_of scenario h j))) 0 n no_share in
     record { demand = omega (arith, demand, few); had = omega (arith, had, few) }
 
-pub told_few : (scenario : Scenario) (h : List Entry) (n : ℕ) (s : Shares) → n ≤ 100000000 → AreUpTo scenario h n s → AreFew s
+pub told_few : (scenario : Scenario) (h : List Entry) (n : ℕ) (s : Shares) → n ≤ last_tick → AreUpTo scenario h n s → AreFew s
 told_few scenario h n s few is = record {
   counts = subst AreFewCounts (sym is.counts) (counts_few scenario h n few);
   each = λ p less. subst IsFew (sym (is.each p less)) (share_few scenario h p n few);

@@ -9,6 +9,7 @@ use Rattle.aps_model.specs.declared.entry.Order.{Order}
 use Rattle.aps_model.specs.After.{or_limit}
 use Rattle.aps_model.specs.Bill.{exceeding}
 use Rattle.aps_model.specs.Legal.{IsLegal}
+use Rattle.aps_model.specs.Limits.{longest_window, most_entries, most_partitions, shortest_window}
 use Rattle.aps_model.specs.Scenario.{Scenario}
 use Rattle.aps_model.specs.SchedulerState.{SchedulerState, row_at}
 use Rattle.aps_model.specs.Usage.{names, window_critical}
@@ -29,7 +30,7 @@ use Rattle.aps_shares.specs.declared.overspending.Pass.{Pass}
 use Rattle.aps_shares.specs.declared.spent.Spent.{Spent}
 use Rattle.aps_shares.specs.CriticalBudget.{budget_at, budget_by}
 use Rattle.aps_shares.specs.CriticalTime.{IsCounted, for_span, shape_with}
-use Rattle.aps_shares.specs.Overspending.{AreFew, IsAt, excess_by, order_of, scenario_of, used_by}
+use Rattle.aps_shares.specs.Overspending.{AreFew, IsAt, excess_by, most_overspent, order_of, scenario_of, used_by}
 use Rattle.aps_bars.specs.declared.overspent.Overspent.{Overspent}
 use Rattle.aps_shares.specs.Spent.{AreSpent, excess_at, excess_of, listed, overspent_as, overspent_by, overspent_from, overspent_of, spent_from, spent_of, spent_with, state_tested}
 use Rattle.aps_shares.specs.Standing.{standing_of}
@@ -99,7 +100,7 @@ excess_found s h e b n p f used_is =
     ∙ sym (λ i. cond (names (cond (f.test i) (exceeding s h j (f.billed i)) None) p) (Some (used p - budget p)) None)
 
 pub excess_some : (scenario : Scenario) (order : Order) (h : List Entry) (e : Entry) (b : CriticalBudget) (time : CriticalTime) (p : ℕ) → IsScenario scenario → IsLegal scenario order (h ++ e ∷ []) → budget_at scenario h e ≡ Some b
-    → b.partition < 32 → IsCounted scenario (h ++ e ∷ []) (for_span b.window time) → excess_by b (used_by b time) p ≡ excess_of scenario p h e
+    → b.partition < most_partitions → IsCounted scenario (h ++ e ∷ []) (for_span b.window time) → excess_by b (used_by b time) p ≡ excess_of scenario p h e
 excess_some scenario order h e b time p valid legal is small counted =
     let s = state_tested scenario h e in
     let f = found scenario h e b is in
@@ -112,7 +113,8 @@ excess_some scenario order h e b time p valid legal is small counted =
     ∙ (λ i. window_critical (record s.shape { tick = sym tick i; window = window i }) g (at i) b.partition))
 
 -- the budget's window has its range
-pub budget_window : (scenario : Scenario) (order : Order) (h : List Entry) (e : Entry) (b : CriticalBudget) → IsScenario scenario → IsLegal scenario order (h ++ e ∷ []) → budget_at scenario h e ≡ Some b → (8 ≤ b.window) × (b.window ≤ 400)
+pub budget_window : (scenario : Scenario) (order : Order) (h : List Entry) (e : Entry) (b : CriticalBudget) → IsScenario scenario → IsLegal scenario order (h ++ e ∷ [])
+    → budget_at scenario h e ≡ Some b → (shortest_window ≤ b.window) × (b.window ≤ longest_window)
 budget_window scenario order h e b valid legal is =
     let f = found scenario h e b is in
     let sized = (tested_shape scenario order h e valid legal).0 in
@@ -123,7 +125,7 @@ budget_window scenario order h e b valid legal is =
 
 -- what it overspends
 pub overspent_found : (scenario : Scenario) (order : Order) (h : List Entry) (e : Entry) (b : CriticalBudget) (time : CriticalTime) → IsScenario scenario → IsLegal scenario order (h ++ e ∷ []) → budget_at scenario h e ≡ Some b
-    → b.partition < 32 → IsCounted scenario (h ++ e ∷ []) time → overspent_as e.to b.partition (excess_by b (used_by b time) b.partition) ≡ overspent_by scenario h e
+    → b.partition < most_partitions → IsCounted scenario (h ++ e ∷ []) time → overspent_as e.to b.partition (excess_by b (used_by b time) b.partition) ≡ overspent_by scenario h e
 overspent_found scenario order h e b time valid legal is small counted =
     let g = h ++ e ∷ [] in
     let short = (budget_window scenario order h e b valid legal is).1 in
@@ -196,11 +198,11 @@ unfolding IsUpTo
 weaker n m None le few = tt
 weaker n m (Some s) le few = omega (arith, le, few)
 
-pub spent_few : (scenario : Scenario) (h : List Entry) (spent : List (Option Spent)) → length h < 4000000 → AreSpent scenario h spent → AreFew spent
+pub spent_few : (scenario : Scenario) (h : List Entry) (spent : List (Option Spent)) → length h < most_entries → AreSpent scenario h spent → AreFew spent
 unfolding spent_of IsUpTo
 spent_few scenario h spent short are = λ p less.
-    subst (λ (o : Option Spent). IfSome o (λ (s : Spent). s.count ≤ 10000000)) (sym (are p less))
-    (weaker (0 + length h) 10000000 (spent_of scenario h p) (omega (arith, short)) (few_from scenario p 0 None [] h tt))
+    subst (λ (o : Option Spent). IfSome o (λ (s : Spent). s.count ≤ most_overspent)) (sym (are p less))
+    (weaker (0 + length h) most_overspent (spent_of scenario h p) (omega (arith, short)) (few_from scenario p 0 None [] h tt))
 
 -- ---- the pass
 
@@ -209,19 +211,19 @@ no_ticks t = search (arith)
 
 -- at the start
 pub at_begin : (core start : Run) (time : CriticalTime) (window : ℕ) → core ≡ start → IsScenario start.setup.scenario → start.entries ≡ [] → time ≡ record { window = opened window; span = window } → window ≡ start.setup.scenario.shape.window
-    → IsAt (record { core = core; moment = 0; time = time; spent = replicate 32 None })
+    → IsAt (record { core = core; moment = 0; time = time; spent = replicate most_partitions None })
 unfolding spent_of
 at_begin core start time window is valid begins new wide =
     let scenario = start.setup.scenario in
-    let At : Run → CriticalTime → Type 0 = λ r t. IsAt (record { core = r; moment = 0; time = t; spent = replicate 32 None }) in
+    let At : Run → CriticalTime → Type 0 = λ r t. IsAt (record { core = r; moment = 0; time = t; spent = replicate most_partitions None }) in
     let none : Run = record { setup = start.setup; entries = [] } in
-    let short : window ≤ 400 = let s = valid.shape.window_short in omega (arith, s, wide) in
+    let short : window ≤ longest_window = let s = valid.shape.window_short in omega (arith, s, wide) in
     let counts : Counts (shape_with scenario window) [] 0 (opened window) = counts_none (shape_with scenario window) short in
     let at_none : At none (record { window = opened window; span = window }) = record {
       valid = valid;
       moment = refl;
       counted = subst (λ j. Counts (shape_with scenario window) [] j (opened window)) (sym (no_ticks scenario.shape.tick)) counts;
-      spent = λ p less. get_or-replicate 32 p None None less;
+      spent = λ p less. get_or-replicate most_partitions p None None less;
     } in
     let whole : start ≡ none = ap (λ es. record start { entries = es }) begins in
     subst (At core) (sym new) (subst (λ r. At r (record { window = opened window; span = window })) (sym (is ∙ whole)) at_none)
@@ -247,7 +249,7 @@ taken_at setup run h i e here legal less is few =
 
 -- after it
 pub at_more : (pass after : Pass) (e : Entry) → IsAt pass → after.core ≡ with_entry pass.core e → after.moment ≡ e.to → IsCounted (scenario_of pass) (pass.core.entries ++ e ∷ []) after.time
-    → ((p : ℕ) → p < 32 → get_or after.spent p None ≡ spent_with (get_or pass.spent p None) e.to (excess_of (scenario_of pass) p pass.core.entries e)) → IsAt after
+    → ((p : ℕ) → p < most_partitions → get_or after.spent p None ≡ spent_with (get_or pass.spent p None) e.to (excess_of (scenario_of pass) p pass.core.entries e)) → IsAt after
 at_more pass after e at core now counted spent =
     let scenario = scenario_of pass in
     let h = pass.core.entries in
@@ -271,8 +273,8 @@ at_quiet pass after e at core now counted none spent =
 
 pub at_compared : (pass after : Pass) (e : Entry) (b : CriticalBudget) (time : CriticalTime) → IsAt pass → IsLegal (scenario_of pass) (order_of pass) (pass.core.entries ++ e ∷ []) → after.core ≡ with_entry pass.core e → after.moment ≡ e.to
     → IsCounted (scenario_of pass) (pass.core.entries ++ e ∷ []) time → after.time ≡ for_span b.window time
-    → budget_at (scenario_of pass) pass.core.entries e ≡ Some b → b.partition < 32
-    → ((p : ℕ) → p < 32 → get_or after.spent p None ≡ spent_with (get_or pass.spent p None) e.to (excess_by b (used_by b time) p)) → IsAt after
+    → budget_at (scenario_of pass) pass.core.entries e ≡ Some b → b.partition < most_partitions
+    → ((p : ℕ) → p < most_partitions → get_or after.spent p None ≡ spent_with (get_or pass.spent p None) e.to (excess_by b (used_by b time) p)) → IsAt after
 at_compared pass after e b time at legal core now counted resized_is is small spent =
     let scenario = scenario_of pass in
     let h = pass.core.entries in

@@ -8,6 +8,7 @@ use Rattle.aps_model.specs.declared.entry.Order.{Order}
 use Rattle.aps_model.specs.After.{state_after}
 use Rattle.aps_model.specs.History.{IsEntry}
 use Rattle.aps_model.specs.Legal.{IsLegal}
+use Rattle.aps_model.specs.Limits.{most_ticks, most_time_of_tick}
 use Rattle.aps_model.specs.Scenario.{Scenario}
 use Rattle.aps_model.specs.Usage.{used}
 use Rattle.aps_model.specs.Valid.{IsScenario}
@@ -28,9 +29,9 @@ pub record IsLater (scenario : Scenario) (h : List Entry) (e : Entry) : Type 0 w
   pub entry : IsEntry e
   pub whole : IsInOneTick scenario.shape.tick e
   pub forward : moment h / scenario.shape.tick ≤ e.to / scenario.shape.tick
-  pub early : e.to / scenario.shape.tick ≤ 1000000
+  pub early : e.to / scenario.shape.tick ≤ most_ticks
 
-early_tick : (ticks tick to : ℕ) → to ≤ ticks * tick → ticks ≤ 1000000 → 0 < tick → to / tick ≤ 1000000
+early_tick : (ticks tick to : ℕ) → to ≤ ticks * tick → ticks ≤ most_ticks → 0 < tick → to / tick ≤ most_ticks
 early_tick ticks tick to within few pos = let l : to / tick ≤ ticks = div-le_of_le-mul tick (omega (arith, within)) in omega (arith, l, few)
 
 pub is_later : (scenario : Scenario) (order : Order) (h : List Entry) (e : Entry) → IsScenario scenario → IsLegal scenario order (h ++ e ∷ []) → IsLater scenario h e
@@ -54,7 +55,7 @@ pub gone_on : (scenario : Scenario) (h : List Entry) (j : ℕ) (time : CriticalT
 gone_on scenario h j time after counted forward is =
     subst (Counts (shape_with scenario time.span) h j) (sym is) (counts_later (shape_with scenario time.span) h (moment h / scenario.shape.tick) j time.window counted forward)
 
-few_used : (scenario : Scenario) (order : Order) (h : List Entry) (p k : ℕ) → IsScenario scenario → IsLegal scenario order h → used scenario.shape.tick h p k (k + 1) ≤ 160000000
+few_used : (scenario : Scenario) (order : Order) (h : List Entry) (p k : ℕ) → IsScenario scenario → IsLegal scenario order h → used scenario.shape.tick h p k (k + 1) ≤ most_time_of_tick
 few_used scenario order h p k valid legal =
     let small = usage_small scenario order h k (k + 1) valid legal in
     let each = small.each p in

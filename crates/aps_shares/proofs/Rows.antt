@@ -4,6 +4,7 @@ use Rattle.std.specs.List.{flat_map, enumerate_from}
 use Rattle.std.proofs.lemmas.List.{take_more, take_all, flat_map_more}
 use Rattle.std.proofs.lemmas.List.FromFn.{length-enumerate_from, get_or-enumerate_from}
 use Rattle.aps_model.specs.declared.partition.PartitionRow.{PartitionRow}
+use Rattle.aps_model.specs.Limits.{most_partitions}
 use Rattle.aps_shares.specs.declared.share.Share.{Share}
 use Rattle.aps_shares.specs.declared.spent.Spent.{Spent}
 use Rattle.aps_shares.specs.Text.{partition_text}
@@ -29,7 +30,8 @@ rows_all f start out xs i past so_far =
     so_far ∙ ap (λ r. start ++ flat_map f r) (take_all i (enumerate_from 0 xs) (rw (length-enumerate_from 0 xs) past))
 
 -- two ways to know the same of each partition
-pub same_texts : (f g : ℕ → Share) (a b : ℕ → Option Spent) → ((p : ℕ) → p < 32 → f p ≡ g p) → ((p : ℕ) → p < 32 → a p ≡ b p) → (n : ℕ) (rows : List PartitionRow) → n + length rows ≤ 32
+pub same_texts : (f g : ℕ → Share) (a b : ℕ → Option Spent) → ((p : ℕ) → p < most_partitions → f p ≡ g p) → ((p : ℕ) → p < most_partitions → a p ≡ b p) → (n : ℕ) (rows : List PartitionRow)
+    → n + length rows ≤ most_partitions
     → flat_map (partition_text f a) (enumerate_from n rows) ≡ flat_map (partition_text g b) (enumerate_from n rows)
 same_texts f g a b shares spent n [] room = refl
 same_texts f g a b shares spent n (row ∷ rows) room =

@@ -1,6 +1,6 @@
 -- The window in which critical time is counted.
 use Rattle.std.specs.Prelude.{◌≡◌, ℕ, ◌+◌, ◌-◌, ◌/◌, ◌≤◌, ◌++◌, List, [], ◌∷◌, Some}
-use Rattle.aps_model.specs.Limits.{most_ticks}
+use Rattle.aps_model.specs.Limits.{most_ticks, most_time_of_tick}
 use Rattle.aps_model.specs.declared.entry.Entry.{Entry}
 use Rattle.aps_model.specs.declared.shape.Shape.{Shape}
 use Rattle.aps_model.specs.Scenario.{Scenario}
@@ -27,9 +27,10 @@ pub record HasRoom (tick : ℕ) (window : Window) (e : Entry) : Type 0 where
   pub early : window.tick ≤ most_ticks
   pub past : e.from / tick ≤ window.tick
   pub recent : window.tick ≤ e.from / tick + 1
-  pub fits : (p : ℕ) → e.billed ≡ Some p → billed_on window p (e.from / tick) + (e.to - e.from) ≤ 160000000
+  pub fits : (p : ℕ) → e.billed ≡ Some p → billed_on window p (e.from / tick) + (e.to - e.from) ≤ most_time_of_tick
 
 -- the window has the time of the entry too
 abbrev pub GoesOnBy : ℕ → Window → Entry → Window → Type 0
 GoesOnBy tick before e after =
-    (shape : Shape) (h : List Entry) (j : ℕ) → tick ≡ shape.tick → IsInOneTick tick e → Counts shape h j before → Counts shape (h ++ e ∷ []) j after
+    (shape : Shape) (h : List Entry) (j : ℕ) → tick ≡ shape.tick → IsInOneTick tick e → Counts shape h j before
+    → Counts shape (h ++ e ∷ []) j after

@@ -36,6 +36,10 @@ used_by budget time = (total_of (resized budget.window time.window) budget.parti
 abbrev pub excess_by : CriticalBudget → ℕ → ℕ → Option ℕ
 excess_by budget used p = if nat_eq budget.partition p && nat_lt budget.ns used then Some (used - budget.ns) else None
 
+-- more than there are entries of a run
+abbrev pub most_overspent : ℕ
+most_overspent = 10000000
+
 -- so often one can go on counting
 abbrev pub AreFew : List (Option Spent) → Type 0
-AreFew spent = (p : ℕ) → p < most_partitions → IfSome (slice_index_or spent p None) (λ s. s.count ≤ 10000000)
+AreFew spent = (p : ℕ) → p < most_partitions → IfSome (slice_index_or spent p None) (λ s. s.count ≤ most_overspent)

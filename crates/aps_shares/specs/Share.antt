@@ -58,6 +58,10 @@ beyond_in p sample = record {
 abbrev pub is_greater : Amount → Amount → Bool
 is_greater a b = nat_lt b.ns a.ns
 
+-- more than a partition may take from another, in ns
+abbrev pub most_taken_by_one : ℕ
+most_taken_by_one = 40000000000000000000
+
 -- what partition q may take from p: its critical time, and with an allowance one tick of all processors; nothing from itself
 abbrev pub taken_by : ℕ → ℕ → Sample → ℕ → ℕ
 taken_by turn p sample q =

@@ -1,7 +1,7 @@
 -- What is told of all partitions over the windows of a history.
 use Rattle.std.specs.Prelude.{◌≡◌, ℕ, ◌*◌, ◌<◌, ◌≤◌, List, slice_index_or}
 use Rattle.std.specs.List.{fold, range_with_len}
-use Rattle.aps_model.specs.Limits.{most_partitions}
+use Rattle.aps_model.specs.Limits.{last_tick, most_partitions}
 use Rattle.aps_model.specs.declared.entry.Entry.{Entry}
 use Rattle.aps_model.specs.declared.shape.Shape.{Shape}
 use Rattle.aps_model.specs.Loaded.{finished_ticks}
@@ -38,13 +38,13 @@ pub record AreUpTo (scenario : Scenario) (h : List Entry) (n : ℕ) (shares : Sh
 
 -- so much can be counted on
 pub record IsFew (share : Share) : Type 0 where
-  pub demand : share.demand ≤ 100000000
-  pub had : share.had ≤ 100000000
+  pub demand : share.demand ≤ last_tick
+  pub had : share.had ≤ last_tick
 
 pub record AreFewCounts (counts : Counts) : Type 0 where
-  pub full : counts.full ≤ 100000000
-  pub unchanged : counts.unchanged ≤ 100000000
-  pub steady : counts.steady ≤ 100000000
+  pub full : counts.full ≤ last_tick
+  pub unchanged : counts.unchanged ≤ last_tick
+  pub steady : counts.steady ≤ last_tick
 
 pub record AreFew (shares : Shares) : Type 0 where
   pub counts : AreFewCounts shares.counts

@@ -35,7 +35,8 @@ shortfall_text (Some s) =
 abbrev pub spent_text : Option Spent → List ℕ
 spent_text None = codes "0\n"
 spent_text (Some s) =
-    decimal s.count ++ (codes " first " ++ (decimal s.first ++ (codes " worst " ++ (decimal s.worst ++ (codes " at " ++ (decimal s.at ++ codes "\n"))))))
+    decimal s.count ++ (codes " first "
+    ++ (decimal s.first ++ (codes " worst " ++ (decimal s.worst ++ (codes " at " ++ (decimal s.at ++ codes "\n"))))))
 
 -- ---- a partition
 

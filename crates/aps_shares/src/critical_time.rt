@@ -2,7 +2,7 @@
 ghost use Rattle.std.specs.Prelude.{◌≡◌, ◌<◌, ◌≤◌, ◌-◌, ◌++◌, List, [], ◌∷◌, IfOk};
 ghost use Rattle.aps_model.specs.declared.entry.Entry.{Entry as EntryOf};
 ghost use Rattle.aps_model.specs.History.{IsEntry};
-ghost use Rattle.aps_model.specs.Limits.{longest_window};
+ghost use Rattle.aps_model.specs.Limits.{last_tick, longest_window, shortest_window};
 ghost use Rattle.aps_window.specs.Window.{advanced, opened, total_of};
 ghost use Rattle.aps_shares.specs.CriticalTime.{GoesOnBy, HasRoom, IsCounted, for_span};
 
@@ -21,7 +21,7 @@ pub struct CriticalTime {
 impl CriticalTime {
     /// Nothing billed; the last `span` ticks count, 8 to 400. `NoMemory` comes where memory runs out.
     pub fn new(alloc: Global, span: u16) -> Result<CriticalTime, NoMemory>
-        requires least { 8 ≤ span }
+        requires least { shortest_window ≤ span }
         requires most { span ≤ longest_window }
         ensures { IfOk result (λ time. time ≡ record { window = opened span; span = span }) }
     {
@@ -42,7 +42,7 @@ impl CriticalTime {
 
     /// What the partition used of critical time in the last `span` ticks, 8 to 400, which count from now on.
     pub fn used_in(&mut self, p: PartitionId, span: u16) -> Nanos
-        requires least { 8 ≤ span }
+        requires least { shortest_window ≤ span }
         requires most { span ≤ longest_window }
         requires span { self.old.window.span ≡ self.old.span }
         ensures time { self.new ≡ for_span span self.old }
@@ -59,7 +59,7 @@ impl CriticalTime {
 /// The window goes on to this tick.
 fn go_on(window: &mut Window, tick: u32)
     requires forward { window.old.tick ≤ tick }
-    requires few { tick ≤ 100000000 }
+    requires few { tick ≤ last_tick }
     ensures { window.new ≡ advanced (tick - window.old.tick) window.old }
 {
     let ticks = tick - window.tick();

@@ -9,7 +9,7 @@ ghost use Rattle.aps_samples.specs.Retraced.{start_of};
 ghost use Rattle.aps_shares.specs.CriticalBudget.{AreUntestedFrom, tested_by};
 ghost use Rattle.aps_shares.specs.CriticalTime.{for_span};
 ghost use Rattle.aps_shares.specs.Spent.{AreSpent, listed, overspent_as, overspent_by, overspent_of, spent_with};
-ghost use Rattle.aps_model.specs.Limits.{longest_window, most_entries, most_partitions};
+ghost use Rattle.aps_model.specs.Limits.{longest_window, most_entries, most_partitions, shortest_window};
 
 use crate::critical_budget::{CriticalBudget, budget_next, if_lasts, tested};
 use crate::critical_time::CriticalTime;
@@ -165,7 +165,7 @@ impl Pass {
 
     /// Notes by how much the partition has overspent this budget at the last moment, if it has, and gives it.
     fn compare(&mut self, budget: &CriticalBudget) -> Option<Overspent>
-        requires least { 8 ≤ budget.now.window }
+        requires least { shortest_window ≤ budget.now.window }
         requires most { budget.now.window ≤ longest_window }
         requires span { self.old.time.window.span ≡ self.old.time.span }
         requires few { AreFew self.old.spent }

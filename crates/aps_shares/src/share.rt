@@ -2,7 +2,8 @@
 ghost use Rattle.std.specs.Prelude.{◌≡◌, ◌≤◌, ◌<◌, ◌&&◌, not};
 ghost use Rattle.aps_shares.specs.Share as spec;
 ghost use Rattle.aps_shares.specs.Shares.{AreFewCounts, IsFew};
-ghost use Rattle.aps_model.specs.Limits.{most_partitions};
+ghost use Rattle.aps_model.specs.Limits.{last_tick, most_partitions};
+ghost use Rattle.aps_shares.specs.Share.{most_taken_by_one};
 
 use aps_model::Nanos;
 use aps_model::limits::MOST_PARTITIONS;
@@ -83,7 +84,7 @@ impl Counts {
 
 /// One more where it is so.
 fn counted(count: u64, is_so: bool) -> u64
-    requires { count ≤ 100000000 }
+    requires { count ≤ last_tick }
     ensures { result ≡ spec.counted count is_so }
 {
     if is_so { count + 1 } else { count }
@@ -110,7 +111,7 @@ impl Share {
     pub fn with(&self, sample: &Sample, p: usize, turn: Nanos) -> Share
         requires p { p < most_partitions }
         requires few { IsFew self.now }
-        requires tick { sample.now.tick ≤ 100000000 }
+        requires tick { sample.now.tick ≤ last_tick }
         ensures { result ≡ spec.share_with turn p self.now sample.now }
     {
         let asked = both(sample.unchanged, sample.demand[p]);
@@ -143,7 +144,7 @@ fn but_not(a: bool, b: bool) -> bool
 
 /// The first tick of the window.
 fn first_tick(sample: &Sample) -> u64
-    requires { sample.now.tick ≤ 100000000 }
+    requires { sample.now.tick ≤ last_tick }
     ensures { result ≡ spec.first_tick sample.now }
 {
     (sample.tick + 1).saturating_sub(u64::from(sample.window))
@@ -152,7 +153,7 @@ fn first_tick(sample: &Sample) -> u64
 /// What partition `p` used in the window.
 fn used_in(sample: &Sample, p: usize) -> Used
     requires p { p < most_partitions }
-    requires tick { sample.now.tick ≤ 100000000 }
+    requires tick { sample.now.tick ≤ last_tick }
     ensures { result ≡ spec.used_in p sample.now }
 {
     Used {
@@ -165,7 +166,7 @@ fn used_in(sample: &Sample, p: usize) -> Used
 /// The free time of partition `p` in the window.
 fn free_in(sample: &Sample, p: usize) -> Amount
     requires p { p < most_partitions }
-    requires tick { sample.now.tick ≤ 100000000 }
+    requires tick { sample.now.tick ≤ last_tick }
     ensures { result ≡ spec.free_in p sample.now }
 {
     Amount {
@@ -177,7 +178,7 @@ fn free_in(sample: &Sample, p: usize) -> Amount
 /// The critical time of partition `p` in the window.
 fn critical_in(sample: &Sample, p: usize) -> Amount
     requires p { p < most_partitions }
-    requires tick { sample.now.tick ≤ 100000000 }
+    requires tick { sample.now.tick ≤ last_tick }
     ensures { result ≡ spec.critical_in p sample.now }
 {
     Amount {
@@ -189,7 +190,7 @@ fn critical_in(sample: &Sample, p: usize) -> Amount
 /// What partition `p` used beyond its allowance, its critical time and its free time.
 fn beyond_in(sample: &Sample, p: usize) -> Amount
     requires p { p < most_partitions }
-    requires tick { sample.now.tick ≤ 100000000 }
+    requires tick { sample.now.tick ≤ last_tick }
     ensures { result ≡ spec.beyond_in p sample.now }
 {
     let beyond = sample.usage.used[p].saturating_sub(sample.allowance[p]);
@@ -203,7 +204,7 @@ fn beyond_in(sample: &Sample, p: usize) -> Amount
 /// By how much partition `p` fell short, beside what the others may take.
 fn shortfall_in(sample: &Sample, p: usize, turn: Nanos) -> Shortfall
     requires p { p < most_partitions }
-    requires tick { sample.now.tick ≤ 100000000 }
+    requires tick { sample.now.tick ≤ last_tick }
     ensures { result ≡ spec.shortfall_in turn p sample.now }
 {
     Shortfall {
@@ -222,7 +223,7 @@ fn short_with(
     counts: bool,
 ) -> Option<Shortfall>
     requires p { p < most_partitions }
-    requires tick { sample.now.tick ≤ 100000000 }
+    requires tick { sample.now.tick ≤ last_tick }
     ensures { result ≡ spec.with_one spec.is_shorter best (spec.shortfall_in turn p sample.now) counts }
 {
     // most windows count for nobody, and what the others may take is told of a window that counts alone
@@ -248,7 +249,7 @@ fn others(sample: &Sample, p: usize, turn: Nanos) -> u128
 fn taken_by(sample: &Sample, p: usize, q: usize, turn: Nanos) -> u128
     requires { q < most_partitions }
     ensures same { result ≡ spec.taken_by turn p sample.now q }
-    ensures few { result ≤ 40000000000000000000 }
+    ensures few { result ≤ most_taken_by_one }
 {
     if q == p {
         return 0;

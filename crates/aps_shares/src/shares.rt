@@ -7,7 +7,7 @@ ghost use Rattle.aps_model.specs.Shape.{IsShape};
 ghost use Rattle.aps_samples.specs.Pass.{IsAt, scenario_of};
 ghost use Rattle.aps_shares.specs.Share.{counts_with, no_counts, no_share, share_with};
 ghost use Rattle.aps_shares.specs.Shares.{AreFew, AreUpTo, IsFew, tick_of_all};
-ghost use Rattle.aps_model.specs.Limits.{most_entries, most_partitions};
+ghost use Rattle.aps_model.specs.Limits.{last_tick, most_entries, most_partitions};
 
 use crate::share::{Counts, Share};
 use aps_model::limits::MOST_PARTITIONS;
@@ -88,7 +88,7 @@ impl Shares {
     /// Adds the window of one sample more, where all processors have so much time in a tick (ns).
     fn add(&mut self, sample: &Sample, turn: Nanos)
         requires few { AreFew self.old }
-        requires tick { sample.now.tick ≤ 100000000 }
+        requires tick { sample.now.tick ≤ last_tick }
         ensures counts { self.new.counts ≡ counts_with self.old.counts sample.now }
         ensures each { (p : ℕ)
             → p < most_partitions
@@ -102,8 +102,9 @@ impl Shares {
 /// The share of each partition with one window more.
 fn each_with(shares: &[Share; 32], sample: &Sample, turn: Nanos) -> [Share; 32]
     requires few { (p : ℕ) → p < most_partitions → IsFew (slice_index_or shares.now p no_share) }
-    requires tick { sample.now.tick ≤ 100000000 }
-    ensures { (p : ℕ) → p < most_partitions → slice_index_or result p no_share ≡ share_with turn p (slice_index_or shares.now p no_share) sample.now }
+    requires tick { sample.now.tick ≤ last_tick }
+    ensures { (p : ℕ) → p < most_partitions
+        → slice_index_or result p no_share ≡ share_with turn p (slice_index_or shares.now p no_share) sample.now }
 {
     let mut all = [Share::none(); MOST_PARTITIONS];
     for p in 0..MOST_PARTITIONS {

@@ -28,8 +28,8 @@ pub fn shares_text(alloc: Global, history: &History, order: Order) -> Result<Str
     shares_text_with(alloc, history, order, &spent)
 }
 
-/// The same, where it is given how often each partition overspent its critical budget; all in ns. Partitions come by their numbers. The history is legal in this order of
-/// turns. `NoMemory` comes where memory runs out.
+/// The same, where it is given how often each partition overspent its critical budget; all in ns. Partitions come by their
+/// numbers. The history is legal in this order of turns. `NoMemory` comes where memory runs out.
 pub fn shares_text_with(
     alloc: Global,
     history: &History,

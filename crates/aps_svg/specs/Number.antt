@@ -2,6 +2,7 @@
 use lib.Chars.{codes}
 use Rattle.std.specs.Prelude.{ℕ, ◌*◌, ◌/◌, ◌%◌, ◌++◌, zero, suc, List, [], nat_eq, if◌then◌else◌}
 use Rattle.std.specs.Fmt.{decimal}
+use Rattle.aps_model.specs.Limits.{thousandths}
 
 -- the number without so many of its last digits
 abbrev pub without_digits : ℕ → ℕ → ℕ
@@ -20,7 +21,7 @@ with_places n (suc places) = decimal (without_digits n (suc places)) ++ (codes "
 
 -- the part of the whole in percent with one place, rounded down; a dash where there is no whole
 abbrev pub percent_text : ℕ → ℕ → List ℕ
-percent_text part whole = if nat_eq whole 0 then codes "- %" else with_places (part * 1000 / whole) 1 ++ codes " %"
+percent_text part whole = if nat_eq whole 0 then codes "- %" else with_places (part * thousandths / whole) 1 ++ codes " %"
 
 -- with at most so many places, and no zero at the end of them
 abbrev pub trimmed : ℕ → ℕ → List ℕ

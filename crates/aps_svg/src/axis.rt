@@ -1,5 +1,7 @@
 //! Lines for round moments, and their labels.
 ghost use Rattle.std.specs.Prelude.{◌≡◌, ◌+◌, ◌-◌, ◌*◌, ◌<◌, ◌≤◌};
+ghost use Rattle.aps_svg.specs.Span.{last_shown, lowest_foot, page_width};
+ghost use Rattle.aps_svg.specs.Step.{greatest_step};
 
 use crate::element::{Anchor, Place, add_text, close_text, open_text};
 use crate::number::{add_decimal, digits_of, without_digits};
@@ -23,8 +25,8 @@ pub struct Frame {
     pub bottom: u64,
     pub most: u64,
     ghost inside: { 300 ≤ x },
-    ghost narrow: { x + width ≤ 14000 },
-    ghost short: { bottom ≤ 1000000000 },
+    ghost narrow: { x + width ≤ page_width },
+    ghost short: { bottom ≤ lowest_foot },
     ghost some: { 0 < most },
 }
 
@@ -46,8 +48,8 @@ pub fn add_axis(out: &mut String, frame: Frame, span: Span) -> Result<(), NoMemo
 /// The least multiple of the step that isn't below the moment.
 fn first_multiple(moment: Nanos, step: Nanos) -> Nanos
     requires some { 0 < step }
-    requires moment { moment ≤ 100000000000000000 }
-    requires step { step ≤ 1000000000000000000 }
+    requires moment { moment ≤ last_shown }
+    requires step { step ≤ greatest_step }
     ensures least { moment ≤ result }
     ensures near { result < moment + step }
 {
@@ -75,7 +77,7 @@ fn add_label(
     moment: Nanos,
     places: u8,
 ) -> Result<(), NoMemory>
-    requires bottom { bottom ≤ 1000000000 }
+    requires bottom { bottom ≤ lowest_foot }
     requires places { places ≤ 6 }
 {
     let y = bottom + BELOW;

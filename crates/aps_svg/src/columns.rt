@@ -1,5 +1,6 @@
 //! What many bars are drawn as: columns of equal time, in each of which the shares of the time are stacked.
 ghost use Rattle.std.specs.Prelude.{◌≡◌, ◌<◌, ◌≤◌, ◌*◌, length, IfOk};
+ghost use Rattle.aps_svg.specs.Span.{column_count, lowest_foot, stacked_count};
 
 use crate::element::{close_filled, close_path, open_path};
 use crate::fill::Fill;
@@ -30,8 +31,8 @@ pub struct Columns {
     span: Span,
     times: Vec<[Nanos; PARTS]>,
     drawn: Vec<Nanos>,
-    ghost columns: { length times.items ≡ 600 },
-    ghost places: { length drawn.items ≡ 600 },
+    ghost columns: { length times.items ≡ column_count },
+    ghost places: { length drawn.items ≡ column_count },
 }
 
 /// Where columns stand: from the top, and how high.
@@ -39,7 +40,7 @@ pub struct Columns {
 pub struct Strip {
     pub top: u64,
     pub height: u64,
-    ghost low: { top ≤ 1000000000 },
+    ghost low: { top ≤ lowest_foot },
     ghost flat: { height ≤ 1000000 },
 }
 
@@ -86,7 +87,7 @@ impl Columns {
 
     /// A column that begins at the moment or before it, and no later one does but where it begins there too.
     fn column_of(&self, moment: Nanos) -> usize
-        ensures { result ≤ 600 }
+        ensures { result ≤ column_count }
     {
         let shown = moment.max(self.span.from).min(self.span.to);
         share(shown - self.span.from, COLUMNS as u64, self.span.length()) as usize
@@ -94,13 +95,13 @@ impl Columns {
 
     /// Where a column begins, and where it ends.
     fn edges(&self, column: usize) -> (Nanos, Nanos)
-        requires { column < 600 }
+        requires { column < column_count }
     {
         (self.edge(column as u64), self.edge(column as u64 + 1))
     }
 
     fn edge(&self, column: u64) -> Nanos
-        requires { column ≤ 600 }
+        requires { column ≤ column_count }
         ensures { result ≤ 200000000000000000 }
     {
         self.span.from + share(column, self.span.length(), COLUMNS as u64)
@@ -117,7 +118,7 @@ impl Columns {
 
     /// The boxes of the part at this place, and over critical time the hatching.
     fn draw_part(&self, out: &mut String, strip: Strip, place: usize) -> Result<(), NoMemory>
-        requires { place < 65 }
+        requires { place < stacked_count }
     {
         if !self.is_shown(strip, place) {
             return Ok(());
@@ -135,7 +136,7 @@ impl Columns {
 
     /// Whether the part has a box in some column.
     fn is_shown(&self, strip: Strip, place: usize) -> bool
-        requires { place < 65 }
+        requires { place < stacked_count }
     {
         for i in 0..COLUMNS {
             if self.box_of(strip, place, i).is_some() {
@@ -147,7 +148,7 @@ impl Columns {
 
     /// The boxes of the part, from left to right.
     fn add_boxes(&self, out: &mut String, strip: Strip, place: usize) -> Result<(), NoMemory>
-        requires { place < 65 }
+        requires { place < stacked_count }
     {
         let mut last: Option<Boxed> = None;
         for i in 0..COLUMNS {
@@ -163,8 +164,8 @@ impl Columns {
 
     /// The box of the part in this column, if it has one.
     fn box_of(&self, strip: Strip, place: usize, column: usize) -> Option<Boxed>
-        requires place { place < 65 }
-        requires column { column < 600 }
+        requires place { place < stacked_count }
+        requires column { column < column_count }
     {
         let (begin, end) = self.edges(column);
         let length = end.saturating_sub(begin);
@@ -188,7 +189,7 @@ impl Columns {
 
     /// The part at this place is drawn.
     fn pass(&mut self, place: usize)
-        requires { place < 65 }
+        requires { place < stacked_count }
     {
         for i in 0..COLUMNS {
             self.drawn[i] = self.drawn[i].saturating_add(self.times[i][place]);
@@ -197,7 +198,7 @@ impl Columns {
 }
 
 fn no_times(alloc: Global) -> Result<Vec<[Nanos; PARTS]>, NoMemory>
-    ensures { IfOk result (λ times. length times.items ≡ 600) }
+    ensures { IfOk result (λ times. length times.items ≡ column_count) }
 {
     let mut times = Vec::with_capacity(alloc, COLUMNS)?;
     for _ in 0..COLUMNS {
@@ -207,7 +208,7 @@ fn no_times(alloc: Global) -> Result<Vec<[Nanos; PARTS]>, NoMemory>
 }
 
 fn none_drawn(alloc: Global) -> Result<Vec<Nanos>, NoMemory>
-    ensures { IfOk result (λ drawn. length drawn.items ≡ 600) }
+    ensures { IfOk result (λ drawn. length drawn.items ≡ column_count) }
 {
     let mut drawn = Vec::with_capacity(alloc, COLUMNS)?;
     for _ in 0..COLUMNS {
@@ -218,7 +219,7 @@ fn none_drawn(alloc: Global) -> Result<Vec<Nanos>, NoMemory>
 
 /// Where a part stands among all parts.
 fn place_of(part: Part) -> usize
-    ensures { result < 65 }
+    ensures { result < stacked_count }
 {
     match part {
         Part::Billed {

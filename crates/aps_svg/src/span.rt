@@ -1,6 +1,6 @@
 //! The time that a picture shows.
 ghost use Rattle.std.specs.Prelude.{◌≡◌, ◌+◌, ◌-◌, ◌<◌, ◌≤◌};
-ghost use Rattle.aps_svg.specs.Span.{has, meets, within, x_of};
+ghost use Rattle.aps_svg.specs.Span.{has, last_shown, left_edge, meets, shown_width, within, x_of};
 
 use crate::sharing::share;
 use aps_model::Nanos;
@@ -16,7 +16,7 @@ pub struct Span {
     pub from: Nanos,
     pub to: Nanos,
     ghost some: { from < to },
-    ghost early: { to ≤ 100000000000000000 },
+    ghost early: { to ≤ last_shown },
 }
 
 impl Span {
@@ -24,7 +24,7 @@ impl Span {
     pub fn length(&self) -> Nanos
         ensures same { result ≡ self.now.to - self.now.from }
         ensures some { 0 < result }
-        ensures few { result ≤ 100000000000000000 }
+        ensures few { result ≤ last_shown }
     {
         self.to - self.from
     }
@@ -53,8 +53,8 @@ impl Span {
     /// Where a moment stands on the picture, in units from the left; one outside stands at the nearer end.
     pub fn x_of(&self, moment: Nanos) -> u64
         ensures same { result ≡ x_of self.now.from self.now.to moment }
-        ensures least { 1400 ≤ result }
-        ensures most { result ≤ 13400 }
+        ensures least { left_edge ≤ result }
+        ensures most { result ≤ left_edge + shown_width }
     {
         let shown = moment.max(self.from).min(self.to);
         LEFT + share(shown - self.from, PLOT, self.to - self.from)

@@ -1,13 +1,14 @@
 //! Round steps for a scale.
 ghost use Rattle.std.specs.Prelude.{◌≡◌, ℕ, ◌+◌, ◌*◌, ◌<◌, ◌≤◌};
-ghost use Rattle.aps_svg.specs.Step.{IsRound};
+ghost use Rattle.aps_svg.specs.Step.{IsRound, greatest_step};
+ghost use Rattle.aps_svg.specs.Span.{last_shown};
 
 /// The least round step by which a length is divided into at most so many: 1, 2 or 5 times a power of ten.
 pub fn step_of(length: u64, most: u64) -> u64
     requires some { 0 < most }
-    requires short { length ≤ 100000000000000000 }
+    requires short { length ≤ last_shown }
     ensures some { 1 ≤ result }
-    ensures few { result ≤ 1000000000000000000 }
+    ensures few { result ≤ greatest_step }
     ensures round { IsRound result }
     ensures enough { length ≤ result * most }
     ensures least { (step : ℕ) → IsRound step → length ≤ step * most → result ≤ step }
@@ -17,7 +18,7 @@ pub fn step_of(length: u64, most: u64) -> u64
 
 /// The least round number that isn't below this one.
 fn round_at_least(number: u64) -> u64
-    requires { number ≤ 100000000000000000 }
+    requires { number ≤ last_shown }
     ensures some { 1 ≤ result }
     ensures round { IsRound result }
     ensures enough { number ≤ result }

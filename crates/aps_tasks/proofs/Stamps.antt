@@ -4,6 +4,7 @@ use Rattle.aps_model.specs.declared.scenario.ThreadRow.{ThreadRow}
 use Rattle.aps_model.specs.declared.shape.Shape.{Shape}
 use Rattle.aps_model.specs.declared.state.State.{State}
 use Rattle.aps_model.specs.declared.state.State.TheVariants.{Ready, Running, Sleeping, Sending, Receiving, Replying, Gone}
+use Rattle.aps_model.specs.Limits.{most_threads}
 use Rattle.aps_model.specs.Opening.{first_stamp, first_state, stamp_after, start_stamps, start_threads, started}
 use Rattle.aps_tasks.specs.declared.task.Task.{Task}
 use Rattle.aps_tasks.specs.Kept.{AreStamped}
@@ -106,7 +107,7 @@ all_started shape number next (row ∷ rows) few =
     (start_stamps after rows) (has_first (first_state row) number next) few (all_started shape (number + 1) after rows few)
 
 -- those of all threads of a scenario
-pub stamps_at_start : (shape : Shape) (rows : List ThreadRow) → length rows ≤ 1024
+pub stamps_at_start : (shape : Shape) (rows : List ThreadRow) → length rows ≤ most_threads
     → AreStamped (map task_of (start_threads shape 0 0 rows)) (start_stamps 0 rows)
 stamps_at_start shape rows few =
     let small : start_stamps 0 rows ≤ 2 ^ 63 = omega (arith, few, stamps_few 0 rows) in

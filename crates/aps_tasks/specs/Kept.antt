@@ -1,6 +1,6 @@
 -- What every list of calls keeps.
 use Rattle.std.specs.Prelude.{◌≡◌, ℕ, ◌+◌, ◌<◌, ◌≤◌, ◌^◌, ◌⊎◌, List, length, All, slice_index_or, Option, None, ⊤}
-use Rattle.aps_model.specs.Limits.{last_moment}
+use Rattle.aps_model.specs.Limits.{last_moment, most_operations}
 use Rattle.aps_model.specs.declared.program.Op.{Op}
 use Rattle.aps_model.specs.declared.program.Op.TheVariants.{Forever, Sleep}
 use Rattle.aps_model.specs.Shape.{IsShape}
@@ -14,7 +14,7 @@ IsShort (Sleep ns) = ns ≤ last_moment
 IsShort op = ⊤
 
 pub record IsPlan (plan : Plan) : Type 0 where
-  pub few : length plan.program ≤ 256
+  pub few : length plan.program ≤ most_operations
   pub short : All IsShort plan.program
 
 -- nothing is told of what is left exactly where the operation never ends

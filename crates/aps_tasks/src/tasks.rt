@@ -1,6 +1,6 @@
 //! The threads of a run, and the calls that change one of them.
 ghost use Rattle.std.specs.Prelude.{◌≡◌, ◌≢◌, ◌↔◌, ◌+◌, ◌<◌, ◌≤◌, ◌^◌, length, IfOk, IfSome, None};
-ghost use Rattle.aps_model.specs.Limits.{last_moment};
+ghost use Rattle.aps_model.specs.Limits.{last_moment, most_operations};
 ghost use Rattle.aps_model.specs.declared.program.Op.TheVariants.{Exit, Forever};
 ghost use Rattle.aps_model.specs.declared.state.State.TheVariants.{Gone, Running};
 ghost use Rattle.aps_tasks.specs.Calls.{advanced, given_back, is_over, left_after, made_ready, restamped, sleep_end, spent};
@@ -197,7 +197,7 @@ impl Tasks {
     fn op_at(&self, x: ThreadId, place: u16) -> Op
         ensures same { result ≡ op_at self.now x place }
         ensures short { IsShort result }
-        ensures few { result ≢ Exit → place < 256 }
+        ensures few { result ≢ Exit → place < most_operations }
     {
         let Some(plan) = self.plans.get(x.index()) else {
             return Op::Exit;

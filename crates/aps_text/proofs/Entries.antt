@@ -7,6 +7,7 @@ use Rattle.std.proofs.lemmas.List.{append-nil}
 use Rattle.aps_model.specs.declared.entry.Entry.{Entry}
 use Rattle.aps_model.specs.declared.entry.Done.TheVariants.{Nothing}
 use Rattle.aps_model.specs.Journal.{option_text, done_text, entry_line, IsLine}
+use Rattle.aps_model.specs.Limits.{last_cpu, last_moment, last_partition, last_thread}
 use Rattle.aps_text.specs.Reader.{number_at}
 use Rattle.aps_text.specs.Fields.{option_at, mark_at}
 use Rattle.aps_text.specs.Operation.{done_at}
@@ -31,17 +32,19 @@ operation = record { reader = IsReader-done; some = (codes "- ", Nothing, (refl,
 -- the fields one after the other
 abbrev SpellsFields : List ℕ → Entry → Type 0
 SpellsFields =
-    SpellsBoth (SpellsNumber 15 32) (λ cpu. SpellsBoth (SpellsNumber 10000000000000 32) (λ from. SpellsBoth (SpellsNumber 10000000000000 32) (λ to.
-    SpellsBoth (SpellsOption 1023 32) (λ ran. SpellsBoth (SpellsOption 31 32) (λ billed. SpellsBoth SpellsMark (λ critical. SpellsBoth SpellsDone (λ done.
-    SpellsBoth (SpellsOption 1023 32) (λ picked. SpellsBoth (SpellsOption 31 32) (λ starved. SpellsBoth (SpellsOption 15 10) (λ flagged.
+    SpellsBoth (SpellsNumber last_cpu 32) (λ cpu. SpellsBoth (SpellsNumber last_moment 32) (λ from. SpellsBoth (SpellsNumber last_moment 32) (λ to.
+    SpellsBoth (SpellsOption last_thread 32) (λ ran. SpellsBoth (SpellsOption last_partition 32) (λ billed. SpellsBoth SpellsMark (λ critical. SpellsBoth SpellsDone (λ done.
+    SpellsBoth (SpellsOption last_thread 32) (λ picked. SpellsBoth (SpellsOption last_partition 32) (λ starved. SpellsBoth (SpellsOption last_cpu 10) (λ flagged.
     SpellsNothing (record { from = from; to = to; done = done; ran = ran; picked = picked; billed = billed; starved = starved; flagged = flagged; cpu = cpu; critical = critical })))))))))))
 
 fields : IsLive line_at SpellsFields
 unfolding line_at
 fields =
-    IsLive-both _ _ _ _ (number 15 (omega arith)) (λ cpu. IsLive-both _ _ _ _ (number 10000000000000 (omega arith)) (λ from. IsLive-both _ _ _ _ (number 10000000000000 (omega arith)) (λ to.
-    IsLive-both _ _ _ _ (option 1023 32 (omega arith) refl) (λ ran. IsLive-both _ _ _ _ (option 31 32 (omega arith) refl) (λ billed. IsLive-both _ _ _ _ mark (λ critical. IsLive-both _ _ _ _ operation (λ done.
-    IsLive-both _ _ _ _ (option 1023 32 (omega arith) refl) (λ picked. IsLive-both _ _ _ _ (option 31 32 (omega arith) refl) (λ starved. IsLive-both _ _ _ _ (option 15 10 (omega arith) refl) (λ flagged.
+    IsLive-both _ _ _ _ (number last_cpu (omega arith)) (λ cpu. IsLive-both _ _ _ _ (number last_moment (omega arith)) (λ from. IsLive-both _ _ _ _ (number last_moment (omega arith)) (λ to.
+    IsLive-both _ _ _ _ (option last_thread 32 (omega arith) refl)
+    (λ ran. IsLive-both _ _ _ _ (option last_partition 32 (omega arith) refl) (λ billed. IsLive-both _ _ _ _ mark (λ critical. IsLive-both _ _ _ _ operation (λ done.
+    IsLive-both _ _ _ _ (option last_thread 32 (omega arith) refl)
+    (λ picked. IsLive-both _ _ _ _ (option last_partition 32 (omega arith) refl) (λ starved. IsLive-both _ _ _ _ (option last_cpu 10 (omega arith) refl) (λ flagged.
     IsLive-value (record { from = from; to = to; done = done; ran = ran; picked = picked; billed = billed; starved = starved; flagged = flagged; cpu = cpu; critical = critical })))))))))))
 
 -- ---- the fields of a line, and the line

@@ -6,6 +6,7 @@ use Rattle.std.specs.Fmt.{decimal}
 use Rattle.aps_model.specs.declared.entry.Done.{Done}
 use Rattle.aps_model.specs.declared.entry.Done.TheVariants.{Nothing, Run, Yield, SendBlocked, SendTo, ReceiveBlocked, ReceiveGot, ReceiveHolding, ReplyFreed, ReplyNoClient, Join, JoinNone, Priority, CriticalOn, CriticalOff, Repeat, Exit}
 use Rattle.aps_model.specs.Journal.{done_text, thread_in}
+use Rattle.aps_model.specs.Limits.{last_thread}
 use Rattle.aps_text.specs.Reader.{◌>>=◌, Reading, word_at, whole_word, after, nothing_at, number_at}
 use Rattle.aps_text.specs.Operation.{named_at, critical_at, join_at, send_at, holding_at, receive_at, repeat_at, run_at, later_at, done_at}
 use Rattle.aps_text.proofs.Readers.{IsReader, IsInhabited, BeginsOther, SpellsAfter, SpellsBehind, SpellsWord, SpellsMade, IsReader-nothing, IsReader-after, IsReader-behind, IsReader-word, IsReader-made, IsReader-restated, after_begins_other, word_begins_other, behind_begins_other, nothing_begins_other, made_begins_other}
@@ -14,7 +15,7 @@ use Rattle.aps_text.proofs.Numbers.{SpellsNumber, IsReader-number, number_begins
 -- ---- the texts of a part of the tree
 
 abbrev pub SpellsDone : List ℕ → Done → Type 0
-SpellsDone text done = (text ≡ done_text done ++ 32 ∷ []) × IfSome (thread_in done) (λ x. x ≤ 1023)
+SpellsDone text done = (text ≡ done_text done ++ 32 ∷ []) × IfSome (thread_in done) (λ x. x ≤ last_thread)
 
 -- a part of the tree: its reader, and that its texts behind the head are those of operations
 record IsPart (head : List ℕ) (read : List ℕ → Reading Done) (Spells : List ℕ → Done → Type 0) : Type 0 where
@@ -22,10 +23,10 @@ record IsPart (head : List ℕ) (read : List ℕ → Reading Done) (Spells : Lis
   some : IsInhabited Spells
   means : (text : List ℕ) (done : Done) → Spells text done → SpellsDone (head ++ text) done
 
-word_means : (head word text : List ℕ) (v done : Done) → head ++ word ≡ done_text v ++ 32 ∷ [] → IfSome (thread_in v) (λ x. x ≤ 1023) → text ≡ word → done ≡ v → SpellsDone (head ++ text) done
+word_means : (head word text : List ℕ) (v done : Done) → head ++ word ≡ done_text v ++ 32 ∷ [] → IfSome (thread_in v) (λ x. x ≤ last_thread) → text ≡ word → done ≡ v → SpellsDone (head ++ text) done
 word_means head word text v done whole within same same_done = rw (same, same_done) (whole, within)
 
-part_word : (head word : List ℕ) (v : Done) → head ++ word ≡ done_text v ++ 32 ∷ [] → IfSome (thread_in v) (λ x. x ≤ 1023) → IsPart head (whole_word word v) (SpellsWord word v)
+part_word : (head word : List ℕ) (v : Done) → head ++ word ≡ done_text v ++ 32 ∷ [] → IfSome (thread_in v) (λ x. x ≤ last_thread) → IsPart head (whole_word word v) (SpellsWord word v)
 part_word head word v whole within = record {
   reader = IsReader-word word v;
   some = (word, v, (refl, refl));
@@ -37,14 +38,14 @@ record Names (head : List ℕ) (make : ℕ → Done) : Type 0 where
   text : (n : ℕ) → done_text (make n) ≡ head ++ decimal n
   thread : (n : ℕ) → thread_in (make n) ≡ Some n
 
-named_means : (head : List ℕ) (make : ℕ → Done) (text : List ℕ) (done : Done) (n : ℕ) → Names head make → text ≡ decimal n ++ 32 ∷ [] → n ≤ 1023 → done ≡ make n → SpellsDone (head ++ text) done
+named_means : (head : List ℕ) (make : ℕ → Done) (text : List ℕ) (done : Done) (n : ℕ) → Names head make → text ≡ decimal n ++ 32 ∷ [] → n ≤ last_thread → done ≡ make n → SpellsDone (head ++ text) done
 named_means head make text done n names same within same_done =
     let whole : head ++ text ≡ done_text (make n) ++ 32 ∷ [] = ap (λ (t : List ℕ). head ++ t) same ∙ sym (append_assoc head (decimal n) (32 ∷ [])) ∙ ap (λ (t : List ℕ). t ++ 32 ∷ []) (sym (names.text n)) in
     rw same_done (whole, rw (names.thread n) within)
 
-part_named : (head : List ℕ) (make : ℕ → Done) → Names head make → IsPart head (named_at make) (SpellsMade make (SpellsNumber 1023 32))
+part_named : (head : List ℕ) (make : ℕ → Done) → Names head make → IsPart head (named_at make) (SpellsMade make (SpellsNumber last_thread 32))
 part_named head make names = record {
-  reader = IsReader-made make (number_at 1023 32) (SpellsNumber 1023 32) (IsReader-number 1023 32 (omega arith) refl);
+  reader = IsReader-made make (number_at last_thread 32) (SpellsNumber last_thread 32) (IsReader-number last_thread 32 (omega arith) refl);
   some = (decimal 0 ++ 32 ∷ [], make 0, (0, (refl, omega arith), refl));
   means = λ text done h. named_means head make text done h.0 names h.1.0 h.1.1 h.2;
 }
@@ -83,13 +84,13 @@ part_behind head word read Spells p = record {
 
 -- ---- other first bytes
 
-named_begins_other : (byte : ℕ) (make : ℕ → Done) → 57 < byte → BeginsOther byte (SpellsMade make (SpellsNumber 1023 32))
-named_begins_other byte make high = made_begins_other byte make (SpellsNumber 1023 32) (number_begins_other byte 1023 32 (omega arith) (inr high))
+named_begins_other : (byte : ℕ) (make : ℕ → Done) → 57 < byte → BeginsOther byte (SpellsMade make (SpellsNumber last_thread 32))
+named_begins_other byte make high = made_begins_other byte make (SpellsNumber last_thread 32) (number_begins_other byte last_thread 32 (omega arith) (inr high))
 
 -- ---- the tree
 
 abbrev SpellsNamed : (ℕ → Done) → List ℕ → Done → Type 0
-SpellsNamed make = SpellsMade make (SpellsNumber 1023 32)
+SpellsNamed make = SpellsMade make (SpellsNumber last_thread 32)
 
 abbrev SpellsCritical : List ℕ → Done → Type 0
 SpellsCritical = SpellsBehind (codes "ritical:o") (SpellsAfter 110 (SpellsWord (codes " ") CriticalOn) (SpellsWord (codes "ff ") CriticalOff))

@@ -13,6 +13,7 @@ use Rattle.aps_model.specs.declared.entry.Entry.{Entry}
 use Rattle.aps_model.specs.declared.entry.Done.{Done}
 use Rattle.aps_model.specs.declared.entry.Done.TheVariants.{Nothing, Run, Yield, SendBlocked, SendTo, ReceiveBlocked, ReceiveGot, ReceiveHolding, ReplyFreed, ReplyNoClient, Join, JoinNone, Priority, CriticalOn, CriticalOff, Repeat, Exit}
 use Rattle.aps_model.specs.Journal.{option_text, done_text, thread_in, entry_line, journal_text, IsLine}
+use Rattle.aps_model.specs.Limits.{last_cpu, last_partition, last_thread}
 use Rattle.aps_text.specs.Place.{Place, next_place, place_after}
 use Rattle.aps_text.proofs.Options.{mark_text}
 
@@ -43,10 +44,10 @@ one_line_mark : (b : Bool) → is_one_line (mark_text b) ≡ true
 one_line_mark true = refl
 one_line_mark false = refl
 
-one_line_named : (word : List ℕ) (n : ℕ) → is_one_line word ≡ true → n ≤ 1023 → is_one_line (word ++ decimal n) ≡ true
+one_line_named : (word : List ℕ) (n : ℕ) → is_one_line word ≡ true → n ≤ last_thread → is_one_line (word ++ decimal n) ≡ true
 one_line_named word n e within = one_line_both word (decimal n) e (one_line_number n (omega arith))
 
-one_line_done : (done : Done) → IfSome (thread_in done) (λ x. x ≤ 1023) → is_one_line (done_text done) ≡ true
+one_line_done : (done : Done) → IfSome (thread_in done) (λ x. x ≤ last_thread) → is_one_line (done_text done) ≡ true
 one_line_done (SendTo n) h = one_line_named (codes "send:") n refl h
 one_line_done (ReceiveGot n) h = one_line_named (codes "receive:") n refl h
 one_line_done (ReceiveHolding n) h = one_line_named (codes "receive:holding:") n refl h
@@ -84,13 +85,13 @@ one_line_body e h =
     space_before (decimal e.cpu) _ (one_line_number e.cpu (omega (arith, h.cpu)))
     (space_before (decimal e.from) _ (one_line_number e.from (omega (arith, h.from)))
     (space_before (decimal e.to) _ (one_line_number e.to (omega (arith, h.to)))
-    (space_before (option_text e.ran) _ (one_line_option e.ran (small e.ran 1023 (omega arith) h.ran))
-    (space_before (option_text e.billed) _ (one_line_option e.billed (small e.billed 31 (omega arith) h.billed))
+    (space_before (option_text e.ran) _ (one_line_option e.ran (small e.ran last_thread (omega arith) h.ran))
+    (space_before (option_text e.billed) _ (one_line_option e.billed (small e.billed last_partition (omega arith) h.billed))
     (space_before (mark_text e.critical) _ (one_line_mark e.critical)
     (space_before (done_text e.done) _ (one_line_done e.done h.done)
-    (space_before (option_text e.picked) _ (one_line_option e.picked (small e.picked 1023 (omega arith) h.picked))
-    (space_before (option_text e.starved) (option_text e.flagged) (one_line_option e.starved (small e.starved 31 (omega arith) h.starved))
-    (one_line_option e.flagged (small e.flagged 15 (omega arith) h.flagged))))))))))
+    (space_before (option_text e.picked) _ (one_line_option e.picked (small e.picked last_thread (omega arith) h.picked))
+    (space_before (option_text e.starved) (option_text e.flagged) (one_line_option e.starved (small e.starved last_partition (omega arith) h.starved))
+    (one_line_option e.flagged (small e.flagged last_cpu (omega arith) h.flagged))))))))))
 
 pub line_is : (e : Entry) → entry_line e ≡ line_body e ++ 10 ∷ []
 line_is e = refl

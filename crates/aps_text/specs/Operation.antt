@@ -3,15 +3,17 @@ use lib.Chars.{codes}
 use Rattle.std.specs.Prelude.{ℕ, List, Ok}
 use Rattle.aps_model.specs.declared.entry.Done.{Done}
 use Rattle.aps_model.specs.declared.entry.Done.TheVariants.{Nothing, Run, Yield, SendBlocked, SendTo, ReceiveBlocked, ReceiveGot, ReceiveHolding, ReplyFreed, ReplyNoClient, Join, JoinNone, Priority, CriticalOn, CriticalOff, Repeat, Exit}
+use Rattle.aps_model.specs.Limits.{last_thread}
 use Rattle.aps_text.specs.Reader.{◌>>=◌, Reading, word_at, whole_word, after, nothing_at, number_at}
 
 -- the number of the thread that the operation names
 abbrev pub named_at : (ℕ → Done) → List ℕ → Reading Done
-named_at make bytes = number_at 1023 32 bytes >>= λ n. Ok (make n.0, n.1)
+named_at make bytes = number_at last_thread 32 bytes >>= λ n. Ok (make n.0, n.1)
 
 -- behind 'c': on or off
 unfoldable pub critical_at : List ℕ → Reading Done
-critical_at bytes = word_at (codes "ritical:o") bytes >>= after 110 (whole_word (codes " ") CriticalOn) (whole_word (codes "ff ") CriticalOff)
+critical_at bytes =
+    word_at (codes "ritical:o") bytes >>= after 110 (whole_word (codes " ") CriticalOn) (whole_word (codes "ff ") CriticalOff)
 
 -- behind 'j'
 unfoldable pub join_at : List ℕ → Reading Done
@@ -42,7 +44,9 @@ run_at = after 117 (whole_word (codes "n ") Run)
 
 -- by a first byte from 'p' on: 'p', 'r', 's' or 'y'
 unfoldable pub later_at : List ℕ → Reading Done
-later_at = after 112 (whole_word (codes "riority ") Priority) (after 114 run_at (after 115 send_at (after 121 (whole_word (codes "ield ") Yield) nothing_at)))
+later_at =
+    after 112 (whole_word (codes "riority ") Priority)
+    (after 114 run_at (after 115 send_at (after 121 (whole_word (codes "ield ") Yield) nothing_at)))
 
 -- by the first byte: '-', 'c', 'e', 'j', 'p', 'r', 's' or 'y'
 unfoldable pub done_at : List ℕ → Reading Done

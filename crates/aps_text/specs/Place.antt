@@ -8,7 +8,8 @@ pub record Place : Type 0 where
 
 -- the place behind this byte: a newline ends its line
 abbrev pub next_place : Place → ℕ → Place
-next_place here byte = if byte == 10 then record { line = here.line + 1; column = 1 } else record { line = here.line; column = here.column + 1 }
+next_place here byte =
+    if byte == 10 then record { line = here.line + 1; column = 1 } else record { line = here.line; column = here.column + 1 }
 
 -- the place of the byte that follows these
 abbrev pub place_after : List ℕ → Place

@@ -2,7 +2,7 @@
 ghost use Rattle.std.specs.Prelude.{◌≡◌, ◌≤◌, IfOk, IfSome, Option};
 ghost use Rattle.aps_text.specs.Reader.{Gives, word_at, digits_at, number_at};
 ghost use Rattle.aps_text.specs.Fields.{option_at, mark_at};
-ghost use Rattle.aps_model.specs.Limits.{last_moment};
+ghost use Rattle.aps_model.specs.Limits.{last_moment, last_thread};
 
 use aps_model::limits::LAST_THREAD;
 
@@ -87,8 +87,8 @@ pub fn number_or_none(bytes: &[u8], most: u64, stop: u8) -> Reading<Option<u64>>
 /// The number of a thread, and a space.
 #[inline(always)]
 pub fn thread(bytes: &[u8]) -> Reading<u64>
-    ensures read { Gives (λ x. (x.0, x.1.now)) result (number_at 1023 32 bytes.now) }
-    ensures within { IfOk result (λ x. x.0 ≤ 1023) }
+    ensures read { Gives (λ x. (x.0, x.1.now)) result (number_at last_thread 32 bytes.now) }
+    ensures within { IfOk result (λ x. x.0 ≤ last_thread) }
 {
     number(bytes, LAST_THREAD, b' ')
 }

@@ -2,6 +2,7 @@
 ghost use Rattle.std.specs.Prelude.{◌≡◌, ◌+◌, ◌<◌, ◌≤◌, ◌++◌, List, [], ◌∷◌, length, drop, if◌then◌else◌, codes, IsAscii, IsTrue, IfSome};
 ghost use Rattle.std.specs.Fmt.{decimal};
 ghost use Rattle.aps_model.specs.Journal.{option_text, done_text, thread_in, entry_line, IsLine};
+ghost use Rattle.aps_model.specs.Limits.{last_cpu, last_partition, last_thread};
 ghost use Rattle.aps_text.specs.InTime.{IsInTime};
 ghost use Rattle.aps_text.specs.Ascii.{is_ascii};
 
@@ -24,12 +25,13 @@ pub struct LineBuffer {
 
 impl Model for LineBuffer {
     ghost use Rattle.std.specs.Prelude.{ℕ, List, ◌≤◌, drop, IsAscii};
+    ghost use Rattle.aps_text.specs.Line.{longest_line};
 
     ghost Value = { List ℕ };
 
     ghost view = { λ b. drop b.start b.bytes };
 
-    ghost invariant = { λ b. (b.start ≤ 87) × IsAscii (drop b.start b.bytes) };
+    ghost invariant = { λ b. (b.start ≤ longest_line) × IsAscii (drop b.start b.bytes) };
 }
 
 #[tactic(auto, using(crate::proofs::Digits::digits))]
@@ -73,9 +75,9 @@ impl LineBuffer {
         ensures text { self.new ≡ option_text entry.now.picked
             ++ (32 ∷ (option_text entry.now.starved ++ (32 ∷ (option_text entry.now.flagged ++ (10 ∷ self.old))))) }
         ensures long { length self.new ≤ length self.old + 11 }
-        ensures picked { IfSome entry.now.picked (λ thread. thread ≤ 1023) }
-        ensures starved { IfSome entry.now.starved (λ partition. partition ≤ 31) }
-        ensures flagged { IfSome entry.now.flagged (λ cpu. cpu ≤ 15) }
+        ensures picked { IfSome entry.now.picked (λ thread. thread ≤ last_thread) }
+        ensures starved { IfSome entry.now.starved (λ partition. partition ≤ last_partition) }
+        ensures flagged { IfSome entry.now.flagged (λ cpu. cpu ≤ last_cpu) }
     {
         self.put_byte(b'\n');
         self.put_cpu(entry.flagged);
@@ -91,8 +93,8 @@ impl LineBuffer {
         ensures text { self.new ≡ option_text entry.now.ran
             ++ (32 ∷ (option_text entry.now.billed ++ (32 ∷ ((if entry.now.critical then codes "c" else codes "-") ++ (32 ∷ self.old))))) }
         ensures long { length self.new ≤ length self.old + 10 }
-        ensures ran { IfSome entry.now.ran (λ thread. thread ≤ 1023) }
-        ensures billed { IfSome entry.now.billed (λ partition. partition ≤ 31) }
+        ensures ran { IfSome entry.now.ran (λ thread. thread ≤ last_thread) }
+        ensures billed { IfSome entry.now.billed (λ partition. partition ≤ last_partition) }
     {
         self.put_byte(b' ');
         self.put_byte(if entry.critical { b'c' } else { b'-' });
@@ -108,7 +110,7 @@ impl LineBuffer {
         ensures text { self.new ≡ decimal entry.now.cpu
             ++ (32 ∷ (decimal entry.now.from ++ (32 ∷ (decimal entry.now.to ++ (32 ∷ self.old))))) }
         ensures long { length self.new ≤ length self.old + 45 }
-        ensures cpu { entry.now.cpu ≤ 15 }
+        ensures cpu { entry.now.cpu ≤ last_cpu }
     {
         self.put_byte(b' ');
         self.put_number(entry.to);
@@ -123,7 +125,7 @@ impl LineBuffer {
         requires { length self.old + 20 ≤ MAX_LINE }
         ensures text { self.new ≡ done_text done.now ++ self.old }
         ensures long { length self.new ≤ length self.old + 20 }
-        ensures thread { IfSome (thread_in done.now) (λ thread. thread ≤ 1023) }
+        ensures thread { IfSome (thread_in done.now) (λ thread. thread ≤ last_thread) }
     {
         match done {
             Done::Nothing => self.put_word(b"-"),
@@ -153,7 +155,7 @@ impl LineBuffer {
         requires room { length self.old + 20 ≤ MAX_LINE }
         ensures text { self.new ≡ (word.now ++ decimal thread) ++ self.old }
         ensures long { length self.new ≤ length self.old + 20 }
-        ensures small { thread ≤ 1023 }
+        ensures small { thread ≤ last_thread }
     {
         self.put_number(thread.index() as u64);
         self.put_word(word);
@@ -164,7 +166,7 @@ impl LineBuffer {
         requires { length self.old + 2 ≤ MAX_LINE }
         ensures text { self.new ≡ option_text cpu ++ self.old }
         ensures long { length self.new ≤ length self.old + 2 }
-        ensures small { IfSome cpu (λ cpu. cpu ≤ 15) }
+        ensures small { IfSome cpu (λ cpu. cpu ≤ last_cpu) }
     {
         match cpu {
             Some(cpu) => self.put_number(cpu.index() as u64),
@@ -177,7 +179,7 @@ impl LineBuffer {
         requires { length self.old + 2 ≤ MAX_LINE }
         ensures text { self.new ≡ option_text partition ++ self.old }
         ensures long { length self.new ≤ length self.old + 2 }
-        ensures small { IfSome partition (λ partition. partition ≤ 31) }
+        ensures small { IfSome partition (λ partition. partition ≤ last_partition) }
     {
         match partition {
             Some(partition) => self.put_number(partition.index() as u64),
@@ -190,7 +192,7 @@ impl LineBuffer {
         requires { length self.old + 4 ≤ MAX_LINE }
         ensures text { self.new ≡ option_text thread ++ self.old }
         ensures long { length self.new ≤ length self.old + 4 }
-        ensures small { IfSome thread (λ thread. thread ≤ 1023) }
+        ensures small { IfSome thread (λ thread. thread ≤ last_thread) }
     {
         match thread {
             Some(thread) => self.put_number(thread.index() as u64),

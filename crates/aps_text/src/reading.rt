@@ -2,6 +2,7 @@
 ghost use Rattle.std.specs.Prelude.{◌≡◌, ◌≤◌, IfOk, IfErr, IfSome, MatchResult, List, length};
 ghost use Rattle.aps_model.specs.declared.entry.Entry.{Entry as PlainEntry};
 ghost use Rattle.aps_model.specs.Journal.{IsJournal};
+ghost use Rattle.aps_model.specs.Limits.{last_cpu, last_partition, last_thread};
 ghost use Rattle.aps_text.specs.Reader.{Gives};
 ghost use Rattle.aps_text.specs.Line.{cpu_of_line, line_at};
 ghost use Rattle.aps_text.specs.Refusal.{Refuses};
@@ -93,7 +94,7 @@ fn line(bytes: &[u8]) -> Reading<Entry>
 
 // The thread of this number, where there is one.
 fn thread_of(number: Option<u64>) -> Option<ThreadId>
-    requires { IfSome number (λ n. n ≤ 1023) }
+    requires { IfSome number (λ n. n ≤ last_thread) }
     ensures { result ≡ number }
 {
     match number {
@@ -104,7 +105,7 @@ fn thread_of(number: Option<u64>) -> Option<ThreadId>
 
 // The partition of this number, where there is one.
 fn partition_of(number: Option<u64>) -> Option<PartitionId>
-    requires { IfSome number (λ n. n ≤ 31) }
+    requires { IfSome number (λ n. n ≤ last_partition) }
     ensures { result ≡ number }
 {
     match number {
@@ -115,7 +116,7 @@ fn partition_of(number: Option<u64>) -> Option<PartitionId>
 
 // The processor of this number, where there is one.
 fn cpu_of(number: Option<u64>) -> Option<CpuId>
-    requires { IfSome number (λ n. n ≤ 15) }
+    requires { IfSome number (λ n. n ≤ last_cpu) }
     ensures { result ≡ number }
 {
     match number {

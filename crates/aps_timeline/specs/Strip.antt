@@ -1,6 +1,7 @@
 -- The marks of a strip.
 use Rattle.std.specs.Prelude.{ℕ, ◌+◌, ◌-◌, List, [], ◌∷◌, ◌++◌, length, map, min, nat_lt, if◌then◌else◌, Option, Some, None, slice_get, slice_index_or, slice_set}
-use Rattle.aps_svg.specs.Span.{has, x_of}
+use Rattle.aps_model.specs.Limits.{greatest_u64}
+use Rattle.aps_svg.specs.Span.{has, page_width, x_of}
 use Rattle.aps_timeline.specs.declared.mark.Mark.{Mark}
 
 -- a mark that is drawn: where, its place in its list, and how many of those behind it are left out
@@ -20,7 +21,7 @@ new_mark x place = record { x = x; place = place; more = 0 }
 
 -- one more is left out behind it; the count stays at the greatest number that there is
 abbrev pub with_more : Drawn → Drawn
-with_more mark = record mark { more = min (mark.more + 1) 18446744073709551615 }
+with_more mark = record mark { more = min (mark.more + 1) greatest_u64 }
 
 -- the marks with one more, where this one is the last: it is left out and counted where it is nearer than 80 units
 abbrev pub after_last : Option Drawn → List Drawn → ℕ → ℕ → List Drawn
@@ -44,9 +45,13 @@ marks_from from to marks place (moment ∷ moments) = marks_from from to (with_m
 abbrev pub marks_of : ℕ → ℕ → List ℕ → List Drawn
 marks_of from to moments = marks_from from to [] 0 moments
 
+-- no bar and no mark stands lower
+abbrev pub lowest_bar : ℕ
+lowest_bar = 2000000
+
 -- how many units are free for a text behind the mark at this place, of a picture that is 14,000 wide
 abbrev pub end_before : Option Drawn → ℕ
-end_before None = 14000
+end_before None = page_width
 end_before (Some next) = next.x - 70
 
 abbrev pub room_behind : List Drawn → ℕ → ℕ

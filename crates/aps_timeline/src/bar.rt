@@ -1,5 +1,6 @@
 //! One bar of a processor.
 ghost use Rattle.std.specs.Prelude.{◌≡◌, ◌+◌, ◌*◌, ◌<◌, ◌≤◌, length};
+ghost use Rattle.aps_timeline.specs.Strip.{lowest_bar};
 
 use crate::lane::HEIGHT;
 use aps_bars::Bar;
@@ -20,7 +21,7 @@ pub fn add_bar(
     bar: &Bar,
     y: u64,
 ) -> Result<(), NoMemory>
-    requires { y ≤ 2000000 }
+    requires { y ≤ lowest_bar }
 {
     let x = scene.span.x_of(bar.from);
     let width = scene.span.x_of(bar.to).saturating_sub(x);
@@ -64,7 +65,7 @@ fn add_tip(
 
 /// The thread's own partition at the foot, where another one is billed.
 fn add_own(out: &mut String, area: Area, bar: &Bar) -> Result<(), NoMemory>
-    requires { area.y ≤ 2000000 }
+    requires { area.y ≤ lowest_bar }
 {
     if bar.own == bar.partition {
         return Ok(());
@@ -92,7 +93,7 @@ fn add_begin(out: &mut String, area: Area) -> Result<(), NoMemory> {
 /// The name of the thread, where there is room.
 fn add_name(out: &mut String, area: Area, name: &str) -> Result<(), NoMemory>
     requires x { area.x ≤ 1000000 }
-    requires y { area.y ≤ 2000000 }
+    requires y { area.y ≤ lowest_bar }
 {
     if area.width < 60 || (area.width - 60) / 68 < name.len() as u64 {
         return Ok(());

@@ -1,5 +1,7 @@
 //! The lane of one processor.
 ghost use Rattle.std.specs.Prelude.{◌≡◌, ◌+◌, ◌*◌, ◌<◌, ◌≤◌, length};
+ghost use Rattle.aps_model.specs.Limits.{last_cpu};
+ghost use Rattle.aps_svg.specs.Span.{lowest_top};
 
 use crate::bar::add_bar;
 use aps_bars::{Lane, Message, flags, is_reply, message_of};
@@ -23,8 +25,8 @@ pub fn add_lane(
     c: usize,
     y: u64,
 ) -> Result<(), NoMemory>
-    requires cpu { c ≤ 15 }
-    requires y { y ≤ 1000000 }
+    requires cpu { c ≤ last_cpu }
+    requires y { y ≤ lowest_top }
 {
     open_lane(out, scene, lane, c, y)?;
     let threads = history.scenario().threads();
@@ -47,8 +49,8 @@ pub fn add_stack_lane(
     c: usize,
     y: u64,
 ) -> Result<(), NoMemory>
-    requires cpu { c ≤ 15 }
-    requires y { y ≤ 1000000 }
+    requires cpu { c ≤ last_cpu }
+    requires y { y ≤ lowest_top }
 {
     open_lane(out, scene, lane, c, y)?;
     columns.clear();
@@ -77,7 +79,7 @@ fn stack(columns: &mut Columns, span: &Span, lane: &Lane) {
 
 /// The beginning of a lane: its names, and a frame for its bars.
 fn open_lane(out: &mut String, scene: &Scene, lane: &Lane, c: usize, y: u64) -> Result<(), NoMemory>
-    requires { y ≤ 1000000 }
+    requires { y ≤ lowest_top }
 {
     open_numbered(out, "cpu", c)?;
     let place = Place {
@@ -122,7 +124,7 @@ fn add_marks(
     c: CpuId,
     y: u64,
 ) -> Result<(), NoMemory>
-    requires { y ≤ 1000000 }
+    requires { y ≤ lowest_top }
 {
     add_flags(out, entries, span, c, y + 20)?;
     add_messages(out, entries, span, c, y + 380)?;

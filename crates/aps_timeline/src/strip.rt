@@ -2,7 +2,8 @@
 ghost use Rattle.std.specs.Prelude.{◌≡◌, ◌+◌, ◌*◌, ◌<◌, ◌≤◌, length, map, IfOk, OnOk, [], nat_lt, if◌then◌else◌};
 ghost use Rattle.aps_bars.specs.declared.alteration.Alteration.{Alteration};
 ghost use Rattle.aps_bars.specs.declared.overspent.Overspent.{Overspent};
-ghost use Rattle.aps_timeline.specs.Strip.{all_drawn, marks_of, room_behind, with_mark, with_moment};
+ghost use Rattle.aps_timeline.specs.Strip.{all_drawn, lowest_bar, marks_of, room_behind, with_mark, with_moment};
+ghost use Rattle.aps_svg.specs.Span.{lowest_top, page_width};
 
 use crate::mark::Mark;
 use aps_bars::text::{add_alteration, row_name};
@@ -116,7 +117,7 @@ fn add_moment(
 
 /// The mark of what stands at this place of its list: it is counted at the last one where it is too near that.
 fn add_mark(marks: &mut Vec<Mark>, x: u64, place: usize) -> Result<(), NoMemory>
-    requires { x ≤ 14000 }
+    requires { x ≤ page_width }
     ensures { OnOk result (all_drawn marks.new.items ≡ with_mark (all_drawn marks.old.items) x place) }
 {
     if let Some(last) = marks.last().copied() {
@@ -143,7 +144,7 @@ pub fn add_strips(
     overspent: &[Overspent],
     foot: u64,
 ) -> Result<(), NoMemory>
-    requires { foot ≤ 1000000 }
+    requires { foot ≤ lowest_top }
 {
     let mut y = foot;
     if !strips.overspent.is_empty() {
@@ -165,7 +166,7 @@ fn add_overspent(
     overspent: &[Overspent],
     y: u64,
 ) -> Result<(), NoMemory>
-    requires { y ≤ 2000000 }
+    requires { y ≤ lowest_bar }
 {
     add_label(out, y, "overspent")?;
     for i in 0..marks.len() {
@@ -188,7 +189,7 @@ fn add_changes(
     alterations: &[Alteration],
     y: u64,
 ) -> Result<(), NoMemory>
-    requires { y ≤ 2000000 }
+    requires { y ≤ lowest_bar }
 {
     add_label(out, y, "changes")?;
     for i in 0..marks.len() {
@@ -202,7 +203,7 @@ fn add_changes(
 }
 
 fn add_label(out: &mut String, y: u64, label: &str) -> Result<(), NoMemory>
-    requires { y ≤ 2000000 }
+    requires { y ≤ lowest_bar }
 {
     let place = Place {
         x: 1300,
@@ -221,7 +222,7 @@ fn add_marked(
     mut text: String,
 ) -> Result<(), NoMemory>
     requires place { i < length marks.now }
-    requires y { y ≤ 2000000 }
+    requires y { y ≤ lowest_bar }
 {
     let Mark { x, more, .. } = marks[i];
     add_glyph(out, glyph, x, y + 60)?;

@@ -3,8 +3,8 @@ ghost use Rattle.std.specs.Prelude.{◌≡◌, ◌+◌, ◌*◌, ◌<◌, ◌≤
 ghost use Rattle.std.specs.List.{filter};
 ghost use Rattle.aps_bars.specs.declared.starved.Starved.{Starved};
 ghost use Rattle.aps_model.specs.Legal.{IsLegal};
-ghost use Rattle.aps_svg.specs.Span.{meets};
-ghost use Rattle.aps_model.specs.Limits.{most_entries};
+ghost use Rattle.aps_svg.specs.Span.{lowest_top, meets};
+ghost use Rattle.aps_model.specs.Limits.{last_cpu, most_entries};
 
 use crate::lane::{add_lane, add_stack_lane};
 use crate::strip::{Strips, add_strips, strips_of};
@@ -98,7 +98,7 @@ fn draw(
 
 /// The lines for round moments.
 fn add_grid(out: &mut String, scene: &Scene, top: u64, below: u64) -> Result<(), NoMemory>
-    requires { below ≤ 1000000 }
+    requires { below ≤ lowest_top }
 {
     open_group(out, "grid")?;
     add_axis(out, frame_of(top, below), scene.span)?;
@@ -183,7 +183,7 @@ fn add_top(out: &mut String, scene: &Scene, exact: bool) -> Result<(), NoMemory>
 
 /// What critical and idle time are drawn as.
 fn add_colours(out: &mut String, y: u64) -> Result<(), NoMemory>
-    requires { y ≤ 1000000 }
+    requires { y ≤ lowest_top }
 {
     add_hatched(out, 200, y)?;
     add_words(out, 540, y + 125, "critical time")?;
@@ -193,7 +193,7 @@ fn add_colours(out: &mut String, y: u64) -> Result<(), NoMemory>
 
 /// What the marks tell.
 fn add_marks(out: &mut String, y: u64) -> Result<(), NoMemory>
-    requires { y ≤ 1000000 }
+    requires { y ≤ lowest_top }
 {
     add_glyph(out, Glyph::Flag, 2990, y + 40)?;
     add_words(out, 3080, y + 125, "cpu was flagged")?;
@@ -207,7 +207,7 @@ fn add_marks(out: &mut String, y: u64) -> Result<(), NoMemory>
 
 /// How bars tell who is billed, or that columns are drawn.
 fn add_manner(out: &mut String, scene: &Scene, y: u64, exact: bool) -> Result<(), NoMemory>
-    requires { y ≤ 1000000 }
+    requires { y ≤ lowest_top }
 {
     if !exact {
         return add_words(
@@ -262,7 +262,7 @@ fn add_one(
     lane: &Lane,
     c: usize,
 ) -> Result<(), NoMemory>
-    requires { c ≤ 15 }
+    requires { c ≤ last_cpu }
 {
     let y = plan.top + c as u64 * LANE;
     if plan.exact {

@@ -2,9 +2,10 @@
 use Rattle.std.proofs.Common.{◌≡◌, ◌≢◌, ◌⊎◌, inl, inr, ℕ, ◌+◌, ◌*◌, ◌/◌, ◌%◌, ◌<◌, ◌≤◌, Bool, true, false, cond, not, ◌&&◌, nat_eq, List, get_or, refl, sym, ◌∙◌, ap, subst, Option, Some, None, IfSome, arith}
 use Rattle.std.proofs.lemmas.Bool.{cases_eq}
 use Rattle.std.proofs.lemmas.Bool.Decides.{nat_tests}
+use Rattle.aps_model.specs.Limits.{last_thread}
 use Rattle.aps_levels.specs.declared.bits.Bits64.{Bits64}
 use Rattle.aps_levels.specs.Bits.{has, IsLeast}
-use Rattle.aps_timer.specs.Lines.{IsOfLine, IsOfWord, no_bits, sleeper_of, stands_in}
+use Rattle.aps_timer.specs.Lines.{IsOfLine, IsOfWord, no_bits, sleeper_of, stands_in, words_of_line}
 use Rattle.aps_timer.specs.Order.{first_of, goes_before, wakes_by}
 use Rattle.aps_timer.specs.Sleepers.{SleepsUntil}
 use Rattle.aps_timer.proofs.Order.{before_chain, first_left, first_right}
@@ -142,21 +143,21 @@ ended_in_word row bits left word from begin first is by k until within in_bits a
 pub record IsPast (row : List (Option ℕ)) (lines : List Bits64) (line begin word : ℕ) (first : Option (ℕ × ℕ)) : Type 0 where
   pub one : IfSome first (IsOfLine row lines line)
   pub lower : IfSome first (λ s. s.1 / 64 < word)
-  pub done : (x until : ℕ) → x ≤ 1023 → x / 64 < word → stands_in lines line x ≡ true → SleepsUntil row x until → begin ≤ until
+  pub done : (x until : ℕ) → x ≤ last_thread → x / 64 < word → stands_in lines line x ≡ true → SleepsUntil row x until → begin ≤ until
       → goes_before (Some (until, x)) first ≡ false
 
-of_line : (row : Row) (lines : List Bits64) (line word : ℕ) (bits : Bits64) (o : Option (ℕ × ℕ)) → word < 16 → bits ≡ get_or lines (16 * line + word) no_bits
+of_line : (row : Row) (lines : List Bits64) (line word : ℕ) (bits : Bits64) (o : Option (ℕ × ℕ)) → word < words_of_line → bits ≡ get_or lines (words_of_line * line + word) no_bits
     → IfSome o (IsOfWord row bits word) → IfSome o (IsOfLine row lines line)
 of_line row lines line word bits None few read is = tt
 of_line row lines line word bits (Some s) few read is = record {
   asleep = is.asleep;
   few = omega (arith, is.place, few);
-  stands = ap (λ (w : ℕ). has (get_or lines (16 * line + w) no_bits) (s.1 % 64)) is.place
+  stands = ap (λ (w : ℕ). has (get_or lines (words_of_line * line + w) no_bits) (s.1 % 64)) is.place
       ∙ ap (λ (b : Bits64). has b (s.1 % 64)) (sym read) ∙ is.bit;
 }
 
 pub more_past : (row : List (Option ℕ)) (lines : List Bits64) (line begin word : ℕ) (bits : Bits64) (first second : Option (ℕ × ℕ))
-    → word < 16 → IsPast row lines line begin word first → bits ≡ get_or lines (16 * line + word) no_bits
+    → word < words_of_line → IsPast row lines line begin word first → bits ≡ get_or lines (words_of_line * line + word) no_bits
     → IfSome second (IsOfWord row bits word)
     → ((k until : ℕ) → k < 64 → has bits k ≡ true → SleepsUntil row (64 * word + k) until → begin ≤ until
     → goes_before (Some (until, 64 * word + k)) second ≡ false)
@@ -178,20 +179,20 @@ more_past row lines line begin word bits first second few is read one others = r
     here_or_before : (x : ℕ) → x / 64 < word + 1 → (x / 64 < word) ⊎ (x / 64 ≡ word)
     here_or_before x below = search arith
 
-    done : (x until : ℕ) → x ≤ 1023 → stands_in lines line x ≡ true → SleepsUntil row x until → begin ≤ until → (x / 64 < word) ⊎ (x / 64 ≡ word)
+    done : (x until : ℕ) → x ≤ last_thread → stands_in lines line x ≡ true → SleepsUntil row x until → begin ≤ until → (x / 64 < word) ⊎ (x / 64 ≡ word)
         → goes_before (Some (until, x)) (first_of first second) ≡ false
     done x until few stands asleep later (inl below) = before_neither (Some (until, x)) first second (is.done x until few below stands asleep later)
     done x until few stands asleep later (inr here) =
         let same : 64 * word + x % 64 ≡ x = omega (arith, here) in
         let bit : has bits (x % 64) ≡ true =
         ap (λ (b : Bits64). has b (x % 64)) read
-        ∙ ap (λ (w : ℕ). has (get_or lines (16 * line + w) no_bits) (x % 64)) (sym here) ∙ stands in
+        ∙ ap (λ (w : ℕ). has (get_or lines (words_of_line * line + w) no_bits) (x % 64)) (sym here) ∙ stands in
         before_nor (Some (until, x)) first second
         (subst (λ (y : ℕ). goes_before (Some (until, y)) second ≡ false) same
         (others (x % 64) until (omega arith) bit (subst (λ (y : ℕ). SleepsUntil row y until) (sym same) asleep) later))
 
 pub ended_in_line : (row : List (Option ℕ)) (lines : List Bits64) (line begin words : ℕ) (first : Option (ℕ × ℕ)) → IsPast row lines line begin words first
-    → wakes_by first begin ≡ true → (x until : ℕ) → x ≤ 1023 → stands_in lines line x ≡ true → SleepsUntil row x until
+    → wakes_by first begin ≡ true → (x until : ℕ) → x ≤ last_thread → stands_in lines line x ≡ true → SleepsUntil row x until
     → begin ≤ until → goes_before (Some (until, x)) first ≡ false
 ended_in_line row lines line begin words first is by x until few stands asleep later = in_words (past_or_not (x / 64) words)
   where

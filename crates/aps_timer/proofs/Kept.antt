@@ -5,11 +5,12 @@ use Rattle.std.proofs.lemmas.Bool.Decides.{nat_tests}
 use Rattle.std.proofs.lemmas.List.{get_or-replicate, length-replicate}
 use Rattle.std.proofs.lemmas.Nat.Bits.{bit_at-zero}
 use Rattle.std.proofs.Math.ListN.{get_or-eq_default}
+use Rattle.aps_model.specs.Limits.{last_thread}
 use Rattle.aps_levels.specs.Bits.{has}
 use Rattle.aps_levels.specs.declared.bits.Bits64.{Bits64}
 use Rattle.aps_model.specs.TickWork.{is_earlier}
-use Rattle.aps_timer.specs.Buckets.{AreKept, AreNear, IsFurther, IsNear, IsPlaced, bucket_of}
-use Rattle.aps_timer.specs.Lines.{IsOfLine, no_bits, stands_in}
+use Rattle.aps_timer.specs.Buckets.{AreKept, AreNear, IsFurther, IsNear, IsPlaced, bucket_count, bucket_of, further_line}
+use Rattle.aps_timer.specs.Lines.{IsOfLine, no_bits, stands_in, words_of_line}
 use Rattle.aps_timer.specs.Order.{goes_before}
 use Rattle.aps_timer.specs.Sleepers.{IsFirstDue, SleepsUntil}
 
@@ -23,14 +24,14 @@ Lines = List Bits64
 
 -- what one call leaves
 abbrev pub IsSet : List Bits64 → List Bits64 → ℕ → ℕ → Bool → Type 0
-IsSet lines lines' line x is_in = (l y : ℕ) → y ≤ 1023
+IsSet lines lines' line x is_in = (l y : ℕ) → y ≤ last_thread
     → stands_in lines' l y ≡ cond (nat_eq l line && nat_eq y x) is_in (stands_in lines l y)
 
 same_here : (x : ℕ) → nat_eq x x ≡ true
 same_here x = grind (arith, nat_tests)
 
 -- where the thread stood nowhere it stands in this line alone
-pub stands_alone : (lines lines' : List Bits64) (line x : ℕ) → x ≤ 1023 → IsSet lines lines' line x true
+pub stands_alone : (lines lines' : List Bits64) (line x : ℕ) → x ≤ last_thread → IsSet lines lines' line x true
     → ((l : ℕ) → stands_in lines l x ≡ false) → (l : ℕ) → stands_in lines' l x ≡ nat_eq l line
 stands_alone lines lines' line x few is nowhere l = is l x few ∙ rw (same_here x, nowhere l) (either (nat_eq l line))
   where
@@ -39,7 +40,7 @@ stands_alone lines lines' line x few is nowhere l = is l x few ∙ rw (same_here
     either false = refl
 
 -- no other thread stands elsewhere than before
-pub others_same : (lines lines' : List Bits64) (line x y : ℕ) (is_in : Bool) → y ≤ 1023 → y ≢ x → IsSet lines lines' line x is_in
+pub others_same : (lines lines' : List Bits64) (line x y : ℕ) (is_in : Bool) → y ≤ last_thread → y ≢ x → IsSet lines lines' line x is_in
     → (l : ℕ) → stands_in lines' l y ≡ stands_in lines l y
 others_same lines lines' line x y is_in few other is l =
     is l y few ∙ ap (λ t. cond (nat_eq l line && t) is_in (stands_in lines l y)) not_same ∙ neither (nat_eq l line) (stands_in lines l y)
@@ -52,8 +53,8 @@ others_same lines lines' line x y is_in few other is l =
     neither false h = refl
 
 -- a thread that stands in its bucket or in the further list and leaves both stands nowhere
-pub stands_nowhere : (lines between lines' : List Bits64) (begin further x until : ℕ) → x ≤ 1023
-    → IsSet lines between (bucket_of until % 1024) x false → IsSet between lines' 1024 x false
+pub stands_nowhere : (lines between lines' : List Bits64) (begin further x until : ℕ) → x ≤ last_thread
+    → IsSet lines between (bucket_of until % bucket_count) x false → IsSet between lines' further_line x false
     → IsPlaced lines begin further x (Some until) → (l : ℕ) → stands_in lines' l x ≡ false
 stands_nowhere lines between lines' begin further x until few one two placed l =
     two l x few ∙ rw (same_here x, one l x few, same_here x) (by placed)
@@ -69,9 +70,9 @@ stands_nowhere lines between lines' begin further x until few one two placed l =
     right false false = refl
 
     by : IsPlaced lines begin further x (Some until)
-        → cond (nat_eq l 1024 && true) false (cond (nat_eq l (bucket_of until % 1024) && true) false (stands_in lines l x)) ≡ false
-    by (inl near) = rw (near.stands l) (left (nat_eq l 1024) (nat_eq l (bucket_of until % 1024)))
-    by (inr late) = rw (late.stands l) (right (nat_eq l 1024) (nat_eq l (bucket_of until % 1024)))
+        → cond (nat_eq l further_line && true) false (cond (nat_eq l (bucket_of until % bucket_count) && true) false (stands_in lines l x)) ≡ false
+    by (inl near) = rw (near.stands l) (left (nat_eq l further_line) (nat_eq l (bucket_of until % bucket_count)))
+    by (inr late) = rw (late.stands l) (right (nat_eq l further_line) (nat_eq l (bucket_of until % bucket_count)))
 
 pub placed_still : (lines lines' : List Bits64) (begin further further' y : ℕ) (other : Option ℕ) → ((l : ℕ) → stands_in lines' l y ≡ stands_in lines l y)
     → further' ≤ further → IsPlaced lines begin further y other → IsPlaced lines' begin further' y other
@@ -109,7 +110,7 @@ kept_at_first lines bits threads words further are none = record {
 
     nowhere : (line x : ℕ) → stands_in lines line x ≡ false
     nowhere line x =
-        ap (λ (l : Lines). stands_in l line x) are ∙ (elim (read words (16 * line + x / 64) bits no_bits) [
+        ap (λ (l : Lines). stands_in l line x) are ∙ (elim (read words (words_of_line * line + x / 64) bits no_bits) [
           | inl e ↦ ap (λ (b : Bits64). has b (x % 64)) e ∙ none (x % 64)
           | inr e ↦ ap (λ (b : Bits64). has b (x % 64)) e ∙ ap (λ (b : ℕ). nat_eq b 1) (bit_at-zero (x % 64))
         ])
@@ -117,19 +118,19 @@ kept_at_first lines bits threads words further are none = record {
 -- ---- a thread falls asleep, or wakes
 
 pub kept_set : (row : List (Option ℕ)) (lines lines' : List Bits64) (begin begin' further further' x : ℕ) (o : Option ℕ) → AreKept row lines begin further
-    → x < length row → x ≤ 1023 → IsPlaced lines' begin' further' x o
-    → ((y : ℕ) (other : Option ℕ) → y ≤ 1023 → y ≢ x → IsPlaced lines begin further y other → IsPlaced lines' begin' further' y other)
+    → x < length row → x ≤ last_thread → IsPlaced lines' begin' further' x o
+    → ((y : ℕ) (other : Option ℕ) → y ≤ last_thread → y ≢ x → IsPlaced lines begin further y other → IsPlaced lines' begin' further' y other)
     → AreKept (set row x o) lines' begin' further'
 kept_set row lines lines' begin begin' further further' x o kept within few here others = record {
   few = λ y until asleep. by y until asleep (cases_eq y x);
   each = λ y fits. stands y fits (cases_eq y x);
 }
   where
-    by : (y until : ℕ) → SleepsUntil (set row x o) y until → (y ≡ x) ⊎ (y ≢ x) → y ≤ 1023
+    by : (y until : ℕ) → SleepsUntil (set row x o) y until → (y ≡ x) ⊎ (y ≢ x) → y ≤ last_thread
     by y until asleep (inl same) = omega (arith, same, few)
     by y until asleep (inr apart) = kept.few y until (sym (get_or-set_other row x y o None apart) ∙ asleep)
 
-    stands : (y : ℕ) → y ≤ 1023 → (y ≡ x) ⊎ (y ≢ x) → IsPlaced lines' begin' further' y (get_or (set row x o) y None)
+    stands : (y : ℕ) → y ≤ last_thread → (y ≡ x) ⊎ (y ≢ x) → IsPlaced lines' begin' further' y (get_or (set row x o) y None)
     stands y fits (inl same) =
         subst (λ (z : ℕ). IsPlaced lines' begin' further' z (get_or (set row x o) z None)) (sym same)
         (subst (IsPlaced lines' begin' further' x) (sym (get_or-set_same row x o None within)) here)
@@ -143,15 +144,15 @@ placed row lines begin further x until kept asleep = subst (IsPlaced lines begin
 
 -- whoever sleeps still stands where it is looked for
 pub kept_still : (row : List (Option ℕ)) (lines : List Bits64) (begin begin' further further' : ℕ) → AreKept row lines begin further
-    → ((x until : ℕ) → x ≤ 1023 → SleepsUntil row x until → IsNear lines begin x until → IsNear lines begin' x until)
-    → ((x until : ℕ) → x ≤ 1023 → SleepsUntil row x until → IsFurther lines further x until → IsFurther lines further' x until)
+    → ((x until : ℕ) → x ≤ last_thread → SleepsUntil row x until → IsNear lines begin x until → IsNear lines begin' x until)
+    → ((x until : ℕ) → x ≤ last_thread → SleepsUntil row x until → IsFurther lines further x until → IsFurther lines further' x until)
     → AreKept row lines begin' further'
 kept_still row lines begin begin' further further' kept near late = record {
   few = kept.few;
   each = λ x few. by x few (get_or row x None) refl (kept.each x few);
 }
   where
-    by : (x : ℕ) → x ≤ 1023 → (o : Option ℕ) → get_or row x None ≡ o → IsPlaced lines begin further x (get_or row x None)
+    by : (x : ℕ) → x ≤ last_thread → (o : Option ℕ) → get_or row x None ≡ o → IsPlaced lines begin further x (get_or row x None)
         → IsPlaced lines begin' further' x (get_or row x None)
     by x few None is stands = subst (IsPlaced lines begin' further' x) (sym is) (subst (IsPlaced lines begin further x) is stands)
     by x few (Some until) is stands =
@@ -173,7 +174,7 @@ kept_near row lines begin further kept line x below few stands = by (get_or row 
     by (Some until) is at = elim (subst (IsPlaced lines begin further x) is at) [
       | inl near ↦ (until, is, near)
       | inr late ↦
-          let never : nat_eq line 1024 ≡ true = sym (late.stands line) ∙ stands in
+          let never : nat_eq line further_line ≡ true = sym (late.stands line) ∙ stands in
           absurd (grind (arith, nat_tests))
     ]
 
@@ -182,18 +183,18 @@ kept_near row lines begin further kept line x below few stands = by (get_or row 
 -- nobody stands in the buckets from the first on up to this one
 pub record IsPassed (row : List (Option ℕ)) (lines : List Bits64) (begin bucket : ℕ) : Type 0 where
   pub from : bucket_of begin ≤ bucket
-  pub few : bucket ≤ bucket_of begin + 1024
-  pub none : (x until : ℕ) → x ≤ 1023 → SleepsUntil row x until → IsNear lines begin x until → bucket ≤ bucket_of until
+  pub few : bucket ≤ bucket_of begin + bucket_count
+  pub none : (x until : ℕ) → x ≤ last_thread → SleepsUntil row x until → IsNear lines begin x until → bucket ≤ bucket_of until
 
 -- the first of a line in which nobody wakes before this moment
 abbrev pub IsFirstIn : List (Option ℕ) → List Bits64 → ℕ → ℕ → Option (ℕ × ℕ) → Type 0
-IsFirstIn row lines begin line first = (x until : ℕ) → x ≤ 1023 → stands_in lines line x ≡ true → SleepsUntil row x until → begin ≤ until
+IsFirstIn row lines begin line first = (x until : ℕ) → x ≤ last_thread → stands_in lines line x ≡ true → SleepsUntil row x until → begin ≤ until
     → goes_before (Some (until, x)) first ≡ false
 
 -- it stands in the line of its bucket
-stands_near : (lines : Lines) (begin bucket x until : ℕ) → IsNear lines begin x until → bucket_of until ≡ bucket → stands_in lines (bucket % 1024) x ≡ true
+stands_near : (lines : Lines) (begin bucket x until : ℕ) → IsNear lines begin x until → bucket_of until ≡ bucket → stands_in lines (bucket % bucket_count) x ≡ true
 stands_near lines begin bucket x until near same =
-    ap (λ (b : ℕ). stands_in lines (b % 1024) x) (sym same) ∙ near.stands (bucket_of until % 1024) ∙ same_here (bucket_of until % 1024)
+    ap (λ (b : ℕ). stands_in lines (b % bucket_count) x) (sym same) ∙ near.stands (bucket_of until % bucket_count) ∙ same_here (bucket_of until % bucket_count)
 
 -- the buckets begin later, with a moment before which nobody in them wakes
 pub near_on : (lines : List Bits64) (begin later x until : ℕ) → IsNear lines begin x until → begin ≤ later → later ≤ until → IsNear lines later x until
@@ -207,13 +208,13 @@ earlier_bucket : (until x : ℕ) (s : ℕ × ℕ) → bucket_of s.0 < bucket_of 
 earlier_bucket until x (moment, y) less = let before : moment < until = omega (arith, less) in grind (arith, nat_tests)
 
 -- of 1,024 buckets in a row no two have the same line
-one_line : (base a b : ℕ) → base ≤ a → a < base + 1024 → base ≤ b → b < base + 1024 → a % 1024 ≡ b % 1024 → a ≡ b
+one_line : (base a b : ℕ) → base ≤ a → a < base + bucket_count → base ≤ b → b < base + bucket_count → a % bucket_count ≡ b % bucket_count → a ≡ b
 one_line base a b from before from' before' same = omega arith
 
 -- whoever stands in the line of the bucket at hand is of that bucket
-of_bucket : (row : Row) (lines : Lines) (begin bucket : ℕ) (s : ℕ × ℕ) → AreNear row lines begin → bucket_of begin ≤ bucket → bucket < bucket_of begin + 1024
-    → IsOfLine row lines (bucket % 1024) s → bucket_of s.0 ≡ bucket
-of_bucket row lines begin bucket s near from before is = by (near (bucket % 1024) s.1 (omega arith) is.few is.stands)
+of_bucket : (row : Row) (lines : Lines) (begin bucket : ℕ) (s : ℕ × ℕ) → AreNear row lines begin → bucket_of begin ≤ bucket → bucket < bucket_of begin + bucket_count
+    → IsOfLine row lines (bucket % bucket_count) s → bucket_of s.0 ≡ bucket
+of_bucket row lines begin bucket s near from before is = by (near (bucket % bucket_count) s.1 (omega arith) is.few is.stands)
   where
     later : (until : ℕ) → begin ≤ until → bucket_of begin ≤ bucket_of until
     later until more = omega (arith, more)
@@ -222,14 +223,14 @@ of_bucket row lines begin bucket s near from before is = by (near (bucket % 1024
     by (until, asleep, at) =
         let both : Some until ≡ Some s.0 = sym asleep ∙ is.asleep in
         let moment : until ≡ s.0 = cc in
-        let line : nat_eq (bucket % 1024) (bucket_of until % 1024) ≡ true = sym (at.stands (bucket % 1024)) ∙ is.stands in
-        let same : bucket % 1024 ≡ bucket_of until % 1024 = grind (arith, nat_tests, line) in
+        let line : nat_eq (bucket % bucket_count) (bucket_of until % bucket_count) ≡ true = sym (at.stands (bucket % bucket_count)) ∙ is.stands in
+        let same : bucket % bucket_count ≡ bucket_of until % bucket_count = grind (arith, nat_tests, line) in
         sym (ap bucket_of moment) ∙ one_line (bucket_of begin) (bucket_of until) bucket (later until at.from) at.before from before (sym same)
 
 -- the first of the bucket at hand is the first of all buckets
 pub first_of_near : (row : List (Option ℕ)) (lines : List Bits64) (begin bucket : ℕ) (s : ℕ × ℕ) → AreNear row lines begin → IsPassed row lines begin bucket
-    → bucket < bucket_of begin + 1024 → IsOfLine row lines (bucket % 1024) s → IsFirstIn row lines begin (bucket % 1024) (Some s)
-    → (x until : ℕ) → x ≤ 1023 → SleepsUntil row x until → IsNear lines begin x until → goes_before (Some (until, x)) (Some s) ≡ false
+    → bucket < bucket_of begin + bucket_count → IsOfLine row lines (bucket % bucket_count) s → IsFirstIn row lines begin (bucket % bucket_count) (Some s)
+    → (x until : ℕ) → x ≤ last_thread → SleepsUntil row x until → IsNear lines begin x until → goes_before (Some (until, x)) (Some s) ≡ false
 first_of_near row lines begin bucket s all is before one first x until few asleep near = by (cases_eq (bucket_of until) bucket)
   where
     by : (bucket_of until ≡ bucket) ⊎ (bucket_of until ≢ bucket) → goes_before (Some (until, x)) (Some s) ≡ false

@@ -3,10 +3,11 @@ use Rattle.std.proofs.Common.{◌≡◌, ◌⊎◌, inl, inr, ℕ, ◌+◌, ◌-
 use Rattle.std.proofs.lemmas.Bool.{cases_eq, cases_lt}
 use Rattle.std.proofs.lemmas.Bool.Decides.{nat_tests}
 use Rattle.std.proofs.lemmas.List.{get_or_past}
+use Rattle.aps_model.specs.Limits.{last_thread}
 use Rattle.aps_levels.specs.Bits.{has, IsLeast}
 use Rattle.aps_levels.specs.declared.bits.Bits64.{Bits64}
-use Rattle.aps_timer.specs.Buckets.{IsFurther, IsNear, IsPlaced, bucket_of}
-use Rattle.aps_timer.specs.Lines.{no_bits, stands_in}
+use Rattle.aps_timer.specs.Buckets.{IsFurther, IsNear, IsPlaced, bucket_count, bucket_of}
+use Rattle.aps_timer.specs.Lines.{no_bits, stands_in, words_of_line}
 use Rattle.aps_timer.specs.Sleepers.{SleepsUntil, all_due, due_below, due_by}
 use Rattle.aps_timer.proofs.Due.{due_later}
 use Rattle.aps_timer.proofs.Gathered.{gathered_up}
@@ -104,8 +105,8 @@ more_added row bits left rest word now from bit due next is least without added 
 
 -- ---- all words
 
-pub whole_row : (row : List (Option ℕ)) (now words : ℕ) → ((x until : ℕ) → SleepsUntil row x until → x ≤ 1023)
-    → ((x : ℕ) → x < length row → x ≤ 1023 → x / 64 < words) → due_below row now (64 * words) ≡ all_due row now
+pub whole_row : (row : List (Option ℕ)) (now words : ℕ) → ((x until : ℕ) → SleepsUntil row x until → x ≤ last_thread)
+    → ((x : ℕ) → x < length row → x ≤ last_thread → x / 64 < words) → due_below row now (64 * words) ≡ all_due row now
 whole_row row now words few enough = elim (cases_lt (64 * words) (length row)) [
   | inl less ↦ sym (gathered_up due (64 * words) (length row) (omega (arith, less)) (λ y from below. high y from below (get_or row y None) refl))
   | inr more ↦ gathered_up due (length row) (64 * words) more (λ y from below. ap (due_by now y) (get_or_past row y None from))
@@ -140,7 +141,7 @@ same_here : (x : ℕ) → nat_eq x x ≡ true
 same_here x = grind (arith, nat_tests)
 
 pub more_seen : (lines : List Bits64) (begin further now word bucket : ℕ) (bits line more : Bits64) → AreSeen lines begin further now word bucket bits
-    → line ≡ get_or lines (16 * (bucket % 1024) + word) no_bits → ((k : ℕ) → has more k ≡ (has bits k || has line k))
+    → line ≡ get_or lines (words_of_line * (bucket % bucket_count) + word) no_bits → ((k : ℕ) → has more k ≡ (has bits k || has line k))
     → AreSeen lines begin further now word (bucket + 1) more
 more_seen lines begin further now word bucket bits line more seen read join = record {
   from = omega (arith, seen.from);
@@ -154,12 +155,12 @@ more_seen lines begin further now word bucket bits line more seen read join = re
     stands : (x until : ℕ) → x / 64 ≡ word → IsNear lines begin x until → bucket_of until ≡ bucket → has line (x % 64) ≡ true
     stands x until of near here =
         ap (λ (b : Bits64). has b (x % 64)) read
-        ∙ ap (λ (w : ℕ). has (get_or lines (16 * (bucket % 1024) + w) no_bits) (x % 64)) (sym of)
-        ∙ ap (λ (b : ℕ). stands_in lines (b % 1024) x) (sym here)
-        ∙ near.stands (bucket_of until % 1024) ∙ same_here (bucket_of until % 1024)
+        ∙ ap (λ (w : ℕ). has (get_or lines (words_of_line * (bucket % bucket_count) + w) no_bits) (x % 64)) (sym of)
+        ∙ ap (λ (b : ℕ). stands_in lines (b % bucket_count) x) (sym here)
+        ∙ near.stands (bucket_of until % bucket_count) ∙ same_here (bucket_of until % bucket_count)
 
 pub all_seen : (lines : List Bits64) (begin further now word bucket : ℕ) (bits : Bits64) → AreSeen lines begin further now word bucket bits
-    → (bucket ≤ bucket_of now → bucket < bucket_of begin + 1024 → ⊥)
+    → (bucket ≤ bucket_of now → bucket < bucket_of begin + bucket_count → ⊥)
     → (x until : ℕ) → x / 64 ≡ word → IsPlaced lines begin further x (Some until) → until ≤ now → has bits (x % 64) ≡ true
 all_seen lines begin further now word bucket bits seen over x until of (inl near) due =
     seen.near x until of near (elim (cases_lt (bucket_of until) bucket) [

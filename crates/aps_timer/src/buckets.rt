@@ -1,9 +1,11 @@
 //! Sleepers in buckets by their moment, and one further list of all others.
 ghost use Rattle.std.specs.Prelude.{◌≡◌, ◌≢◌, ℕ, List, Option, ◌%◌, ◌≤◌, ◌/◌, ◌<◌, length, replicate, IfOk, IfSome, Some, None, true, false};
+ghost use Rattle.aps_model.specs.Limits.{last_thread};
 ghost use Rattle.aps_levels.specs.Bits.{has};
-ghost use Rattle.aps_timer.specs.Buckets.{AreKept, AreNear, IsFurther, IsNear, IsPlaced, bucket_of};
+ghost use Rattle.aps_timer.specs.Buckets.{AreKept, AreNear, IsFurther, IsNear, IsPlaced, bucket_count, bucket_of, words_in_all};
 ghost use Rattle.aps_timer.specs.Order.{goes_before};
 ghost use Rattle.aps_timer.specs.Sleepers.{SleepsUntil};
+ghost use Rattle.aps_timer.specs.Lines.{words_of_line};
 
 use crate::lines::{WORDS, first_in, place};
 use crate::sleeper::{Sleeper, first_of};
@@ -29,7 +31,7 @@ pub struct Buckets {
     begin: Nanos,
     /// nobody in the further list wakes before this moment
     further: Nanos,
-    ghost room: { length lines.items ≡ 16400 },
+    ghost room: { length lines.items ≡ words_in_all },
 }
 
 impl Buckets {
@@ -50,7 +52,7 @@ impl Buckets {
         requires { IsPlaced self.old.lines.items self.old.begin self.old.further x None }
         ensures here { IsPlaced self.new.lines.items self.new.begin self.new.further x (Some until) }
         ensures others { (y : ℕ) (other : Option ℕ)
-            → y ≤ 1023
+            → y ≤ last_thread
             → y ≢ x
             → IsPlaced self.old.lines.items self.old.begin self.old.further y other
             → IsPlaced self.new.lines.items self.new.begin self.new.further y other }
@@ -68,7 +70,7 @@ impl Buckets {
         requires { IsPlaced self.old.lines.items self.old.begin self.old.further x (Some until) }
         ensures here { IsPlaced self.new.lines.items self.new.begin self.new.further x None }
         ensures others { (y : ℕ) (other : Option ℕ)
-            → y ≤ 1023
+            → y ≤ last_thread
             → y ≢ x
             → IsPlaced self.old.lines.items self.old.begin self.old.further y other
             → IsPlaced self.new.lines.items self.new.begin self.new.further y other }
@@ -94,7 +96,7 @@ impl Buckets {
     /// Those of a word who can be due at `now`: they stand in one of the buckets up to that of `now`, or in the further list,
     /// where it is time to look for anybody there.
     pub fn may_be_due(&self, word: usize, now: Nanos) -> Bits64
-        requires { word < 16 }
+        requires { word < words_of_line }
         ensures { (x until : ℕ) → x / 64 ≡ word → IsPlaced self.now.lines.items self.now.begin self.now.further x (Some until)
             → until ≤ now → has result (x % 64) ≡ true }
     {
@@ -110,7 +112,7 @@ impl Buckets {
 
     /// Those of a word who stand in the further list, where anybody in it can be due at `now`.
     fn late(&self, word: usize, now: Nanos) -> Bits64
-        requires { word < 16 }
+        requires { word < words_of_line }
         ensures { (x until : ℕ) → x / 64 ≡ word → IsFurther self.now.lines.items self.now.further x until → until ≤ now
             → has result (x % 64) ≡ true }
     {
@@ -144,14 +146,14 @@ fn bucket_of(until: Nanos) -> u64
 /// The line of the bucket of a moment.
 #[inline(always)]
 fn line_until(until: Nanos) -> usize
-    ensures { result ≡ bucket_of until % 1024 }
+    ensures { result ≡ bucket_of until % bucket_count }
 {
     line_of(bucket_of(until))
 }
 
 /// The line of a bucket.
 fn line_of(bucket: u64) -> usize
-    ensures { result ≡ bucket % 1024 }
+    ensures { result ≡ bucket % bucket_count }
 {
     (bucket % BUCKETS) as usize
 }
@@ -164,15 +166,15 @@ fn first_near(
     begin: Nanos,
     now: Nanos,
 ) -> (Nanos, Option<Sleeper>)
-    requires room { length lines.now ≡ 16400 }
+    requires room { length lines.now ≡ words_in_all }
     requires near { AreNear row.now lines.now begin }
     ensures one { IfSome result.1 (λ s. SleepsUntil row.now s.1 s.0) }
     ensures still { (x until : ℕ)
-        → x ≤ 1023
+        → x ≤ last_thread
         → SleepsUntil row.now x until
         → IsNear lines.now begin x until
         → IsNear lines.now result.0 x until }
-    ensures others { (x until : ℕ) → x ≤ 1023 → SleepsUntil row.now x until → IsNear lines.now begin x until → until ≤ now
+    ensures others { (x until : ℕ) → x ≤ last_thread → SleepsUntil row.now x until → IsNear lines.now begin x until → until ≤ now
         → goes_before (Some (until, x)) result.1 ≡ false }
 {
     let (low, high) = (bucket_of(begin), bucket_of(now));
@@ -194,11 +196,11 @@ fn first_further(
     further: Nanos,
     now: Nanos,
 ) -> (Nanos, Option<Sleeper>)
-    requires { length lines.now ≡ 16400 }
+    requires { length lines.now ≡ words_in_all }
     ensures one { IfSome result.1 (λ s. SleepsUntil row.now s.1 s.0) }
-    ensures still { (x until : ℕ) → x ≤ 1023 → SleepsUntil row.now x until → IsFurther lines.now further x until
+    ensures still { (x until : ℕ) → x ≤ last_thread → SleepsUntil row.now x until → IsFurther lines.now further x until
         → IsFurther lines.now result.0 x until }
-    ensures others { (x until : ℕ) → x ≤ 1023 → SleepsUntil row.now x until → IsFurther lines.now further x until → until ≤ now
+    ensures others { (x until : ℕ) → x ≤ last_thread → SleepsUntil row.now x until → IsFurther lines.now further x until → until ≤ now
         → goes_before (Some (until, x)) result.1 ≡ false }
 {
     if now < further {

@@ -1,7 +1,8 @@
 //! Lines in which threads stand, a bit for each, and who of a line wakes first.
 ghost use Rattle.std.specs.Prelude.{◌≡◌, ℕ, ◌+◌, ◌*◌, ◌/◌, ◌<◌, ◌≤◌, ◌&&◌, nat_eq, if◌then◌else◌, length, slice_index_or, IfSome, Some, None, true, false};
+ghost use Rattle.aps_model.specs.Limits.{last_thread};
 ghost use Rattle.aps_levels.specs.Bits.{has};
-ghost use Rattle.aps_timer.specs.Lines.{IsOfLine, IsOfWord, sleeper_of, stands_in};
+ghost use Rattle.aps_timer.specs.Lines.{IsOfLine, IsOfWord, sleeper_of, stands_in, words_of_line};
 ghost use Rattle.aps_timer.specs.Order.{goes_before};
 ghost use Rattle.aps_timer.specs.Sleepers.{SleepsUntil, due_below};
 
@@ -15,9 +16,9 @@ pub const WORDS: usize = 16;
 
 /// From now on the thread stands in the line, or doesn't.
 pub fn place(lines: &mut Vec<Bits64>, line: usize, x: ThreadId, is_in: bool)
-    requires { 16 * line + 15 < length lines.old.items }
+    requires { words_of_line * line + 15 < length lines.old.items }
     ensures count { length lines.new.items ≡ length lines.old.items }
-    ensures stands { (l y : ℕ) → y ≤ 1023 → stands_in lines.new.items l y
+    ensures stands { (l y : ℕ) → y ≤ last_thread → stands_in lines.new.items l y
         ≡ (if nat_eq l line && nat_eq y x then is_in else stands_in lines.old.items l y) }
 {
     let word = WORDS * line + x.index() / 64;
@@ -32,9 +33,9 @@ pub fn first_in(
     line: usize,
     begin: Nanos,
 ) -> Option<Sleeper>
-    requires { 16 * line + 15 < length lines.now }
+    requires { words_of_line * line + 15 < length lines.now }
     ensures one { IfSome result (IsOfLine row.now lines.now line) }
-    ensures others { (x until : ℕ) → x ≤ 1023 → stands_in lines.now line x ≡ true → SleepsUntil row.now x until → begin ≤ until
+    ensures others { (x until : ℕ) → x ≤ last_thread → stands_in lines.now line x ≡ true → SleepsUntil row.now x until → begin ≤ until
         → goes_before (Some (until, x)) result ≡ false }
 {
     let mut first = None;
@@ -52,8 +53,8 @@ pub fn first_in(
 
 /// How many words of a line have bits of so many threads.
 pub fn words_of(threads: usize) -> usize
-    ensures few { result ≤ 16 }
-    ensures enough { (x : ℕ) → x < threads → x ≤ 1023 → x / 64 < result }
+    ensures few { result ≤ words_of_line }
+    ensures enough { (x : ℕ) → x < threads → x ≤ last_thread → x / 64 < result }
 {
     if threads < 64 * WORDS {
         threads / 64 + 1
@@ -64,7 +65,7 @@ pub fn words_of(threads: usize) -> usize
 
 /// Of those of one word who sleep the one that wakes first, where nobody does before the moment `begin`.
 fn first_in_word(row: &[Option<Nanos>], bits: Bits64, word: usize, begin: Nanos) -> Option<Sleeper>
-    requires { word < 16 }
+    requires { word < words_of_line }
     ensures one { IfSome result (IsOfWord row.now bits word) }
     ensures others { (k until : ℕ) → k < 64 → has bits k ≡ true → SleepsUntil row.now (64 * word + k) until → begin ≤ until
         → goes_before (Some (until, 64 * word + k)) result ≡ false }
@@ -113,7 +114,7 @@ fn sleeper_of(x: ThreadId, until: Option<Nanos>) -> Option<Sleeper>
 /// To those who are due of the threads before this word come those of the word whose moment is at or before `now`. They are
 /// among those who have these bits.
 pub fn add_of_word(row: &[Option<Nanos>], bits: Bits64, word: usize, now: Nanos, due: &mut Due)
-    requires few { word < 16 }
+    requires few { word < words_of_line }
     requires before { due.old ≡ due_below row.now now (64 * word) }
     requires bits { (k until : ℕ) → k < 64 → SleepsUntil row.now (64 * word + k) until → until ≤ now → has bits k ≡ true }
     ensures { due.new ≡ due_below row.now now (64 * word + 64) }

@@ -9,6 +9,7 @@ use Rattle.aps_check.proofs.Verdicts.{verdict_is_one}
 use Rattle.aps_model.specs.declared.entry.End.{End}
 use Rattle.aps_model.specs.declared.entry.Order.{Order}
 use Rattle.aps_model.specs.History.{History}
+use Rattle.aps_model.specs.Limits.{most_scenario_bytes}
 use Rattle.aps_model.specs.Scenario.{Scenario}
 use Rattle.aps_scenario.specs.Demands.{reads_demands}
 use Rattle.aps_scenario.specs.Reading.{reads}
@@ -73,7 +74,7 @@ value_due : {A : Type 0} (status : A → Status) (read : Result A Refusal) (valu
 value_due status read value is = rw is refl
 
 ran_by : (asked : Option Command) (run : RunAsked) (bytes : List ℕ) (h : History) (end : End) → run_asked asked ≡ Some run
-    → length bytes ≤ 1048576 → reads bytes ≡ Ok h.scenario → h.end ≡ Some end
+    → length bytes ≤ most_scenario_bytes → reads bytes ≡ Ok h.scenario → h.end ≡ Some end
     → IsDueStatus asked bytes (Some h) (status_of_end end)
 ran_by None run bytes h end is short read ended = absurd cc
 ran_by (Some (Solo report limit)) run bytes h end is short read ended = inr (short, run_due (reads bytes) h end read ended)

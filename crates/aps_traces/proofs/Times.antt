@@ -4,6 +4,7 @@ use Rattle.std.proofs.Common.{◌≡◌, ℕ, ◌+◌, ◌/◌, ◌%◌, ◌<◌
 use Rattle.std.specs.Fmt.{decimal}
 use Rattle.std.proofs.Math.Seq.{drop-append_seam, take-append_seam}
 use Rattle.std.proofs.lemmas.Fmt.{decimal_digit, decimal_injective}
+use Rattle.aps_model.specs.Limits.{microsecond}
 use Rattle.aps_traces.specs.Time.{us_text}
 
 -- where two texts have equal ends
@@ -42,11 +43,11 @@ whole_and_places a b x y z u v w fits_a fits_b fx fy fz fu fv fw same =
     let three : 48 + z ≡ 48 + w = ap (λ (l : List ℕ). get_or l 3 0) digits in
     (decimal_injective a b fits_a fits_b (same_front _ _ _ _ ends same), beyond x u one, beyond y v two, beyond z w three)
 
-by_digits : (a b : ℕ) → a / 1000 ≡ b / 1000 → a / 100 % 10 ≡ b / 100 % 10 → a / 10 % 10 ≡ b / 10 % 10 → a % 10 ≡ b % 10 → a ≡ b
+by_digits : (a b : ℕ) → a / microsecond ≡ b / microsecond → a / 100 % 10 ≡ b / 100 % 10 → a / 10 % 10 ≡ b / 10 % 10 → a % 10 ≡ b % 10 → a ≡ b
 by_digits a b whole x y z = omega (arith, whole, x, y, z)
 
 pub us_injective : (a b : ℕ) → a < 2 ^ 64 → b < 2 ^ 64 → us_text a ≡ us_text b → a ≡ b
 us_injective a b fits_a fits_b same =
-    let all = whole_and_places (a / 1000) (b / 1000) (a / 100 % 10) (a / 10 % 10) (a % 10) (b / 100 % 10) (b / 10 % 10) (b % 10)
+    let all = whole_and_places (a / microsecond) (b / microsecond) (a / 100 % 10) (a / 10 % 10) (a % 10) (b / 100 % 10) (b / 10 % 10) (b % 10)
     (omega (arith, fits_a)) (omega (arith, fits_b)) (omega arith) (omega arith) (omega arith) (omega arith) (omega arith) (omega arith) same in
     by_digits a b all.0 all.1 all.2 all.3

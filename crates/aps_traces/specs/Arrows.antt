@@ -19,7 +19,8 @@ carried_word Reply = codes "reply"
 -- one end of an arrow
 abbrev pub end_text : List ThreadRow → List ℕ → Carried → ℕ → ℕ → ℕ → List ℕ
 end_text threads phase carried number x moment =
-    (codes ",\n{\"ph\":\"" ++ (phase ++ (codes "\",\"name\":\"" ++ (carried_word carried ++ (codes "\",\"cat\":\"message\",\"id\":" ++ decimal number)))))
+    (codes ",\n{\"ph\":\""
+    ++ (phase ++ (codes "\",\"name\":\"" ++ (carried_word carried ++ (codes "\",\"cat\":\"message\",\"id\":" ++ decimal number)))))
     ++ place_text (of_thread threads x) moment
 
 -- an arrow begins a nanosecond before it ends

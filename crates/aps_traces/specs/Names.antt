@@ -11,7 +11,8 @@ use Rattle.aps_traces.specs.Track.{of_partition, of_processor, of_processors, of
 
 -- the event of this kind that names a track, up to the name
 abbrev pub head_text : List ℕ → Track → List ℕ
-head_text kind track = (codes ",\n{\"ph\":\"M\",\"name\":\"" ++ (kind ++ codes "\"")) ++ (track_text track ++ codes ",\"args\":{\"name\":\"")
+head_text kind track =
+    (codes ",\n{\"ph\":\"M\",\"name\":\"" ++ (kind ++ codes "\"")) ++ (track_text track ++ codes ",\"args\":{\"name\":\"")
 
 -- the event that gives a track its place
 abbrev pub index_event : List ℕ → Track → ℕ → List ℕ

@@ -28,7 +28,8 @@ span_text track from to = place_text track from ++ (codes ",\"dur\":" ++ (us_tex
 
 -- the end of an event: which partition is billed, and whether for critical time
 abbrev pub bill_end : List PartitionRow → ℕ → Bool → List ℕ
-bill_end rows p critical = codes "\"billed\":\"" ++ (row_name rows p ++ (codes "\",\"critical\":" ++ (decimal (bit critical) ++ codes "}}")))
+bill_end rows p critical =
+    codes "\"billed\":\"" ++ (row_name rows p ++ (codes "\",\"critical\":" ++ (decimal (bit critical) ++ codes "}}")))
 
 -- ---- what a processor ran
 

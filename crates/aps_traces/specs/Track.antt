@@ -1,6 +1,7 @@
 -- On which track of a trace something stands.
 use Rattle.std.specs.Prelude.{ℕ, ◌+◌, ◌≤◌, List, slice_index_or, ⊤}
 use Rattle.aps_model.specs.declared.scenario.ThreadRow.{ThreadRow}
+use Rattle.aps_model.specs.Limits.{last_cpu, last_partition, last_thread}
 use Rattle.aps_model.specs.Scenario.{no_thread_row}
 use Rattle.aps_traces.specs.declared.laws.Owner.{Owner}
 use Rattle.aps_traces.specs.declared.laws.Owner.TheVariants.{Processors, Processor, Partition, Thread}
@@ -30,6 +31,6 @@ track_of threads (Thread x) = of_thread threads x
 -- numbers that there are
 abbrev pub IsOwner : Owner → Type 0
 IsOwner Processors = ⊤
-IsOwner (Processor c) = c ≤ 15
-IsOwner (Partition p) = p ≤ 31
-IsOwner (Thread x) = x ≤ 1023
+IsOwner (Processor c) = c ≤ last_cpu
+IsOwner (Partition p) = p ≤ last_partition
+IsOwner (Thread x) = x ≤ last_thread

@@ -6,7 +6,7 @@ ghost use Rattle.aps_model.specs.Loaded.{finished_ticks};
 ghost use Rattle.aps_samples.specs.Pass.{IsAt, scenario_of};
 ghost use Rattle.aps_traces.specs.Counters as spec;
 ghost use Rattle.aps_traces.specs.Piece.{IsTold};
-ghost use Rattle.aps_model.specs.Limits.{longest_tick, most_entries, most_partitions};
+ghost use Rattle.aps_model.specs.Limits.{last_partition, last_tick, longest_tick, most_entries, most_partitions};
 
 use crate::fault::TraceFault;
 use crate::piece::make_room;
@@ -79,7 +79,7 @@ fn add_sample(
 ) -> Result<(), NoMemory>
     requires tick { tick ≤ longest_tick }
     requires rows { rows ≤ most_partitions }
-    requires sample { sample.now.tick ≤ 100000000 }
+    requires sample { sample.now.tick ≤ last_tick }
     ensures { OnOk result (string_bytes out.new ≡ string_bytes out.old ++ spec.sample_events tick rows before.now sample.now) }
 {
     let moment = (sample.tick + 1) * tick;
@@ -116,7 +116,7 @@ fn is_told(before: &Option<Sample>, sample: &Sample, p: PartitionId) -> bool
 }
 
 fn is_same(before: &Sample, sample: &Sample, p: usize) -> bool
-    requires { p ≤ 31 }
+    requires { p ≤ last_partition }
     ensures { result ≡ spec.is_same before.now sample.now p }
 {
     before.usage.used[p] == sample.usage.used[p]

@@ -7,6 +7,7 @@ use Rattle.std.proofs.lemmas.Bool.{le-ltb}
 use Rattle.std.proofs.lemmas.List.{get_or-map, length-map}
 use Rattle.std.proofs.lemmas.List.Elements.{All-from_recursion, All-get_or}
 use Rattle.aps_model.specs.declared.partition.PartitionRow.{PartitionRow}
+use Rattle.aps_model.specs.Limits.{percent, thousandths}
 use Rattle.aps_model.specs.Name.{IsName}
 use Rattle.aps_model.specs.Partition.{IsFundedRow, no_row, partition_named, row_or_none}
 use Rattle.aps_tree.specs.Named.{names_of}
@@ -41,7 +42,7 @@ system_named : IsName (codes "System")
 system_named = record { some = omega arith; few = omega arith; bytes = refl }
 
 -- the root alone is a tree
-pub root_tree : (parts : ℕ) → (parts ≡ 100) ⊎ (parts ≡ 1000) → IsTree (record { parts = parts; rows = root_row parts ∷ [] })
+pub root_tree : (parts : ℕ) → (parts ≡ percent) ⊎ (parts ≡ thousandths) → IsTree (record { parts = parts; rows = root_row parts ∷ [] })
 unfolding IsDistinct
 root_tree parts whole = record {
   parts = whole;

@@ -10,6 +10,7 @@ use Rattle.std.proofs.lemmas.List.{length-map, map-append}
 use Rattle.indexmap.specs.IndexMap.{insert_entry, set_value_at}
 use Rattle.indexmap.proofs.MapLemmas.{absent_from_lookup, insert_entry-absent, some_index}
 use Rattle.aps_model.specs.declared.partition.PartitionRow.{PartitionRow}
+use Rattle.aps_model.specs.Limits.{most_partitions}
 use Rattle.aps_model.specs.Partition.{no_row, partition_named, row_or_none}
 use Rattle.aps_tree.specs.Named.{AreByName, names_of}
 
@@ -67,7 +68,7 @@ set_by_name names rows place row spare same by_name = record {
 }
 
 -- fewer than 32 rows leave room for one more
-pub has_room : (names : List (List ℕ)) (rows : List PartitionRow) (spare : ℕ) → length rows < 32 → AreByName names rows spare → 0 < spare
+pub has_room : (names : List (List ℕ)) (rows : List PartitionRow) (spare : ℕ) → length rows < most_partitions → AreByName names rows spare → 0 < spare
 has_room names rows spare few by_name =
     let r = by_name.room in
     let n = ap length by_name.named ∙ length-map rows (λ (r : PartitionRow). r.name) in

@@ -9,5 +9,6 @@ parent_of rows p = row_or_none rows (row_or_none rows p).parent
 abbrev pub rows_with_child : List PartitionRow → ℕ → PartitionRow → List PartitionRow
 rows_with_child rows p row =
     slice_set
-    (slice_set rows (row_or_none rows p).parent (record (parent_of rows p) { budget = (parent_of rows p).budget + (row_or_none rows p).budget - row.budget }))
+    (slice_set rows (row_or_none rows p).parent
+    (record (parent_of rows p) { budget = (parent_of rows p).budget + (row_or_none rows p).budget - row.budget }))
     p row

@@ -2,6 +2,7 @@ use lib.Chars.{codes}
 use Rattle.std.specs.Prelude.{◌≡◌, ℕ, ◌⊎◌, List, Option, Some, None, Result, Ok, Err}
 use Rattle.aps_model.specs.declared.partition.PartitionRow.{PartitionRow}
 use Rattle.aps_model.specs.declared.partition.TreeRefusal.{TreeRefusal}
+use Rattle.aps_model.specs.Limits.{percent, thousandths}
 use Rattle.aps_model.specs.Partition.{AreRows}
 use Rattle.aps_laws.specs.Rows.{IsNamedTree}
 
@@ -13,7 +14,7 @@ pub record Tree : Type 0 where
 -- what each tree keeps: its rows are a tree by parents with distinct names, budgets sum to the parts, each is at most
 -- its maximum, and each maximum at most the parts
 pub record IsTree (tree : Tree) : Type 0 where
-  pub parts : (tree.parts ≡ 100) ⊎ (tree.parts ≡ 1000)
+  pub parts : (tree.parts ≡ percent) ⊎ (tree.parts ≡ thousandths)
   pub named : IsNamedTree tree.rows
   pub funded : AreRows tree.parts tree.rows
 

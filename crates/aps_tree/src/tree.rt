@@ -1,6 +1,7 @@
 //! The tree of a run, and the calls that change it.
 ghost use lib.Chars.{codes};
 ghost use Rattle.std.specs.Prelude.{◌≡◌, ◌+◌, ◌-◌, ◌^◌, ◌<◌, ◌≤◌, ◌⊎◌, [], ◌∷◌, length, slice_get, IfOk, IfSome};
+ghost use Rattle.aps_model.specs.Limits.{percent, thousandths};
 ghost use Rattle.aps_model.specs.Partition.{AreRows, partition_named, row_or_none};
 ghost use Rattle.aps_model.specs.Tree.{create_refusal, rows_created, modify_refusal, rows_modified, rows_cancelled};
 ghost use Rattle.aps_laws.specs.Rows.{IsNamedTree};
@@ -49,7 +50,7 @@ impl Tree {
     /// `System` alone, with all parts, 100 or 1,000, as its budget and its maximum, and no critical budget. `NoMemory`
     /// comes where there is no room for 32 rows.
     pub fn new(alloc: Global, parts: u16) -> Result<Tree, NoMemory>
-        requires { (parts ≡ 100) ⊎ (parts ≡ 1000) }
+        requires { (parts ≡ percent) ⊎ (parts ≡ thousandths) }
         ensures { IfOk result (λ tree. tree ≡ record { parts = parts; rows = root_row parts ∷ [] }) }
     {
         let mut rows = Rows::new(alloc)?;
@@ -66,7 +67,7 @@ impl Tree {
     /// The tree that has exactly these rows, whose budgets sum to the parts, 100 or 1,000. `NoMemory` comes where there
     /// is no room for 32 rows.
     pub fn of_rows(alloc: Global, parts: u16, rows: &[PartitionRow]) -> Result<Tree, NoMemory>
-        requires parts { (parts ≡ 100) ⊎ (parts ≡ 1000) }
+        requires parts { (parts ≡ percent) ⊎ (parts ≡ thousandths) }
         requires named { IsNamedTree rows.now }
         requires funded { AreRows parts rows.now }
         ensures { IfOk result (λ tree. tree ≡ record { parts = parts; rows = rows.now }) }
@@ -155,7 +156,8 @@ impl Tree {
 
     /// Why the row can't be created, by the first cause.
     fn create_refusal(&self, row: &PartitionRow) -> Option<TreeRefusal>
-        ensures { result ≡ create_refusal self.now.parts self.now.rows row.now.name row.now.parent row.now.budget row.now.critical row.now.max }
+        ensures { result
+            ≡ create_refusal self.now.parts self.now.rows row.now.name row.now.parent row.now.budget row.now.critical row.now.max }
     {
         let rows = self.rows.as_slice();
         if rows.len() <= row.parent.index() {

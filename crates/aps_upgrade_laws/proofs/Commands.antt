@@ -19,6 +19,7 @@ use Rattle.aps_model.specs.declared.shape.Shape.{Shape}
 use Rattle.aps_model.specs.declared.state.State.{State}
 use Rattle.aps_model.specs.declared.state.State.TheVariants.{Ready, Running, Sleeping, Sending, Receiving, Replying, Gone}
 use Rattle.aps_model.specs.Command.{Performed, answered, create_under, created, found, mark_thread, marked, modified, modify_found, partition_answer, perform, refusal_of, statistics_answer, thread_answer}
+use Rattle.aps_model.specs.Limits.{most_partitions}
 use Rattle.aps_model.specs.Partition.{partition_named}
 use Rattle.aps_model.specs.Scenario.{Scenario}
 use Rattle.aps_model.specs.SchedulerState.{SchedulerState}
@@ -172,9 +173,9 @@ threads_view_ten s (Some x) = refl
 view_ten : (s : SchedulerState) (h : List Entry) (j : ℕ) (call : Call) → view_of (state_times_ten s) h j (call_times_ten call) ≡ view_of s h j call
 view_ten s h j call =
     ap (λ used. record (view_of (state_times_ten s) h j (call_times_ten call)) { used = used })
-    (map_alike (window_used (shape_times_ten s.shape) h j) (window_used s.shape h j) (λ p. refl) (range_with_len 0 32))
-    ∙ ap (λ used. record (view_of (state_times_ten s) h j (call_times_ten call)) { used = map (window_used s.shape h j) (range_with_len 0 32); critical_used = used })
-    (map_alike (window_critical (shape_times_ten s.shape) h j) (window_critical s.shape h j) (λ p. refl) (range_with_len 0 32))
+    (map_alike (window_used (shape_times_ten s.shape) h j) (window_used s.shape h j) (λ p. refl) (range_with_len 0 most_partitions))
+    ∙ ap (λ used. record (view_of (state_times_ten s) h j (call_times_ten call)) { used = map (window_used s.shape h j) (range_with_len 0 most_partitions); critical_used = used })
+    (map_alike (window_critical (shape_times_ten s.shape) h j) (window_critical s.shape h j) (λ p. refl) (range_with_len 0 most_partitions))
     ∙ ap (λ x. record (view_of s h j call) { thread = option_map (thread_view (state_times_ten s)) x }) (thread_named_ten call)
     ∙ ap (λ x. record (view_of s h j call) { thread = x }) (threads_view_ten s (thread_named call))
 

@@ -5,6 +5,7 @@ use Rattle.aps_model.specs.declared.entry.Order.{Order}
 use Rattle.aps_model.specs.After.{After, after, after_from, at_start, end_of, left_by, or_limit, over, state_after}
 use Rattle.aps_model.specs.Due.{HasTurn}
 use Rattle.aps_model.specs.Legal.{IsLegal, LegalFrom}
+use Rattle.aps_model.specs.Limits.{percent, thousandths}
 use Rattle.aps_model.specs.Scenario.{Scenario}
 use Rattle.aps_model.specs.SchedulerState.{SchedulerState}
 use Rattle.aps_model.specs.Step.{Step, step}
@@ -80,17 +81,17 @@ legal_back scenario order h legal =
 
 -- ---- the upgraded scenario
 
-pub upgraded_is : (scenario : Scenario) → scenario.shape.parts ≡ 100 → upgraded scenario ≡ scenario_times_ten scenario
+pub upgraded_is : (scenario : Scenario) → scenario.shape.parts ≡ percent → upgraded scenario ≡ scenario_times_ten scenario
 upgraded_is scenario e =
-    ap (λ n. if nat_eq n 1000 then scenario else record (scenario_times_ten scenario) { shape = record scenario.shape { parts = 1000 } }) e
+    ap (λ n. if nat_eq n thousandths then scenario else record (scenario_times_ten scenario) { shape = record scenario.shape { parts = thousandths } }) e
     ∙ ap (λ n. record (scenario_times_ten scenario) { shape = record scenario.shape { parts = n * 10 } }) (sym e)
 
-pub upgraded_same : (scenario : Scenario) → scenario.shape.parts ≡ 1000 → upgraded scenario ≡ scenario
+pub upgraded_same : (scenario : Scenario) → scenario.shape.parts ≡ thousandths → upgraded scenario ≡ scenario
 upgraded_same scenario e =
-    ap (λ n. if nat_eq n 1000 then scenario else record (scenario_times_ten scenario) { shape = record scenario.shape { parts = 1000 } }) e
+    ap (λ n. if nat_eq n thousandths then scenario else record (scenario_times_ten scenario) { shape = record scenario.shape { parts = thousandths } }) e
 
 -- what holds of both kinds of scenario
-by_parts : (scenario : Scenario) (P : Scenario → Type 0) → (scenario.shape.parts ≡ 100) ⊎ (scenario.shape.parts ≡ 1000)
+by_parts : (scenario : Scenario) (P : Scenario → Type 0) → (scenario.shape.parts ≡ percent) ⊎ (scenario.shape.parts ≡ thousandths)
     → P scenario → P (scenario_times_ten scenario) → P (upgraded scenario)
 by_parts scenario P (inl hundred) same ten = subst P (sym (upgraded_is scenario hundred)) ten
 by_parts scenario P (inr thousand) same ten = subst P (sym (upgraded_same scenario thousand)) same
@@ -104,7 +105,7 @@ upgraded_legal scenario order h valid =
     by_parts scenario (λ S. IsLegal S order h ↔ IsLegal scenario order h) valid.shape.parts (λ legal. legal, λ legal. legal)
     (legal_back scenario order h, legal_ten scenario order h)
 
-pub upgraded_state : (scenario : Scenario) (h : List Entry) → scenario.shape.parts ≡ 100
+pub upgraded_state : (scenario : Scenario) (h : List Entry) → scenario.shape.parts ≡ percent
     → state_after (upgraded scenario) h ≡ state_times_ten (state_after scenario h)
 upgraded_state scenario h e =
     ap (λ S. state_after S h) (upgraded_is scenario e) ∙ ap (λ (a : After). a.state) (after_ten scenario h)

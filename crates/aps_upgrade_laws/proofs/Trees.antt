@@ -5,6 +5,7 @@ use Rattle.std.proofs.lemmas.List.{length-map, map-append, map-set}
 use Rattle.aps_model.specs.declared.partition.PartitionRow.{PartitionRow}
 use Rattle.aps_model.specs.declared.partition.TreeRefusal.{TreeRefusal}
 use Rattle.aps_model.specs.declared.partition.TreeRefusal.TheVariants.{NoSuchPartition, NameTaken, TooMany, NoParent, OverBudget, BadCritical, BadMax}
+use Rattle.aps_model.specs.Limits.{most_critical, most_partitions}
 use Rattle.aps_model.specs.Partition.{partition_named, row_or_none}
 use Rattle.aps_model.specs.Tree.{create_refusal, is_over_max, modify_refusal, row_modified, rows_created, rows_modified}
 use Rattle.aps_model.specs.Upgrade.{row_times_ten, times_ten}
@@ -70,13 +71,13 @@ pub create_refusal_ten : (parts : ℕ) (rows : List PartitionRow) (name : List �
     → create_refusal (times_ten parts) (map row_times_ten rows) name parent (times_ten budget) critical (times_ten max)
     ≡ option_map cause_times_ten (create_refusal parts rows name parent budget critical max)
 create_refusal_ten parts rows name parent budget critical max =
-    ap (λ n. create_by (nat_le n parent) (is_some (partition_named (map row_times_ten rows) name)) (nat_le 32 n) (nat_lt (row_or_none (map row_times_ten rows) parent).budget (budget * 10)) (nat_lt 64000000000 critical) (nat_lt (max * 10) (budget * 10) || nat_lt (parts * 10) (max * 10)) (row_or_none (map row_times_ten rows) parent).budget n (budget * 10)) (length-map rows row_times_ten)
-    ∙ ap (λ o. create_by (nat_le (length rows) parent) (is_some o) (nat_le 32 (length rows)) (nat_lt (row_or_none (map row_times_ten rows) parent).budget (budget * 10)) (nat_lt 64000000000 critical) (nat_lt (max * 10) (budget * 10) || nat_lt (parts * 10) (max * 10)) (row_or_none (map row_times_ten rows) parent).budget (length rows) (budget * 10)) (named_ten rows name)
-    ∙ ap (λ (row : PartitionRow). create_by (nat_le (length rows) parent) (is_some (partition_named rows name)) (nat_le 32 (length rows)) (nat_lt row.budget (budget * 10)) (nat_lt 64000000000 critical) (nat_lt (max * 10) (budget * 10) || nat_lt (parts * 10) (max * 10)) row.budget (length rows) (budget * 10)) (row_ten rows parent)
-    ∙ ap (λ t. create_by (nat_le (length rows) parent) (is_some (partition_named rows name)) (nat_le 32 (length rows)) t (nat_lt 64000000000 critical) (nat_lt (max * 10) (budget * 10) || nat_lt (parts * 10) (max * 10)) ((row_or_none rows parent).budget * 10) (length rows) (budget * 10)) (lt_ten (row_or_none rows parent).budget budget)
-    ∙ ap (λ t. create_by (nat_le (length rows) parent) (is_some (partition_named rows name)) (nat_le 32 (length rows)) (nat_lt (row_or_none rows parent).budget budget) (nat_lt 64000000000 critical) (t || nat_lt (parts * 10) (max * 10)) ((row_or_none rows parent).budget * 10) (length rows) (budget * 10)) (lt_ten max budget)
-    ∙ ap (λ t. create_by (nat_le (length rows) parent) (is_some (partition_named rows name)) (nat_le 32 (length rows)) (nat_lt (row_or_none rows parent).budget budget) (nat_lt 64000000000 critical) (nat_lt max budget || t) ((row_or_none rows parent).budget * 10) (length rows) (budget * 10)) (lt_ten parts max)
-    ∙ create_by_ten (nat_le (length rows) parent) (is_some (partition_named rows name)) (nat_le 32 (length rows)) (nat_lt (row_or_none rows parent).budget budget) (nat_lt 64000000000 critical) (nat_lt max budget || nat_lt parts max) (row_or_none rows parent).budget (length rows) budget
+    ap (λ n. create_by (nat_le n parent) (is_some (partition_named (map row_times_ten rows) name)) (nat_le most_partitions n) (nat_lt (row_or_none (map row_times_ten rows) parent).budget (budget * 10)) (nat_lt most_critical critical) (nat_lt (max * 10) (budget * 10) || nat_lt (parts * 10) (max * 10)) (row_or_none (map row_times_ten rows) parent).budget n (budget * 10)) (length-map rows row_times_ten)
+    ∙ ap (λ o. create_by (nat_le (length rows) parent) (is_some o) (nat_le most_partitions (length rows)) (nat_lt (row_or_none (map row_times_ten rows) parent).budget (budget * 10)) (nat_lt most_critical critical) (nat_lt (max * 10) (budget * 10) || nat_lt (parts * 10) (max * 10)) (row_or_none (map row_times_ten rows) parent).budget (length rows) (budget * 10)) (named_ten rows name)
+    ∙ ap (λ (row : PartitionRow). create_by (nat_le (length rows) parent) (is_some (partition_named rows name)) (nat_le most_partitions (length rows)) (nat_lt row.budget (budget * 10)) (nat_lt most_critical critical) (nat_lt (max * 10) (budget * 10) || nat_lt (parts * 10) (max * 10)) row.budget (length rows) (budget * 10)) (row_ten rows parent)
+    ∙ ap (λ t. create_by (nat_le (length rows) parent) (is_some (partition_named rows name)) (nat_le most_partitions (length rows)) t (nat_lt most_critical critical) (nat_lt (max * 10) (budget * 10) || nat_lt (parts * 10) (max * 10)) ((row_or_none rows parent).budget * 10) (length rows) (budget * 10)) (lt_ten (row_or_none rows parent).budget budget)
+    ∙ ap (λ t. create_by (nat_le (length rows) parent) (is_some (partition_named rows name)) (nat_le most_partitions (length rows)) (nat_lt (row_or_none rows parent).budget budget) (nat_lt most_critical critical) (t || nat_lt (parts * 10) (max * 10)) ((row_or_none rows parent).budget * 10) (length rows) (budget * 10)) (lt_ten max budget)
+    ∙ ap (λ t. create_by (nat_le (length rows) parent) (is_some (partition_named rows name)) (nat_le most_partitions (length rows)) (nat_lt (row_or_none rows parent).budget budget) (nat_lt most_critical critical) (nat_lt max budget || t) ((row_or_none rows parent).budget * 10) (length rows) (budget * 10)) (lt_ten parts max)
+    ∙ create_by_ten (nat_le (length rows) parent) (is_some (partition_named rows name)) (nat_le most_partitions (length rows)) (nat_lt (row_or_none rows parent).budget budget) (nat_lt most_critical critical) (nat_lt max budget || nat_lt parts max) (row_or_none rows parent).budget (length rows) budget
 
 -- ---- modify
 
@@ -148,7 +149,7 @@ modify_by_ten false false false false false false false have p least parent pare
 abbrev cause_by : ℕ → ℕ → ℕ → Option ℕ → Option ℕ → Option ℕ → PartitionRow → PartitionRow → PartitionRow → PartitionRow → Option TreeRefusal
 cause_by parts count p budget critical max row parent new new_parent =
     modify_by (nat_le count p) (is_some budget && nat_eq p 0) (nat_lt parent.budget (unwrap_or budget row.budget - row.budget))
-    (nat_lt 64000000000 (unwrap_or critical 0)) (is_over_max new) (is_over_max new_parent) (nat_lt parts (unwrap_or max 0))
+    (nat_lt most_critical (unwrap_or critical 0)) (is_over_max new) (is_over_max new_parent) (nat_lt parts (unwrap_or max 0))
     parent.budget p new.budget row.parent new_parent.budget
 
 over_ten : (row parent : PartitionRow) (budget : Option ℕ)
@@ -180,7 +181,7 @@ cause_by_ten parts count p budget critical max row parent new new_parent =
     over10 = nat_lt (times_ten parent.budget) (unwrap_or (option_map times_ten budget) (times_ten row.budget) - times_ten row.budget)
 
     short : Bool
-    short = nat_lt 64000000000 (unwrap_or critical 0)
+    short = nat_lt most_critical (unwrap_or critical 0)
 
     most10 : Bool
     most10 = nat_lt (times_ten parts) (unwrap_or (option_map times_ten max) 0)

@@ -1,5 +1,6 @@
 //! The upgraded scenario has the same runs.
 ghost use Rattle.std.specs.Prelude.{◌≡◌};
+ghost use Rattle.aps_model.specs.Limits.{percent, thousandths};
 ghost use Rattle.aps_model.specs.Scenario.{Scenario};
 ghost use Rattle.aps_model.specs.Upgrade.{upgraded};
 ghost use Rattle.aps_model.specs.Valid.{IsScenario};
@@ -15,8 +16,8 @@ pub fn upgraded_runs_are_the_same()
 /// a refusal tells of them, and the parts of a shape, which are ten times as many; and so are the rows and the shape. All
 /// else that a run leaves is equal. Where they are in parts per thousand already, the upgraded scenario is the same one.
 pub fn upgraded_states_are_times_ten()
-    ensures ten { (scenario : Scenario) → scenario.shape.parts ≡ 100 → LeavesTimesTen scenario (upgraded scenario) }
-    ensures same { (scenario : Scenario) → scenario.shape.parts ≡ 1000 → upgraded scenario ≡ scenario }
+    ensures ten { (scenario : Scenario) → scenario.shape.parts ≡ percent → LeavesTimesTen scenario (upgraded scenario) }
+    ensures same { (scenario : Scenario) → scenario.shape.parts ≡ thousandths → upgraded scenario ≡ scenario }
 {}
 
 /// Upgrading twice gives the scenario that upgrading once gives.

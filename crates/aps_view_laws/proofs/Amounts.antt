@@ -5,6 +5,7 @@ use Rattle.std.proofs.lemmas.Bool.{cases_eq, eqb-true}
 use Rattle.std.proofs.lemmas.Bool.Decides.{nat_tests}
 use Rattle.aps_model.specs.declared.shape.Shape.{Shape}
 use Rattle.aps_model.specs.Audit.{allowance}
+use Rattle.aps_model.specs.Limits.{microsecond, percent, thousandths}
 use Rattle.aps_model.specs.Shape.{IsShape, whole}
 use Rattle.aps_bound_laws.specs.Sums.{sum_below}
 
@@ -15,16 +16,16 @@ record IsMultiple (parts tick : ℕ) : Type 0 where
   is : tick ≡ times * parts
   some : 0 < parts
 
-thousands : (tick : ℕ) → tick % 1000 ≡ 0 → 1000 * (tick / 1000) ≡ tick
-thousands tick even = let cut = div-add-mod tick 1000 in omega (arith, cut, even)
+thousands : (tick : ℕ) → tick % microsecond ≡ 0 → microsecond * (tick / microsecond) ≡ tick
+thousands tick even = let cut = div-add-mod tick microsecond in omega (arith, cut, even)
 
-tick_parts : (parts tick : ℕ) → tick % 1000 ≡ 0 → (parts ≡ 100) ⊎ (parts ≡ 1000) → IsMultiple parts tick
+tick_parts : (parts tick : ℕ) → tick % microsecond ≡ 0 → (parts ≡ percent) ⊎ (parts ≡ thousandths) → IsMultiple parts tick
 tick_parts parts tick even (inl is) =
     let cut = thousands tick even in
-    record { times = tick / 1000 * 10; is = subst (λ n. tick ≡ tick / 1000 * 10 * n) (sym is) (omega (arith, cut)); some = omega (arith, is) }
+    record { times = tick / microsecond * 10; is = subst (λ n. tick ≡ tick / microsecond * 10 * n) (sym is) (omega (arith, cut)); some = omega (arith, is) }
 tick_parts parts tick even (inr is) =
     let cut = thousands tick even in
-    record { times = tick / 1000; is = subst (λ n. tick ≡ tick / 1000 * n) (sym is) (omega (arith, cut)); some = omega (arith, is) }
+    record { times = tick / microsecond; is = subst (λ n. tick ≡ tick / microsecond * n) (sym is) (omega (arith, cut)); some = omega (arith, is) }
 
 exact_of : (parts budget lanes tick times : ℕ) → 0 < parts → tick ≡ times * parts → parts * (budget * (lanes * tick) / parts) ≡ budget * (lanes * tick)
 exact_of parts budget lanes tick times some is =

@@ -5,6 +5,7 @@ use Rattle.aps_model.specs.declared.entry.Entry.{Entry}
 use Rattle.aps_model.specs.declared.entry.Order.{Order}
 use Rattle.aps_model.specs.After.{state_after}
 use Rattle.aps_model.specs.Legal.{IsLegal}
+use Rattle.aps_model.specs.Limits.{shortest_tick}
 use Rattle.aps_model.specs.Loaded.{finished_ticks}
 use Rattle.aps_model.specs.Scenario.{Scenario}
 use Rattle.aps_model.specs.Valid.{IsScenario}
@@ -50,5 +51,5 @@ always_worked scenario order h p a b r legal finished none = λ before later e s
       | inr pick ↦ had_work scenario before e t (parts_now t g) p pick had
     ]
   where
-    some_time : (tick : ℕ) → 100000 ≤ tick → 0 < tick
+    some_time : (tick : ℕ) → shortest_tick ≤ tick → 0 < tick
     some_time tick long = omega (arith, long)

@@ -7,6 +7,7 @@ use Rattle.std.proofs.lemmas.List.FromFn.{get_or-map-range_with_len}
 use Rattle.aps_model.specs.declared.entry.Entry.{Entry}
 use Rattle.aps_model.specs.declared.entry.Order.{Order}
 use Rattle.aps_model.specs.Legal.{IsLegal}
+use Rattle.aps_model.specs.Limits.{most_partitions}
 use Rattle.aps_model.specs.Loaded.{finished_ticks}
 use Rattle.aps_model.specs.Scenario.{Scenario}
 use Rattle.aps_model.specs.Valid.{IsScenario}
@@ -40,11 +41,11 @@ fold_kept P f a (suc n) x start each =
 
 -- ---- the numbers of a sample
 
-pub at_each : (f : ℕ → ℕ) (p : ℕ) → p < 32 → slice_index (of_each f) p ≡ f p
-at_each f p less = get_or-map-range_with_len f 0 32 p p 0 less (omega arith)
+pub at_each : (f : ℕ → ℕ) (p : ℕ) → p < most_partitions → slice_index (of_each f) p ≡ f p
+at_each f p less = get_or-map-range_with_len f 0 most_partitions p p 0 less (omega arith)
 
-pub so_each : (f : ℕ → Bool) (p : ℕ) → p < 32 → slice_index_or (of_each f) p false ≡ f p
-so_each f p less = get_or-map-range_with_len f 0 32 p p false less (omega arith)
+pub so_each : (f : ℕ → Bool) (p : ℕ) → p < most_partitions → slice_index_or (of_each f) p false ≡ f p
+so_each f p less = get_or-map-range_with_len f 0 most_partitions p p false less (omega arith)
 
 same_rest : (a a' b b' c c' d d' n : ℕ) → a ≡ a' → b ≡ b' → c ≡ c' → d ≡ d' → a' - b' - c' - d' < n → a - b - c - d < n
 same_rest a a' b b' c c' d d' n one two three four less = omega (arith, one, two, three, four, less)
@@ -60,7 +61,7 @@ same_most x y same = omega (arith, same)
 abbrev pub IsSmall : ℕ → Share → Type 0
 IsSmall time share = IfSome share.beyond (λ (amount : Amount). amount.ns < time) × IfSome share.short (λ (short : Shortfall). short.ns ≤ short.others)
 
-module _ (scenario : Scenario) (order : Order) (h : List Entry) (r : IsScenario scenario) (legal : IsLegal scenario order h) (p : ℕ) (exists : p < 32) where
+module _ (scenario : Scenario) (order : Order) (h : List Entry) (r : IsScenario scenario) (legal : IsLegal scenario order h) (p : ℕ) (exists : p < most_partitions) where
   abbrev turn : ℕ
   turn = tick_of_all scenario.shape
 
@@ -77,7 +78,7 @@ module _ (scenario : Scenario) (order : Order) (h : List Entry) (r : IsScenario 
         (beyond_small scenario order h r legal j finished calm p)
 
     -- what the others may take, by the numbers of the sample
-    taken_told : (calm : sample.unchanged ≡ true) (q : ℕ) → q < 32 → taken scenario order h r legal j finished calm p q ≤ taken_by turn p sample q
+    taken_told : (calm : sample.unchanged ≡ true) (q : ℕ) → q < most_partitions → taken scenario order h r legal j finished calm p q ≤ taken_by turn p sample q
     taken_told calm q less =
         let by : ℕ → ℕ → ℕ = λ allowed critical. cond (nat_eq q p) 0 (cond (nat_eq allowed 0) critical (critical + turn)) in
         same_most (taken scenario order h r legal j finished calm p q) (taken_by turn p sample q)

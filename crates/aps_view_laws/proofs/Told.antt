@@ -13,6 +13,7 @@ use Rattle.aps_model.specs.After.{state_after}
 use Rattle.aps_model.specs.Audit.{allowance}
 use Rattle.aps_model.specs.Bound.{others_slack, slack}
 use Rattle.aps_model.specs.Legal.{IsLegal}
+use Rattle.aps_model.specs.Limits.{most_partitions}
 use Rattle.aps_model.specs.Loaded.{finished_ticks, has_change, state_of_tick}
 use Rattle.aps_model.specs.Partition.{no_row, row_or_none}
 use Rattle.aps_model.specs.Scenario.{Scenario}
@@ -147,21 +148,21 @@ module _ (scenario : Scenario) (order : Order) (h : List Entry) (r : IsScenario 
         taken_most (nat_eq q p) s.shape.parts (whole s.shape) (budget q) (allowance_at scenario h j q) (critical_used s.shape.tick h q a (a + s.shape.window)) (critical_at scenario h j q)
         (s.shape.cpus * s.shape.tick) (scenario.shape.cpus * scenario.shape.tick) positive (whole_some s.shape in_order.shape) (exact q) (critical_is q) time
 
-    others_most : (others : ℕ → ℕ) → ((q : ℕ) → q < 32 → taken q ≤ others q) → others_slack s.shape s.rows h a p ≤ sum_by others (range_with_len 0 32)
+    others_most : (others : ℕ → ℕ) → ((q : ℕ) → q < most_partitions → taken q ≤ others q) → others_slack s.shape s.rows h a p ≤ sum_by others (range_with_len 0 most_partitions)
     others_most others each =
         let n : ℕ = length s.rows in
         let few = in_order.named.few in
         let f : ℕ → ℕ = λ q. if nat_eq q p then 0 else slack s.shape s.rows h a q in
         let parts = each_below n f others (λ q. 0) (λ q less. let one = slack_most q in let two = each q (omega (arith, less, few)) in omega (arith, one, two)) in
-        omega (arith, parts, sum_below_zero n (λ q. 0) (λ q. refl), sum_wider n 32 others few, sum_range n f, sum_range 32 others)
+        omega (arith, parts, sum_below_zero n (λ q. 0) (λ q. refl), sum_wider n most_partitions others few, sum_range n f, sum_range most_partitions others)
 
-    module _ (asked : (is_full scenario h j && has_work scenario h j p) ≡ true) (never : had_share scenario h j p ≡ false) (others : ℕ → ℕ) (each : (q : ℕ) → q < 32 → taken q ≤ others q) where
+    module _ (asked : (is_full scenario h j && has_work scenario h j p) ≡ true) (never : had_share scenario h j p ≡ false) (others : ℕ → ℕ) (each : (q : ℕ) → q < most_partitions → taken q ≤ others q) where
       works : WorksInBudget scenario h p a (a + s.shape.window)
       works =
           subst (WorksInBudget scenario h p a) (sym end)
           (always_worked scenario order h p a (j + 1) r legal (omega (arith, finished)) (not-true _ (and_parts (is_full scenario h j) (has_work scenario h j p) asked).1))
 
-      within_others : p < length s.rows → allowance_at scenario h j p - used_at scenario h j p ≤ sum_by others (range_with_len 0 32)
+      within_others : p < length s.rows → allowance_at scenario h j p - used_at scenario h j p ≤ sum_by others (range_with_len 0 most_partitions)
       within_others inside =
           let finished' : a + s.shape.window ≤ finished_ticks scenario.shape h = omega (arith, end, finished) in
           let none' : has_change (state_after scenario h).changes a (a + s.shape.window) ≡ false = subst (λ b. has_change (state_after scenario h).changes a b ≡ false) (sym end) none in
@@ -179,7 +180,7 @@ module _ (scenario : Scenario) (order : Order) (h : List Entry) (r : IsScenario 
           ]
 
       -- where it always had a candidate, and was always in budget, it fell short by at most what the others may take
-      pub short_small : allowance_at scenario h j p - used_at scenario h j p ≤ sum_by others (range_with_len 0 32)
+      pub short_small : allowance_at scenario h j p - used_at scenario h j p ≤ sum_by others (range_with_len 0 most_partitions)
       short_small = elim (cases_lt p (length s.rows)) [
         | inl inside ↦ within_others inside
         | inr past ↦

@@ -13,7 +13,8 @@ use Rattle.aps_shares.specs.Spent.{excess_in, state_tested}
 -- the state in which the step of processor c tests, after these entries: its tick's work is done, and its time is billed
 abbrev pub state_billed : Scenario → List Entry → ℕ → SchedulerState
 state_billed scenario h c =
-    billed (after_tick scenario (state_after scenario h) h c) (bill_in (state_after scenario h) h c) (cpu_at (state_after scenario h) c).running
+    billed (after_tick scenario (state_after scenario h) h c) (bill_in (state_after scenario h) h c)
+    (cpu_at (state_after scenario h) c).running
 
 -- the partition that this test finds bankrupt
 abbrev pub bankrupt_in : Scenario → List Entry → ℕ → Option ℕ

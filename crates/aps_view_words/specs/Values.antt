@@ -1,7 +1,7 @@
 -- What the values of the options say.
 use Rattle.std.specs.Prelude.{ℕ, ◌≤◌, ◌<◌, ◌&&◌, length, nat_le, nat_lt, Bool, Option, Some, None, IfSome, if◌then◌else◌, option_map}
 use Rattle.std.specs.List.{list_all}
-use Rattle.aps_model.specs.Limits.{most_ticks}
+use Rattle.aps_model.specs.Limits.{longest_name, most_ticks}
 use Rattle.aps_model.specs.Name.{is_name_byte}
 use Rattle.aps_words.specs.Command.{◌>>=◌}
 use Rattle.aps_words.specs.Number.{number_in}
@@ -11,12 +11,12 @@ use Rattle.aps_view_words.specs.declared.asked.Ticks.{Ticks}
 -- the first tick: the value, or 0
 abbrev pub from_of : Option Text → Option ℕ
 from_of None = Some 0
-from_of (Some value) = number_in 0 1000000 value
+from_of (Some value) = number_in 0 most_ticks value
 
 -- the tick before which they end: the value, or none
 abbrev pub to_of : Option Text → Option (Option ℕ)
 to_of None = Some None
-to_of (Some value) = option_map (λ to. Some to) (number_in 0 1000000 value)
+to_of (Some value) = option_map (λ to. Some to) (number_in 0 most_ticks value)
 
 -- the ticks from one to another, which is later
 abbrev pub between : ℕ → Option ℕ → Option Ticks
@@ -36,7 +36,7 @@ pub record AreTicks (ticks : Ticks) : Type 0 where
 
 -- the text is 1 to 15 letters, digits, '_' and '-'
 abbrev pub is_name : Text → Bool
-is_name text = (nat_le 1 (length text) && nat_le (length text) 15) && list_all is_name_byte text
+is_name text = (nat_le 1 (length text) && nat_le (length text) longest_name) && list_all is_name_byte text
 
 -- the name that the text is, if it is one
 abbrev pub name_in : Text → Option Text

@@ -5,6 +5,7 @@ use Rattle.aps_model.specs.declared.entry.End.TheVariants.{Limit}
 use Rattle.aps_model.specs.declared.shape.Shape.{Shape}
 use Rattle.aps_model.specs.After.{After, or_limit}
 use Rattle.aps_model.specs.Legal.{IsLegal}
+use Rattle.aps_model.specs.Limits.{longest_window}
 use Rattle.aps_model.specs.Scenario.{Scenario}
 use Rattle.aps_model.specs.Usage.{critical_used, used, window_critical, window_used}
 use Rattle.aps_model.specs.Valid.{IsScenario}
@@ -38,7 +39,7 @@ at_begin core start usages window is valid begins new wide =
     let scenario = start.setup.scenario in
     let At : Run → Usages → Type 0 = λ r u. IsAt (record { core = r; moment = 0; usages = u }) in
     let none : Run = record { setup = start.setup; entries = [] } in
-    let short : window ≤ 400 = let s = valid.shape.window_short in omega (arith, s, wide) in
+    let short : window ≤ longest_window = let s = valid.shape.window_short in omega (arith, s, wide) in
     let counts : Counts (shape_with scenario window) [] 0 (opened window) = counts_none (shape_with scenario window) short in
     let at_none : At none (record { window = opened window; span = window }) = record {
       valid = valid;
@@ -60,7 +61,7 @@ gone_on scenario h j usages after counted forward is =
 
 -- where as many ticks count as the shape says
 pub fitted : (run : Run) (usages after : Usages) (window : ℕ) → IsScenario run.setup.scenario → IsLegal run.setup.scenario run.setup.order run.entries → IsCounted run.setup.scenario run.entries usages
-    → window ≡ (state_of run).shape.window → window ≤ 400 → after ≡ record { window = resized window usages.window; span = window } → IsUpTo run after
+    → window ≡ (state_of run).shape.window → window ≤ longest_window → after ≡ record { window = resized window usages.window; span = window } → IsUpTo run after
 fitted run usages after window valid legal counted wide short is =
     let scenario = run.setup.scenario in
     let sizes = (sound scenario run.setup.order valid run.entries legal).grounded.sizes in

@@ -50,7 +50,8 @@ signal_value threads rows (signal, value) = value_line threads rows signal value
 
 abbrev pub all_text : List ThreadRow → List PartitionRow → ℕ → List Value → List ℕ
 all_text threads rows moment values =
-    (codes "#" ++ (decimal moment ++ codes "\n$dumpvars\n")) ++ (flat_map (signal_value threads rows) (enumerate_from 0 values) ++ codes "$end\n")
+    (codes "#" ++ (decimal moment ++ codes "\n$dumpvars\n"))
+    ++ (flat_map (signal_value threads rows) (enumerate_from 0 values) ++ codes "$end\n")
 
 -- ---- a later one
 

@@ -29,7 +29,8 @@ cpu_values s c = pick_values (cpu_at s c).running
 -- is in budget, and whether its critical budget stands
 abbrev pub row_values : Shape → PartitionRow → ℕ → ℕ → List Value
 row_values shape row used critical =
-    Number used ∷ Number (row.budget * whole shape / shape.parts) ∷ Number critical ∷ Bit (in_budget shape used row.budget) ∷ Bit (nat_lt critical row.critical) ∷ []
+    Number used ∷ Number (row.budget * whole shape / shape.parts) ∷ Number critical ∷ Bit (in_budget shape used row.budget)
+    ∷ Bit (nat_lt critical row.critical) ∷ []
 
 -- where there is no such partition
 abbrev pub no_values : List Value
@@ -38,7 +39,8 @@ no_values = Number 0 ∷ Number 0 ∷ Number 0 ∷ Bit false ∷ Bit false ∷ [
 -- partition p in the window at tick j
 abbrev pub part_values : SchedulerState → List Entry → ℕ → ℕ → List Value
 part_values s h j p =
-    if nat_lt p (length s.rows) then row_values s.shape (row_or_none s.rows p) (window_used s.shape h j p) (window_critical s.shape h j p) else no_values
+    if nat_lt p (length s.rows) then row_values s.shape (row_or_none s.rows p) (window_used s.shape h j p) (window_critical s.shape h j p)
+    else no_values
 
 -- partition p after the entries of a run, and what these told of it
 abbrev pub partition_values : Run → Told → ℕ → List Value

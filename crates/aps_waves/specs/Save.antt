@@ -22,14 +22,16 @@ abbrev pub no_marker : ℕ → List ℕ
 no_marker i = codes " -1"
 
 abbrev pub zoom_text : ℕ → List ℕ
-zoom_text end = (codes "*-" ++ (decimal (zoom_of end) ++ codes ".000000 0")) ++ (flat_map no_marker (range_with_len 0 markers) ++ codes "\n")
+zoom_text end =
+    (codes "*-" ++ (decimal (zoom_of end) ++ codes ".000000 0")) ++ (flat_map no_marker (range_with_len 0 markers) ++ codes "\n")
 
 -- a processor under its heading
 abbrev pub cpu_group : ℕ → List ℕ
 cpu_group c =
     (codes "@200\n-cpu " ++ (decimal c ++ codes "\n"))
     ++ ((codes "@2000\napsim.cpus.cpu" ++ (decimal c ++ codes ".thread\n"))
-    ++ ((codes "@2000\napsim.cpus.cpu" ++ (decimal c ++ codes ".billed\n")) ++ (codes "@28\napsim.cpus.cpu" ++ (decimal c ++ codes ".critical\n"))))
+    ++ ((codes "@2000\napsim.cpus.cpu" ++ (decimal c ++ codes ".billed\n"))
+    ++ (codes "@28\napsim.cpus.cpu" ++ (decimal c ++ codes ".critical\n"))))
 
 abbrev pub bit_entry : List ℕ → List ℕ → List ℕ
 bit_entry name signal = codes "@28\napsim.partitions." ++ (name ++ (codes "." ++ (signal ++ codes "\n")))

@@ -41,7 +41,8 @@ word_signal signal name = signal_line signal (codes "string 1") name
 -- ---- processors
 
 abbrev pub cpu_signals : ℕ → List ℕ
-cpu_signals first = word_signal first (codes "thread") ++ (word_signal (first + 1) (codes "billed") ++ bit_signal (first + 2) (codes "critical"))
+cpu_signals first =
+    word_signal first (codes "thread") ++ (word_signal (first + 1) (codes "billed") ++ bit_signal (first + 2) (codes "critical"))
 
 abbrev pub cpu_scope : ℕ → List ℕ
 cpu_scope c = (codes "$scope module cpu" ++ (decimal c ++ codes " $end\n")) ++ (cpu_signals (signals_of_cpu * c) ++ end_line)
@@ -58,7 +59,8 @@ amount_signals first =
 abbrev pub bit_signals : ℕ → List ℕ
 bit_signals first =
     bit_signal first (codes "in_budget")
-    ++ (bit_signal (first + 1) (codes "standing") ++ (bit_signal (first + 2) (codes "demand") ++ bit_signal (first + 3) (codes "overspent")))
+    ++ (bit_signal (first + 1) (codes "standing")
+    ++ (bit_signal (first + 2) (codes "demand") ++ bit_signal (first + 3) (codes "overspent")))
 
 abbrev pub partition_scope : ℕ → List ℕ → List ℕ
 partition_scope first name = module_line name ++ (amount_signals first ++ (bit_signals (first + 3) ++ end_line))

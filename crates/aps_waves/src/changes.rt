@@ -18,7 +18,8 @@ pub fn add_moment(
     before: &[Value],
     now: &[Value],
 ) -> Result<(), NoMemory>
-    ensures { OnOk result (string_bytes out.new ≡ string_bytes out.old ++ spec.text_at threads.now rows.now moment is_last before.now now.now) }
+    ensures { OnOk result (string_bytes out.new ≡ string_bytes out.old
+        ++ spec.text_at threads.now rows.now moment is_last before.now now.now) }
 {
     if before.is_empty() {
         return add_all(out, threads, rows, moment, now);

@@ -165,7 +165,8 @@ fn add_threads(out: &mut String, first: usize, threads: &[ThreadRow]) -> Result<
 fn add_each_thread(out: &mut String, first: usize, threads: &[ThreadRow]) -> Result<(), NoMemory>
     requires first { first + most_threads ≤ spec.most_signals }
     requires threads { length threads.now ≤ most_threads }
-    ensures { OnOk result (string_bytes out.new ≡ string_bytes out.old ++ flat_map (spec.thread_signal first) (enumerate_from 0 threads.now)) }
+    ensures { OnOk result (string_bytes out.new ≡ string_bytes out.old
+        ++ flat_map (spec.thread_signal first) (enumerate_from 0 threads.now)) }
 {
     for (x, row) in threads.iter().enumerate() {
         add_signal(out, first + x, "string 1", text_of(&row.name))?;

@@ -8,7 +8,7 @@ ghost use Rattle.aps_window.specs.Window.{advanced, opened, resized};
 ghost use Rattle.aps_core.specs.Run.{state_of};
 ghost use Rattle.aps_shares.specs.CriticalTime.{GoesOnBy, HasRoom};
 ghost use Rattle.aps_waves.specs.Usages.{IsCounted, IsUpTo};
-ghost use Rattle.aps_model.specs.Limits.{longest_window, most_critical};
+ghost use Rattle.aps_model.specs.Limits.{last_tick, longest_window, most_critical, shortest_window};
 
 use aps_core::Core;
 use aps_model::{Entry, Nanos, NoMemory, PartitionId};
@@ -25,7 +25,7 @@ pub struct Usages {
 impl Usages {
     /// Nothing billed; the last `span` ticks count, 8 to 400. `NoMemory` comes where memory runs out.
     pub fn new(alloc: Global, span: u16) -> Result<Usages, NoMemory>
-        requires least { 8 ≤ span }
+        requires least { shortest_window ≤ span }
         requires most { span ≤ longest_window }
         ensures { IfOk result (λ usages. usages ≡ record { window = opened span; span = span }) }
     {
@@ -77,7 +77,7 @@ impl Usages {
 /// The window counts `span` ticks, 8 to 400. It counted `before` of them.
 fn fit(window: &mut Window, before: u16, span: u16)
     requires before { window.old.span ≡ before }
-    requires least { 8 ≤ span }
+    requires least { shortest_window ≤ span }
     requires most { span ≤ longest_window }
     ensures { window.new ≡ resized span window.old }
 {
@@ -89,7 +89,7 @@ fn fit(window: &mut Window, before: u16, span: u16)
 /// The window goes on to this tick.
 fn go_on(window: &mut Window, tick: u32)
     requires forward { window.old.tick ≤ tick }
-    requires few { tick ≤ 100000000 }
+    requires few { tick ≤ last_tick }
     ensures { window.new ≡ advanced (tick - window.old.tick) window.old }
 {
     let ticks = tick - window.tick();

@@ -4,6 +4,7 @@ use Rattle.std.specs.List.{All}
 use Rattle.std.proofs.lemmas.List.{get_or-map, length-map, length-replicate, map-set}
 use Rattle.std.proofs.lemmas.List.Elements.{All-drop, All-get_or, All-map, All-replicate, All-set, All-weaker}
 use Rattle.std.proofs.lemmas.Simd.{map-map}
+use Rattle.aps_model.specs.Limits.{last_partition, last_tick, longest_window, most_partitions, most_time_of_tick, shortest_window}
 use Rattle.aps_window.specs.declared.slot.Slot.{Slot}
 use Rattle.aps_window.specs.declared.account.Account.{Account}
 use Rattle.aps_window.specs.declared.window.Window.TheInside.{Inside}
@@ -24,30 +25,30 @@ whole_of inside window keeps view =
     let accounts = inside.accounts.items in
     let whole : IsWhole (window_of inside) = record {
       count = length-map accounts slots_in ∙ keeps.count;
-      full = All-map (λ (slots : List Slot). length slots ≡ 400) slots_in accounts
+      full = All-map (λ (slots : List Slot). length slots ≡ longest_window) slots_in accounts
           (All-weaker (IsAccount inside.span) (λ (a : Account). length (slots_in a)
-          ≡ 400) (λ a h. h.full) accounts keeps.accounts);
+          ≡ longest_window) (λ a h. h.full) accounts keeps.accounts);
     } in
     subst IsWhole view whole
 
-pub span_of : (inside : Inside) (window : Window) → Keeps inside → window_of inside ≡ window → window.span ≤ 400
-span_of inside window keeps view = subst (λ (w : Window). w.span ≤ 400) view keeps.most
+pub span_of : (inside : Inside) (window : Window) → Keeps inside → window_of inside ≡ window → window.span ≤ longest_window
+span_of inside window keeps view = subst (λ (w : Window). w.span ≤ longest_window) view keeps.most
 
 -- the account of partition q
-pub account_at : (inside : Inside) (q : ℕ) (account : Account) → Keeps inside → q ≤ 31
+pub account_at : (inside : Inside) (q : ℕ) (account : Account) → Keeps inside → q ≤ last_partition
     → account ≡ get_or inside.accounts.items q account → IsAccount inside.span account
 account_at inside q account keeps few e =
     subst (IsAccount inside.span) (sym e)
     (All-get_or (IsAccount inside.span) inside.accounts.items q account (omega (arith, keeps.count)) keeps.accounts)
 
-slots_at : (inside : Inside) (q : ℕ) (account : Account) → Keeps inside → q ≤ 31
+slots_at : (inside : Inside) (q : ℕ) (account : Account) → Keeps inside → q ≤ last_partition
     → account ≡ get_or inside.accounts.items q account → slots_of (window_of inside) q ≡ account.ring.items
 slots_at inside q account keeps few e =
     get_or-map slots_in inside.accounts.items q account [] (omega (arith, keeps.count)) ∙ ap slots_in (sym e)
 
 -- what the account of a partition answers
 pub total_at : (inside : Inside) (window : Window) (p q : ℕ) (account : Account) → Keeps inside
-    → window_of inside ≡ window → q ≡ p → q ≤ 31
+    → window_of inside ≡ window → q ≡ p → q ≤ last_partition
     → account ≡ get_or inside.accounts.items q account → account.total ≡ total_of window p
 total_at inside window p q account keeps view same few e =
     account_total inside.span account (account_at inside q account keeps few e)
@@ -55,7 +56,7 @@ total_at inside window p q account keeps view same few e =
     ∙ (λ i. total_of (view i) (same i))
 
 pub used_stands : (inside : Inside) (window : Window) (p q : ℕ) (account : Account) (bills : List Bill)
-    → Keeps inside → window_of inside ≡ window → q ≡ p → q ≤ 31 → account ≡ get_or inside.accounts.items q account
+    → Keeps inside → window_of inside ≡ window → q ≡ p → q ≤ last_partition → account ≡ get_or inside.accounts.items q account
     → StandsFor window bills
     → account.total.billed ≡ bills_used bills p (window.tick + 1 - window.span) (window.tick + 1)
 used_stands inside window p q account bills keeps view same few e stands =
@@ -64,7 +65,7 @@ used_stands inside window p q account bills keeps view same few e stands =
     (span_of inside window keeps view) stands).0
 
 pub critical_stands : (inside : Inside) (window : Window) (p q : ℕ) (account : Account) (bills : List Bill)
-    → Keeps inside → window_of inside ≡ window → q ≡ p → q ≤ 31 → account ≡ get_or inside.accounts.items q account
+    → Keeps inside → window_of inside ≡ window → q ≡ p → q ≤ last_partition → account ≡ get_or inside.accounts.items q account
     → StandsFor window bills
     → account.total.critical ≡ bills_critical bills p (window.tick + 1 - window.span) (window.tick + 1)
 critical_stands inside window p q account bills keeps view same few e stands =
@@ -74,9 +75,9 @@ critical_stands inside window p q account bills keeps view same few e stands =
 
 -- a bill
 pub fits_at : (inside : Inside) (window : Window) (p q tick ns : ℕ) (account : Account) → Keeps inside
-    → window_of inside ≡ window → q ≡ p → q ≤ 31
-    → account ≡ get_or inside.accounts.items q account → billed_on window p tick + ns ≤ 160000000
-    → (slot_at account.ring.items (inside.tick - tick)).billed + ns ≤ 160000000
+    → window_of inside ≡ window → q ≡ p → q ≤ last_partition
+    → account ≡ get_or inside.accounts.items q account → billed_on window p tick + ns ≤ most_time_of_tick
+    → (slot_at account.ring.items (inside.tick - tick)).billed + ns ≤ most_time_of_tick
 fits_at inside window p q tick ns account keeps view same few e fits =
     let there : billed_on window p tick ≡ (slot_at account.ring.items (inside.tick - tick)).billed =
     (λ i. billed_on (sym view i) (sym same i) tick)
@@ -85,16 +86,16 @@ fits_at inside window p q tick ns account keeps view same few e fits =
     omega (arith, there, fits)
 
 pub billed_keeps : (inside after : Inside) (q age ns : ℕ) (critical : Bool) (account next : Account) → Keeps inside
-    → q ≤ 31
-    → account ≡ get_or inside.accounts.items q account → age < 400
-    → (slot_at account.ring.items age).billed + ns ≤ 160000000
+    → q ≤ last_partition
+    → account ≡ get_or inside.accounts.items q account → age < longest_window
+    → (slot_at account.ring.items age).billed + ns ≤ most_time_of_tick
     → next ≡ account_of inside.span (slots_billed account.ring.items age ns critical)
     → after.tick ≡ inside.tick → after.span ≡ inside.span → after.in_use ≡ max inside.in_use (q + 1)
     → after.accounts.items ≡ set inside.accounts.items q next → Keeps after
 billed_keeps inside after q age ns critical account next keeps few e kept fits is tick span used accounts =
     let was = account_at inside q account keeps few e in
     let slots = slots_billed account.ring.items age ns critical in
-    let full : length slots ≡ 400 = length-set account.ring.items age _ ∙ was.full in
+    let full : length slots ≡ longest_window = length-set account.ring.items age _ ∙ was.full in
     let stays : IsAccount inside.span next = subst (IsAccount inside.span) (sym is)
     (is_account inside.span slots full (billed_are_slots account.ring.items age ns critical was.small (omega (
       arith,
@@ -115,7 +116,7 @@ billed_keeps inside after q age ns critical account next keeps few e kept fits i
 
 pub billed_view : (inside after : Inside) (window : Window) (p q tick ns : ℕ) (critical : Bool)
     (account next : Account) → Keeps inside
-    → window_of inside ≡ window → q ≡ p → q ≤ 31 → account ≡ get_or inside.accounts.items q account
+    → window_of inside ≡ window → q ≡ p → q ≤ last_partition → account ≡ get_or inside.accounts.items q account
     → next ≡ account_of inside.span (slots_billed account.ring.items (inside.tick - tick) ns critical)
     → after.tick ≡ inside.tick → after.span ≡ inside.span → after.accounts.items ≡ set inside.accounts.items q next
     → window_of after ≡ billed window p tick ns critical
@@ -130,7 +131,7 @@ billed_view inside after window p q tick ns critical account next keeps view sam
     (λ i. record { tick = at i; span = span i; slots = slots i }) ∙ (λ i. billed (view i) (same i) tick ns critical)
 
 -- all accounts move or count anew
-same_keeps : (inside after : Inside) → Keeps inside → after.tick ≤ 100000000 → 8 ≤ after.span → after.span ≤ 400
+same_keeps : (inside after : Inside) → Keeps inside → after.tick ≤ last_tick → shortest_window ≤ after.span → after.span ≤ longest_window
     → after.in_use ≡ inside.in_use → (f : Account → Account) → f no_account ≡ no_account
     → after.accounts.items ≡ map f inside.accounts.items
     → ((a : Account) → IsAccount inside.span a → IsAccount after.span (f a)) → Keeps after
@@ -148,7 +149,7 @@ same_keeps inside after keeps tick least most used f empty accounts stays = reco
       (unused_kept f inside.accounts.items after.accounts.items inside.in_use empty accounts keeps.rest);
 }
 
-pub moved_keeps : (inside after : Inside) (ticks moves : ℕ) → Keeps inside → inside.tick + ticks ≤ 100000000
+pub moved_keeps : (inside after : Inside) (ticks moves : ℕ) → Keeps inside → inside.tick + ticks ≤ last_tick
     → after.tick ≡ inside.tick + ticks → after.span ≡ inside.span → after.in_use ≡ inside.in_use
     → after.accounts.items ≡ map (account_moved moves inside.span) inside.accounts.items → Keeps after
 moved_keeps inside after ticks moves keeps early tick span used accounts =
@@ -163,7 +164,7 @@ moved_keeps inside after ticks moves keeps early tick span used accounts =
     ∙ is.full) (moved_are_slots moves a.ring.items is.small)))
 
 pub moved_view : (inside after : Inside) (window : Window) (ticks moves : ℕ) → Keeps inside
-    → window_of inside ≡ window → moves ≡ min ticks 400
+    → window_of inside ≡ window → moves ≡ min ticks longest_window
     → after.tick ≡ inside.tick + ticks → after.span ≡ inside.span
     → after.accounts.items ≡ map (account_moved moves inside.span) inside.accounts.items
     → window_of after ≡ advanced ticks window
@@ -179,7 +180,7 @@ moved_view inside after window ticks moves keeps view least tick span accounts =
     ∙ sym (advanced_is ticks (window_of inside))
     ∙ ap (advanced ticks) view
 
-pub resized_keeps : (inside after : Inside) (span : ℕ) → Keeps inside → 8 ≤ span → span ≤ 400
+pub resized_keeps : (inside after : Inside) (span : ℕ) → Keeps inside → shortest_window ≤ span → span ≤ longest_window
     → after.tick ≡ inside.tick → after.span ≡ span → after.in_use ≡ inside.in_use
     → after.accounts.items ≡ map (account_resized span) inside.accounts.items → Keeps after
 resized_keeps inside after span keeps least most tick same used accounts =
@@ -201,8 +202,8 @@ resized_view inside after window span view tick same accounts =
     (λ i. record { tick = tick i; span = same i; slots = slots i }) ∙ ap (resized span) view
 
 -- at the start
-pub opened_keeps : (after : Inside) (n : ℕ) → after.tick ≡ 0 → 8 ≤ after.span → after.span ≤ 400 → after.in_use ≡ 0
-    → n ≡ 32 → after.accounts.items ≡ replicate n no_account → Keeps after
+pub opened_keeps : (after : Inside) (n : ℕ) → after.tick ≡ 0 → shortest_window ≤ after.span → after.span ≤ longest_window → after.in_use ≡ 0
+    → n ≡ most_partitions → after.accounts.items ≡ replicate n no_account → Keeps after
 opened_keeps after n tick least most used count accounts = record {
   count = ap (λ (l : List Account). length l) accounts ∙ length-replicate n no_account ∙ count;
   least = least;
@@ -219,9 +220,9 @@ map_first : (n : ℕ) → map slots_in (replicate n no_account) ≡ replicate n 
 map_first zero = refl
 map_first (suc n) = ap (λ (rest : List (List Slot)). no_slots ∷ rest) (map_first n)
 
-pub opened_view : (after : Inside) (span n : ℕ) → after.tick ≡ 0 → after.span ≡ span → n ≡ 32
+pub opened_view : (after : Inside) (span n : ℕ) → after.tick ≡ 0 → after.span ≡ span → n ≡ most_partitions
     → after.accounts.items ≡ replicate n no_account → window_of after ≡ opened span
 opened_view after span n tick same count accounts =
-    let slots : map slots_in after.accounts.items ≡ replicate 32 no_slots =
+    let slots : map slots_in after.accounts.items ≡ replicate most_partitions no_slots =
     ap (map slots_in) accounts ∙ map_first n ∙ ap (λ (m : ℕ). replicate m no_slots) count in
     λ i. record { tick = tick i; span = same i; slots = slots i }

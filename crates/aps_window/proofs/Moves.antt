@@ -6,6 +6,7 @@ use Rattle.std.proofs.lemmas.Bool.{cases_order}
 use Rattle.std.proofs.lemmas.List.{length-replicate, take-append-le, take-replicate, take-take}
 use Rattle.std.proofs.lemmas.List.Elements.{All-head, All-tail}
 use Rattle.std.proofs.lemmas.Simd.{map-map}
+use Rattle.aps_model.specs.Limits.{longest_window}
 use Rattle.aps_window.specs.declared.slot.Slot.{Slot}
 use Rattle.aps_window.specs.Slots.{no_slot, slots_moved, slots_rotated}
 use Rattle.aps_window.specs.Window.{Window, advanced}
@@ -35,26 +36,26 @@ moved_past ticks slots far =
     ∙ take-append-le (length slots) (replicate ticks no_slot) slots short
     ∙ take-replicate (length slots) ticks no_slot far
 
-pub moved_min : (ticks : ℕ) (slots : List Slot) → length slots ≡ 400
-    → slots_moved (min ticks 400) slots ≡ slots_moved ticks slots
-moved_min ticks slots full = elim (cases_order ticks 400) [
-  | inl same ↦ let least : min ticks 400 ≡ ticks = omega arith in ap (λ (n : ℕ). slots_moved n slots) least
+pub moved_min : (ticks : ℕ) (slots : List Slot) → length slots ≡ longest_window
+    → slots_moved (min ticks longest_window) slots ≡ slots_moved ticks slots
+moved_min ticks slots full = elim (cases_order ticks longest_window) [
+  | inl same ↦ let least : min ticks longest_window ≡ ticks = omega arith in ap (λ (n : ℕ). slots_moved n slots) least
   | inr other ↦ elim other [
-    | inl less ↦ let least : min ticks 400 ≡ ticks = omega arith in ap (λ (n : ℕ). slots_moved n slots) least
+    | inl less ↦ let least : min ticks longest_window ≡ ticks = omega arith in ap (λ (n : ℕ). slots_moved n slots) least
     | inr more ↦
-        let least : min ticks 400 ≡ 400 = omega arith in
+        let least : min ticks longest_window ≡ longest_window = omega arith in
         ap (λ (n : ℕ). slots_moved n slots) least
-        ∙ moved_past 400 slots (omega arith)
+        ∙ moved_past longest_window slots (omega arith)
         ∙ sym (moved_past ticks slots (omega arith))
   ]
 ]
 
-pub map_moved_min : (ticks : ℕ) (all : List (List Slot)) → All (λ (slots : List Slot). length slots ≡ 400) all
-    → map (slots_moved (min ticks 400)) all ≡ map (slots_moved ticks) all
+pub map_moved_min : (ticks : ℕ) (all : List (List Slot)) → All (λ (slots : List Slot). length slots ≡ longest_window) all
+    → map (slots_moved (min ticks longest_window)) all ≡ map (slots_moved ticks) all
 map_moved_min ticks [] full = refl
 map_moved_min ticks (slots ∷ all) full =
-    let here = moved_min ticks slots (All-head (λ (slots : List Slot). length slots ≡ 400) slots all full) in
-    let rest = map_moved_min ticks all (All-tail (λ (slots : List Slot). length slots ≡ 400) slots all full) in
+    let here = moved_min ticks slots (All-head (λ (slots : List Slot). length slots ≡ longest_window) slots all full) in
+    let rest = map_moved_min ticks all (All-tail (λ (slots : List Slot). length slots ≡ longest_window) slots all full) in
     λ i. here i ∷ rest i
 
 map_same : (all : List (List Slot)) → map (slots_moved 0) all ≡ all

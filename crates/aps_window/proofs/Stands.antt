@@ -6,6 +6,7 @@ use Rattle.std.proofs.lemmas.Grind.{get_or-set_at}
 use Rattle.std.proofs.lemmas.List.{get_or-map, get_or-replicate, get_or-set_other, get_or-take, length-map, length-replicate, length-take, set_past}
 use Rattle.std.proofs.lemmas.List.Elements.{All-cons, All-get_or, All-map, All-nil, All-replicate, All-set, All-weaker}
 use Rattle.std.proofs.lemmas.List.Sums.{sum_by-cons, sum_by-le-sum_by}
+use Rattle.aps_model.specs.Limits.{longest_window, most_partitions, most_time_of_tick}
 use Rattle.aps_window.specs.declared.slot.Slot.{Slot}
 use Rattle.aps_window.specs.Bills.{Bill, all_time, critical_time, lies_in, time_in}
 use Rattle.aps_window.specs.Slots.{no_slot, no_slots, slot_at, slot_billed, slots_billed, slots_rotated}
@@ -28,16 +29,16 @@ away_from now tick age past other = elim (cases_order tick (now - age)) [
   | inr differ ↦ elim differ [ inl less ↦ inl less | inr more ↦ inr (omega arith) ]
 ]
 
-pub full_of : (window : Window) (p : ℕ) → IsWhole window → p < 32 → length (slots_of window p) ≡ 400
+pub full_of : (window : Window) (p : ℕ) → IsWhole window → p < most_partitions → length (slots_of window p) ≡ longest_window
 full_of window p whole inside =
-    All-get_or (λ (slots : List Slot). length slots ≡ 400) window.slots p [] (omega (arith, whole.count)) whole.full
+    All-get_or (λ (slots : List Slot). length slots ≡ longest_window) window.slots p [] (omega (arith, whole.count)) whole.full
 
 -- at the start
-opened_slot : (span p age : ℕ) → p < 32 → age < 400 → slot_at (slots_of (opened span) p) age ≡ no_slot
+opened_slot : (span p age : ℕ) → p < most_partitions → age < longest_window → slot_at (slots_of (opened span) p) age ≡ no_slot
 unfolding no_slots
 opened_slot span p age inside kept =
-    ap (λ (slots : List Slot). slot_at slots age) (get_or-replicate 32 p no_slots [] inside)
-    ∙ get_or-replicate 400 age no_slot no_slot kept
+    ap (λ (slots : List Slot). slot_at slots age) (get_or-replicate most_partitions p no_slots [] inside)
+    ∙ get_or-replicate longest_window age no_slot no_slot kept
 
 pub opened_stands : (span : ℕ) → StandsFor (opened span) []
 opened_stands span = record {
@@ -47,7 +48,7 @@ opened_stands span = record {
 }
 
 -- after a rotation
-rotated_slot : (window : Window) (p age : ℕ) → IsWhole window → p < 32 → suc age < 400
+rotated_slot : (window : Window) (p age : ℕ) → IsWhole window → p < most_partitions → suc age < longest_window
     → slot_at (slots_of (rotated window) p) (suc age) ≡ slot_at (slots_of window p) age
 rotated_slot window p age whole inside kept =
     let slots = slots_of window p in
@@ -58,7 +59,7 @@ rotated_slot window p age whole inside kept =
     )))
     ∙ get_or-take (length slots) (no_slot ∷ slots) (suc age) no_slot short
 
-rotated_first : (window : Window) (p : ℕ) → IsWhole window → p < 32
+rotated_first : (window : Window) (p : ℕ) → IsWhole window → p < most_partitions
     → slot_at (slots_of (rotated window) p) 0 ≡ no_slot
 rotated_first window p whole inside =
     let slots = slots_of window p in
@@ -72,10 +73,10 @@ rotated_first window p whole inside =
 rotated_part : (part : Slot → ℕ) (time : Bill → ℕ) (window : Window) (bills : List Bill) → IsWhole window
     → part no_slot ≡ 0
     → All (λ (bill : Bill). bill.tick ≤ window.tick) bills
-    → ((p age : ℕ) → p < 32 → age < 400
+    → ((p age : ℕ) → p < most_partitions → age < longest_window
     → part (slot_at (slots_of window p) age)
     ≡ sum_by (time_in time p (window.tick - age) (window.tick + 1 - age)) bills)
-    → (p age : ℕ) → p < 32 → age < 400
+    → (p age : ℕ) → p < most_partitions → age < longest_window
     → part (slot_at (slots_of (rotated window) p) age)
     ≡ sum_by (time_in time p (window.tick + 1 - age) (window.tick + 1 + 1 - age)) bills
 rotated_part part time window bills whole none past each p zero inside kept =
@@ -102,9 +103,9 @@ rotated_stands window bills whole stands = record {
 pub rotated_whole : (window : Window) → IsWhole window → IsWhole (rotated window)
 rotated_whole window whole = record {
   count = length-map window.slots slots_rotated ∙ whole.count;
-  full = All-map (λ (slots : List Slot). length slots ≡ 400) slots_rotated window.slots
-      (All-weaker (λ (slots : List Slot). length slots ≡ 400) (λ (slots : List Slot). length (slots_rotated slots)
-      ≡ 400)
+  full = All-map (λ (slots : List Slot). length slots ≡ longest_window) slots_rotated window.slots
+      (All-weaker (λ (slots : List Slot). length slots ≡ longest_window) (λ (slots : List Slot). length (slots_rotated slots)
+      ≡ longest_window)
       (λ slots h. omega (arith, h, length-take (length slots) (no_slot ∷ slots))) window.slots whole.full);
 }
 
@@ -122,8 +123,8 @@ advanced_stands (suc ticks) window bills whole stands =
 pub opened_whole : (span : ℕ) → IsWhole (opened span)
 unfolding no_slots
 opened_whole span = record {
-  count = length-replicate 32 no_slots;
-  full = All-replicate (λ (slots : List Slot). length slots ≡ 400) 32 no_slots (length-replicate 400 no_slot);
+  count = length-replicate most_partitions no_slots;
+  full = All-replicate (λ (slots : List Slot). length slots ≡ longest_window) most_partitions no_slots (length-replicate longest_window no_slot);
 }
 
 -- also where there is no such partition
@@ -135,10 +136,10 @@ billed_whole window p tick ns critical whole =
     record {
       count = length-set window.slots p next ∙ whole.count;
       full = elim (cases_lt p (length window.slots)) [
-        | inl inside ↦ All-set (λ (slots : List Slot). length slots ≡ 400) window.slots p next
+        | inl inside ↦ All-set (λ (slots : List Slot). length slots ≡ longest_window) window.slots p next
             (length-set slots (window.tick - tick) (slot_billed (slot_at slots (window.tick - tick)) ns critical)
             ∙ full_of window p whole (omega (arith, whole.count, inside))) whole.full
-        | inr past ↦ subst (All (λ (slots : List Slot). length slots ≡ 400)) (sym (set_past window.slots p next past))
+        | inr past ↦ subst (All (λ (slots : List Slot). length slots ≡ longest_window)) (sym (set_past window.slots p next past))
             whole.full
       ];
     }
@@ -153,14 +154,14 @@ resized_stands span window bills stands = record {
 }
 
 -- after a bill
-billed_there : (window : Window) (p tick ns : ℕ) (critical : Bool) → IsWhole window → p < 32
+billed_there : (window : Window) (p tick ns : ℕ) (critical : Bool) → IsWhole window → p < most_partitions
     → slots_of (billed window p tick ns critical) p
     ≡ slots_billed (slots_of window p) (window.tick - tick) ns critical
 billed_there window p tick ns critical whole inside =
     get_or-set_at window.slots p p (slots_billed (slots_of window p) (window.tick - tick) ns critical) [] refl
     (omega (arith, whole.count))
 
-billed_slot : (window : Window) (p tick ns : ℕ) (critical : Bool) → IsWhole window → p < 32 → window.tick - tick < 400
+billed_slot : (window : Window) (p tick ns : ℕ) (critical : Bool) → IsWhole window → p < most_partitions → window.tick - tick < longest_window
     → (age : ℕ) → age ≡ window.tick - tick
     → slot_at (slots_of (billed window p tick ns critical) p) age
     ≡ slot_billed (slot_at (slots_of window p) age) ns critical
@@ -172,7 +173,7 @@ billed_slot window p tick ns critical whole inside kept age here =
     (window.tick - tick)) ns critical) no_slot here short
     ∙ ap (λ (age : ℕ). slot_billed (slot_at slots age) ns critical) (sym here)
 
-other_slot : (window : Window) (p tick ns : ℕ) (critical : Bool) → IsWhole window → p < 32
+other_slot : (window : Window) (p tick ns : ℕ) (critical : Bool) → IsWhole window → p < most_partitions
     → (age : ℕ) → age ≢ window.tick - tick
     → slot_at (slots_of (billed window p tick ns critical) p) age ≡ slot_at (slots_of window p) age
 other_slot window p tick ns critical whole inside age other =
@@ -188,13 +189,13 @@ other_slots window q tick ns critical p other =
 
 billed_part : (part : Slot → ℕ) (time : Bill
     → ℕ) (window : Window) (bills : List Bill) (q tick ns : ℕ) (critical : Bool)
-    → IsWhole window → q < 32 → tick ≤ window.tick → window.tick < tick + 400
+    → IsWhole window → q < most_partitions → tick ≤ window.tick → window.tick < tick + longest_window
     → ((slot : Slot) → part (slot_billed slot ns critical)
     ≡ time (record { partition = q; tick = tick; ns = ns; critical = critical }) + part slot)
-    → ((p age : ℕ) → p < 32 → age < 400
+    → ((p age : ℕ) → p < most_partitions → age < longest_window
     → part (slot_at (slots_of window p) age)
     ≡ sum_by (time_in time p (window.tick - age) (window.tick + 1 - age)) bills)
-    → (p age : ℕ) → p < 32 → age < 400
+    → (p age : ℕ) → p < most_partitions → age < longest_window
     → part (slot_at (slots_of (billed window q tick ns critical) p) age)
     ≡ sum_by (time_in time p (window.tick - age) (window.tick + 1 - age))
     (record { partition = q; tick = tick; ns = ns; critical = critical } ∷ bills)
@@ -233,7 +234,7 @@ billed_part part time window bills q tick ns critical whole inside past kept add
     ]
 
 pub billed_stands : (window : Window) (bills : List Bill) (p tick ns : ℕ) (critical : Bool)
-    → IsWhole window → p < 32 → tick ≤ window.tick → window.tick < tick + 400
+    → IsWhole window → p < most_partitions → tick ≤ window.tick → window.tick < tick + longest_window
     → StandsFor window bills
     → StandsFor (billed window p tick ns critical)
     (record { partition = p; tick = tick; ns = ns; critical = critical } ∷ bills)
@@ -250,7 +251,7 @@ billed_stands window bills p tick ns critical whole inside past kept stands =
     }
 
 -- the totals
-pub total_stands : (window : Window) (bills : List Bill) (p : ℕ) → IsWhole window → p < 32 → window.span ≤ 400
+pub total_stands : (window : Window) (bills : List Bill) (p : ℕ) → IsWhole window → p < most_partitions → window.span ≤ longest_window
     → StandsFor window bills
     → ((total_of window p).billed ≡ sum_by (time_in all_time p (window.tick + 1 - window.span)
     (window.tick + 1)) bills)
@@ -266,8 +267,8 @@ total_stands window bills p whole inside few stands =
     )
 
 -- what a window was billed in one of the last 400 ticks
-pub billed_on_is : (window : Window) (bills : List Bill) (p tick : ℕ) → StandsFor window bills → p < 32
-    → tick ≤ window.tick → window.tick < tick + 400
+pub billed_on_is : (window : Window) (bills : List Bill) (p tick : ℕ) → StandsFor window bills → p < most_partitions
+    → tick ≤ window.tick → window.tick < tick + longest_window
     → billed_on window p tick ≡ sum_by (time_in all_time p tick (tick + 1)) bills
 billed_on_is window bills p tick stands inside past kept =
     let from : window.tick - (window.tick - tick) ≡ tick = omega arith in
@@ -279,9 +280,9 @@ time_at_most : (n : ℕ) (b : Bool) → (if b then n else 0) ≤ n
 time_at_most n true = omega arith
 time_at_most n false = omega arith
 
-pub fits_together : (window : Window) (bills : List Bill) (p tick ns : ℕ) → StandsFor window bills → p < 32
-    → tick ≤ window.tick → window.tick < tick + 400
-    → sum_by all_time bills + ns ≤ 160000000 → billed_on window p tick + ns ≤ 160000000
+pub fits_together : (window : Window) (bills : List Bill) (p tick ns : ℕ) → StandsFor window bills → p < most_partitions
+    → tick ≤ window.tick → window.tick < tick + longest_window
+    → sum_by all_time bills + ns ≤ most_time_of_tick → billed_on window p tick + ns ≤ most_time_of_tick
 fits_together window bills p tick ns stands inside past kept all =
     let most = sum_by-le-sum_by (time_in all_time p tick (tick + 1)) all_time bills (λ bill. time_at_most bill.ns
     (lies_in p tick (tick + 1) bill)) in

@@ -5,6 +5,7 @@ use Rattle.std.proofs.Math.Seq.{take-set-lt}
 use Rattle.std.proofs.lemmas.List.{get_or-take, length-take, take-set-le}
 use Rattle.std.proofs.lemmas.List.Elements.{All-cons, All-get_or, All-head, All-set, All-tail, All-take, All-weaker}
 use Rattle.std.proofs.lemmas.List.Sums.{sum_by-cons, sum_by-le, sum_by-set, sum_by_more}
+use Rattle.aps_model.specs.Limits.{longest_window, most_critical, most_time_of_tick}
 use Rattle.aps_window.specs.declared.slot.Slot.{Slot}
 use Rattle.aps_window.specs.declared.account.Account.{Account}
 use Rattle.aps_window.specs.Account.{IsAccount, account_of}
@@ -28,13 +29,13 @@ pub total_within : (span : ℕ) (slots : List Slot) → All IsSlot slots
     → (slots_total span slots).critical ≤ (slots_total span slots).billed
 total_within span slots small = critical_within (take span slots) (All-take IsSlot span slots small)
 
-pub total_small : (span : ℕ) (slots : List Slot) → span ≤ 400 → All IsSlot slots
-    → (slots_total span slots).billed ≤ 64000000000
+pub total_small : (span : ℕ) (slots : List Slot) → span ≤ longest_window → All IsSlot slots
+    → (slots_total span slots).billed ≤ most_critical
 total_small span slots few small =
-    let each : All (λ (s : Slot). s.billed ≤ 160000000) slots = All-weaker IsSlot (λ
-    (s : Slot). s.billed ≤ 160000000) (λ s h. h.small) slots small in
-    let sum = sum_by-le (λ (s : Slot). s.billed) 160000000 (take span slots) (All-take (λ
-    (s : Slot). s.billed ≤ 160000000) span slots each) in
+    let each : All (λ (s : Slot). s.billed ≤ most_time_of_tick) slots = All-weaker IsSlot (λ
+    (s : Slot). s.billed ≤ most_time_of_tick) (λ s h. h.small) slots small in
+    let sum = sum_by-le (λ (s : Slot). s.billed) most_time_of_tick (take span slots) (All-take (λ
+    (s : Slot). s.billed ≤ most_time_of_tick) span slots each) in
     omega (arith, sum, length-take span slots)
 
 -- a bill in a tick that counts adds to the total
@@ -71,13 +72,13 @@ total_kept span age slots ns critical old =
     (take-set-le span slots age (slot_billed (slot_at slots age) ns critical) old)
 
 -- slots stay slots
-billed_is_slot : (slot : Slot) (ns : ℕ) (critical : Bool) → IsSlot slot → slot.billed + ns ≤ 160000000
+billed_is_slot : (slot : Slot) (ns : ℕ) (critical : Bool) → IsSlot slot → slot.billed + ns ≤ most_time_of_tick
     → IsSlot (slot_billed slot ns critical)
 billed_is_slot slot ns true is fits = record { small = fits; within = omega (arith, is.within) }
 billed_is_slot slot ns false is fits = record { small = fits; within = omega (arith, is.within) }
 
 pub billed_are_slots : (slots : List Slot) (age ns : ℕ) (critical : Bool) → All IsSlot slots → age < length slots
-    → (slot_at slots age).billed + ns ≤ 160000000
+    → (slot_at slots age).billed + ns ≤ most_time_of_tick
     → All IsSlot (slots_billed slots age ns critical)
 billed_are_slots slots age ns critical small inside fits =
     All-set IsSlot slots age (slot_billed (slot_at slots age) ns critical)
@@ -98,7 +99,7 @@ length-moved (suc ticks) slots =
     omega (arith, length-take (length before) (no_slot ∷ before), length-moved ticks slots)
 
 -- an account stays one
-pub is_account : (span : ℕ) (slots : List Slot) → length slots ≡ 400 → All IsSlot slots
+pub is_account : (span : ℕ) (slots : List Slot) → length slots ≡ longest_window → All IsSlot slots
     → IsAccount span (account_of span slots)
 is_account span slots full small = record { same = refl; full = full; small = small }
 
@@ -107,8 +108,8 @@ pub account_total : (span : ℕ) (account : Account) → IsAccount span account
     → account.total ≡ slots_total span account.ring.items
 account_total span account is = ap (λ (a : Account). a.total) is.same
 
-pub account_small : (span : ℕ) (account : Account) → IsAccount span account → span ≤ 400
-    → account.total.billed ≤ 64000000000
+pub account_small : (span : ℕ) (account : Account) → IsAccount span account → span ≤ longest_window
+    → account.total.billed ≤ most_critical
 account_small span account is few = rw (account_total span account is)
     (total_small span account.ring.items few is.small)
 
@@ -117,16 +118,16 @@ pub account_within : (span : ℕ) (account : Account) → IsAccount span account
 account_within span account is = rw (account_total span account is) (total_within span account.ring.items is.small)
 
 -- so many slots and one more
-pub next_billed : (age : ℕ) (slots : List Slot) → age < 400 → length slots ≡ 400 → All IsSlot slots
-    → (slots_total age slots).billed + (slot_at slots age).billed ≤ 64000000000
+pub next_billed : (age : ℕ) (slots : List Slot) → age < longest_window → length slots ≡ longest_window → All IsSlot slots
+    → (slots_total age slots).billed + (slot_at slots age).billed ≤ most_critical
 next_billed age slots inside full small =
-    let few : age + 1 ≤ 400 = omega arith in
+    let few : age + 1 ≤ longest_window = omega arith in
     let more = sum_by_more (λ (s : Slot). s.billed) slots age no_slot (omega arith) in
     omega (arith, more, total_small (age + 1) slots few small)
 
-pub next_critical : (age : ℕ) (slots : List Slot) → age < 400 → length slots ≡ 400 → All IsSlot slots
-    → (slots_total age slots).critical + (slot_at slots age).critical ≤ 64000000000
+pub next_critical : (age : ℕ) (slots : List Slot) → age < longest_window → length slots ≡ longest_window → All IsSlot slots
+    → (slots_total age slots).critical + (slot_at slots age).critical ≤ most_critical
 next_critical age slots inside full small =
-    let few : age + 1 ≤ 400 = omega arith in
+    let few : age + 1 ≤ longest_window = omega arith in
     let more = sum_by_more (λ (s : Slot). s.critical) slots age no_slot (omega arith) in
     omega (arith, more, total_small (age + 1) slots few small, total_within (age + 1) slots small)

@@ -4,28 +4,29 @@ use Rattle.std.specs.List.{All}
 use Rattle.std.proofs.lemmas.List.{drop-drop, drop-map, drop-set-lt, length-replicate, map-append, take-append-drop, take-replicate}
 use Rattle.std.proofs.lemmas.List.Elements.{All-drop, All-head, All-replicate, All-tail}
 use Rattle.std.proofs.lemmas.List.Folds.{sum_by-replicate}
+use Rattle.aps_model.specs.Limits.{longest_window}
 use Rattle.circular_buffer.specs.Buffer.{buffer}
 use Rattle.aps_window.specs.declared.slot.Slot.{Slot}
 use Rattle.aps_window.specs.declared.account.Account.{Account}
 use Rattle.aps_window.specs.Account.{IsAccount, IsUnused, account_moved, account_of, account_resized, no_account}
 use Rattle.aps_window.specs.Slots.{IsSlot, no_slot, no_slots, slots_moved, slots_rotated, slots_total}
 
-no_total : (span : ℕ) → span ≤ 400 → no_slot ≡ slots_total span no_slots
+no_total : (span : ℕ) → span ≤ longest_window → no_slot ≡ slots_total span no_slots
 unfolding no_slots
 no_total span few =
-    let newest : take span (replicate 400 no_slot) ≡ replicate span no_slot = take-replicate span 400 no_slot few in
-    let all : 0 ≡ sum_by (λ (s : Slot). s.billed) (take span (replicate 400 no_slot)) =
+    let newest : take span (replicate longest_window no_slot) ≡ replicate span no_slot = take-replicate span longest_window no_slot few in
+    let all : 0 ≡ sum_by (λ (s : Slot). s.billed) (take span (replicate longest_window no_slot)) =
     rw newest (omega (arith, sum_by-replicate (λ (s : Slot). s.billed) span no_slot)) in
-    let part : 0 ≡ sum_by (λ (s : Slot). s.critical) (take span (replicate 400 no_slot)) =
+    let part : 0 ≡ sum_by (λ (s : Slot). s.critical) (take span (replicate longest_window no_slot)) =
     rw newest (omega (arith, sum_by-replicate (λ (s : Slot). s.critical) span no_slot)) in
     λ i. record { billed = all i; critical = part i }
 
-pub no_account_is : (span : ℕ) → span ≤ 400 → IsAccount span no_account
+pub no_account_is : (span : ℕ) → span ≤ longest_window → IsAccount span no_account
 unfolding no_slots
 no_account_is span few = record {
-  same = λ i. record { ring = buffer no_slots 400; total = no_total span few i };
-  full = length-replicate 400 no_slot;
-  small = All-replicate IsSlot 400 no_slot (record { small = lit≤ tt; within = lit≤ tt });
+  same = λ i. record { ring = buffer no_slots longest_window; total = no_total span few i };
+  full = length-replicate longest_window no_slot;
+  small = All-replicate IsSlot longest_window no_slot (record { small = lit≤ tt; within = lit≤ tt });
 }
 
 replicate_rotated : (n : ℕ) → slots_rotated (replicate n no_slot) ≡ replicate n no_slot
@@ -39,14 +40,14 @@ replicate_moved (suc ticks) n = ap slots_rotated (replicate_moved ticks n) ∙ r
 
 no_slots_moved : (ticks : ℕ) → slots_moved ticks no_slots ≡ no_slots
 unfolding no_slots
-no_slots_moved ticks = replicate_moved ticks 400
+no_slots_moved ticks = replicate_moved ticks longest_window
 
 -- it has no bill where another number of slots counts
-pub no_account_resized : (span : ℕ) → span ≤ 400 → account_resized span no_account ≡ no_account
-no_account_resized span few = λ i. record { ring = buffer no_slots 400; total = sym (no_total span few) i }
+pub no_account_resized : (span : ℕ) → span ≤ longest_window → account_resized span no_account ≡ no_account
+no_account_resized span few = λ i. record { ring = buffer no_slots longest_window; total = sym (no_total span few) i }
 
 -- and none however many ticks later
-pub no_account_moved : (ticks span : ℕ) → span ≤ 400 → account_moved ticks span no_account ≡ no_account
+pub no_account_moved : (ticks span : ℕ) → span ≤ longest_window → account_moved ticks span no_account ≡ no_account
 no_account_moved ticks span few =
     ap (account_of span) (no_slots_moved ticks) ∙ no_account_resized span few
 

@@ -2,7 +2,7 @@
 use Rattle.std.specs.Prelude.{ℕ, ◌+◌, ◌≤◌, List, ◌∷◌, Bool, length, take, replicate, slice_index_or, slice_set, zero, suc, if◌then◌else◌}
 use Rattle.std.specs.List.{sum_by}
 use Rattle.aps_window.specs.declared.slot.Slot.{Slot}
-use Rattle.aps_model.specs.Limits.{longest_window}
+use Rattle.aps_model.specs.Limits.{longest_window, most_time_of_tick}
 
 -- a tick with no bill
 abbrev pub no_slot : Slot
@@ -45,5 +45,5 @@ slots_total span slots = record {
 
 -- a slot holds at most the time of 16 processors in the longest tick, and no more critical time than time
 pub record IsSlot (slot : Slot) : Type 0 where
-  pub small : slot.billed ≤ 160000000
+  pub small : slot.billed ≤ most_time_of_tick
   pub within : slot.critical ≤ slot.billed

@@ -4,7 +4,7 @@ ghost use Rattle.std.specs.List.{All};
 ghost use Rattle.circular_buffer.specs.Buffer.{buffer};
 ghost use Rattle.aps_window.specs.Slots.{no_slot, no_slots, slot_at, slots_billed, slots_total, IsSlot};
 ghost use Rattle.aps_window.specs.Account.{IsAccount, account_of, account_moved, account_resized};
-ghost use Rattle.aps_model.specs.Limits.{longest_window};
+ghost use Rattle.aps_model.specs.Limits.{longest_window, most_time_of_tick};
 
 use crate::slot::Slot;
 use aps_model::NoMemory;
@@ -36,7 +36,7 @@ fn empty_ring(alloc: Global) -> Result<HeapCircularBuffer<Slot>, NoMemory>
 /// Bills so many ns in the slot at a place.
 fn bill_slot(ring: &mut HeapCircularBuffer<Slot>, age: usize, ns: u64, critical: bool)
     requires inside { age < length ring.old.items }
-    requires billed { (slot_at ring.old.items age).billed + ns ≤ 160000000 }
+    requires billed { (slot_at ring.old.items age).billed + ns ≤ most_time_of_tick }
     requires critical { (slot_at ring.old.items age).critical ≤ (slot_at ring.old.items age).billed }
     ensures { ring.new ≡ buffer (slots_billed ring.old.items age ns critical) ring.old.capacity }
 {
@@ -72,7 +72,7 @@ impl Account {
         requires account { IsAccount span self.old }
         requires kept { age < longest_window }
         requires span { span ≤ longest_window }
-        requires fits { (slot_at self.old.ring.items age).billed + ns ≤ 160000000 }
+        requires fits { (slot_at self.old.ring.items age).billed + ns ≤ most_time_of_tick }
         ensures { self.new ≡ account_of span (slots_billed self.old.ring.items age ns critical) }
     {
         bill_slot(&mut self.ring, age, ns, critical);

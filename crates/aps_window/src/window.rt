@@ -3,7 +3,7 @@ ghost use Rattle.std.specs.Prelude.{◌≡◌, ℕ, ◌+◌, ◌-◌, ◌<◌, �
 ghost use Rattle.aps_window.specs.Bills.{Bill, bills_used, bills_critical};
 ghost use Rattle.aps_window.specs.StandsFor.{StandsFor};
 ghost use Rattle.aps_window.specs.Window.{advanced, billed, billed_on, opened, resized, rotated, total_of};
-ghost use Rattle.aps_model.specs.Limits.{longest_window, most_critical};
+ghost use Rattle.aps_model.specs.Limits.{last_tick, longest_window, most_critical, most_time_of_tick, shortest_window};
 
 use crate::account::{Account, SLOTS};
 use aps_model::limits::MOST_PARTITIONS;
@@ -50,7 +50,7 @@ impl Window {
     /// At tick 0 with no bills, for 32 partitions; the last `window` ticks count, 8 to 400. `NoMemory` comes where there
     /// is no room for 400 slots of each partition.
     pub fn new(alloc: Global, window: u16) -> Result<Window, NoMemory>
-        requires least { 8 ≤ window }
+        requires least { shortest_window ≤ window }
         requires most { window ≤ longest_window }
         ensures same { IfOk result (λ w. w ≡ opened window) }
         ensures stands { IfOk result (λ w. StandsFor w []) }
@@ -70,7 +70,7 @@ impl Window {
     /// The current tick.
     pub fn tick(&self) -> u32
         ensures same { result ≡ self.now.tick }
-        ensures few { result ≤ 100000000 }
+        ensures few { result ≤ last_tick }
     {
         self.tick
     }
@@ -79,7 +79,7 @@ impl Window {
     /// the partition in that tick, this one included, sum to at most 160,000,000 ns.
     pub fn bill(&mut self, p: PartitionId, tick: u32, ns: u64, critical: bool)
         requires recent { (tick ≡ self.old.tick) ⊎ (tick + 1 ≡ self.old.tick) }
-        requires fits { billed_on self.old p tick + ns ≤ 160000000 }
+        requires fits { billed_on self.old p tick + ns ≤ most_time_of_tick }
         ensures same { self.new ≡ billed self.old p tick ns critical }
         ensures stands { (bills : List Bill) → StandsFor self.old bills
             → StandsFor self.new (record { partition = p; tick = tick; ns = ns; critical = critical } ∷ bills) }
@@ -92,7 +92,7 @@ impl Window {
     pub fn bill_at(&mut self, p: PartitionId, tick: u32, ns: u64, critical: bool)
         requires past { tick ≤ self.old.tick }
         requires kept { self.old.tick < tick + longest_window }
-        requires fits { billed_on self.old p tick + ns ≤ 160000000 }
+        requires fits { billed_on self.old p tick + ns ≤ most_time_of_tick }
         ensures same { self.new ≡ billed self.old p tick ns critical }
         ensures stands { (bills : List Bill) → StandsFor self.old bills
             → StandsFor self.new (record { partition = p; tick = tick; ns = ns; critical = critical } ∷ bills) }
@@ -106,7 +106,7 @@ impl Window {
 
     /// Goes on to the next tick. Condition: the current one is below 100,000,000.
     pub fn rotate(&mut self)
-        requires { self.old.tick < 100000000 }
+        requires { self.old.tick < last_tick }
         ensures same { self.new ≡ rotated self.old }
         ensures stands { (bills : List Bill) → StandsFor self.old bills → StandsFor self.new bills }
     {
@@ -117,7 +117,7 @@ impl Window {
     /// 100,000,000.
     #[inline(never)]
     pub fn advance(&mut self, ticks: u32)
-        requires { self.old.tick + ticks ≤ 100000000 }
+        requires { self.old.tick + ticks ≤ last_tick }
         ensures same { self.new ≡ advanced ticks self.old }
         ensures stands { (bills : List Bill) → StandsFor self.old bills → StandsFor self.new bills }
     {
@@ -131,7 +131,7 @@ impl Window {
 
     /// From now on the last `window` ticks count, 8 to 400. Bills up to 400 ticks back count again where it grows.
     pub fn resize(&mut self, window: u16)
-        requires least { 8 ≤ window }
+        requires least { shortest_window ≤ window }
         requires most { window ≤ longest_window }
         ensures same { self.new ≡ resized window self.old }
         ensures stands { (bills : List Bill) → StandsFor self.old bills → StandsFor self.new bills }

@@ -2,6 +2,7 @@
 use Rattle.std.proofs.Common.{◌≡◌, ℕ, List, [], ◌∷◌, map, rules, drop, codes, Option, Some, None, true, false, refl, ap, sym, ◌∙◌, inl, inr, String, Global, string_bytes}
 use Rattle.std.proofs.lemmas.Bool.{cases_Bool, false≢true}
 use Rattle.std.specs.Str.{bytes_eq}
+use Rattle.aps_model.specs.Limits.{greatest_u64, most_cpus, most_entries, most_partitions, most_ticks}
 use Rattle.clap.specs.Words.{Text}
 use Rattle.clap.proofs.OnLiterals.{clap_on_literals}
 use Rattle.aps_words.specs.declared.command.Command.{Command}
@@ -41,7 +42,7 @@ solo_none f name value known there hyphen =
     elim (known_or (codes "report") name (codes "limit" ∷ []) known) [
       | inl e ↦ let here : f (codes "report") ≡ Some value = ap f (sym e) ∙ there in rw (here, no_report value hyphen) refl
       | inr rest ↦ elim (known_or (codes "limit") name [] rest) [
-        | inl e ↦ let here : f (codes "limit") ≡ Some value = ap f (sym e) ∙ there in rw (here, no_number value hyphen 1 4000000) (bind_none _)
+        | inl e ↦ let here : f (codes "limit") ≡ Some value = ap f (sym e) ∙ there in rw (here, no_number value hyphen 1 most_entries) (bind_none _)
         | inr never ↦ absurd (false≢true never)
       ]
     ]
@@ -53,7 +54,7 @@ run_none f name value known there hyphen =
       | inr rest ↦ elim (known_or (codes "report") name (codes "limit" ∷ []) rest) [
         | inl e ↦ let here : f (codes "report") ≡ Some value = ap f (sym e) ∙ there in rw (here, no_report value hyphen) (bind_none _)
         | inr rest ↦ elim (known_or (codes "limit") name [] rest) [
-          | inl e ↦ let here : f (codes "limit") ≡ Some value = ap f (sym e) ∙ there in rw (here, no_number value hyphen 1 4000000, bind_none (report_of (f (codes "report")))) (bind_none _)
+          | inl e ↦ let here : f (codes "limit") ≡ Some value = ap f (sym e) ∙ there in rw (here, no_number value hyphen 1 most_entries, bind_none (report_of (f (codes "report")))) (bind_none _)
           | inr never ↦ absurd (false≢true never)
         ]
       ]
@@ -62,15 +63,15 @@ run_none f name value known there hyphen =
 gen_none : (f : Text → Option Text) (name value : Text) → is_known gen_options name ≡ true → f name ≡ Some value → begins_with_hyphen value ≡ true → gen f ≡ None
 gen_none f name value known there hyphen =
     elim (known_or (codes "seed") name (codes "cpus" ∷ codes "partitions" ∷ codes "ticks" ∷ []) known) [
-      | inl e ↦ let here : f (codes "seed") ≡ Some value = ap f (sym e) ∙ there in rw (here, no_number value hyphen 0 18446744073709551615) refl
+      | inl e ↦ let here : f (codes "seed") ≡ Some value = ap f (sym e) ∙ there in rw (here, no_number value hyphen 0 greatest_u64) refl
       | inr rest ↦ elim (known_or (codes "cpus") name (codes "partitions" ∷ codes "ticks" ∷ []) rest) [
-        | inl e ↦ let here : f (codes "cpus") ≡ Some value = ap f (sym e) ∙ there in rw (here, no_number value hyphen 1 16) (bind_none _)
+        | inl e ↦ let here : f (codes "cpus") ≡ Some value = ap f (sym e) ∙ there in rw (here, no_number value hyphen 1 most_cpus) (bind_none _)
         | inr rest ↦ elim (known_or (codes "partitions") name (codes "ticks" ∷ []) rest) [
           | inl e ↦ let here : f (codes "partitions") ≡ Some value = ap f (sym e) ∙ there in
-              rw (here, no_number value hyphen 1 32, bind_none (required_in 1 16 (f (codes "cpus")))) (bind_none _)
+              rw (here, no_number value hyphen 1 most_partitions, bind_none (required_in 1 most_cpus (f (codes "cpus")))) (bind_none _)
           | inr rest ↦ elim (known_or (codes "ticks") name [] rest) [
             | inl e ↦ let here : f (codes "ticks") ≡ Some value = ap f (sym e) ∙ there in
-                rw (here, no_number value hyphen 1 1000000, bind_none (required_in 1 32 (f (codes "partitions"))), bind_none (required_in 1 16 (f (codes "cpus")))) (bind_none _)
+                rw (here, no_number value hyphen 1 most_ticks, bind_none (required_in 1 most_partitions (f (codes "partitions"))), bind_none (required_in 1 most_cpus (f (codes "cpus")))) (bind_none _)
             | inr never ↦ absurd (false≢true never)
           ]
         ]
@@ -82,7 +83,7 @@ check_none f name value known there hyphen =
     elim (known_or (codes "order") name (codes "limit" ∷ []) known) [
       | inl e ↦ let here : f (codes "order") ≡ Some value = ap f (sym e) ∙ there in rw (here, no_order value hyphen) refl
       | inr rest ↦ elim (known_or (codes "limit") name [] rest) [
-        | inl e ↦ let here : f (codes "limit") ≡ Some value = ap f (sym e) ∙ there in rw (here, no_number value hyphen 1 4000000) (bind_none _)
+        | inl e ↦ let here : f (codes "limit") ≡ Some value = ap f (sym e) ∙ there in rw (here, no_number value hyphen 1 most_entries) (bind_none _)
         | inr never ↦ absurd (false≢true never)
       ]
     ]

@@ -7,7 +7,7 @@ use Rattle.aps_words.specs.declared.command.WordsRefusal.{WordsRefusal}
 use Rattle.aps_words.specs.declared.command.WordsRefusal.TheVariants as refusal
 use Rattle.aps_words.specs.Options.{Text, value_of, options}
 use Rattle.aps_words.specs.Values.{report_of, order_of, limit_of, required_in}
-use Rattle.aps_model.specs.Limits.{IsIn, most_cpus, most_entries, most_partitions, most_ticks}
+use Rattle.aps_model.specs.Limits.{IsIn, greatest_u64, most_cpus, most_entries, most_partitions, most_ticks}
 
 infixl 10 ◌>>=◌
 abbrev pub ◌>>=◌ : {A B : Type 0} → Option A → (A → Option B) → Option B
@@ -32,10 +32,10 @@ run value = do
 -- `gen`, by the values of its options
 abbrev pub gen : (Text → Option Text) → Option Command
 gen value = do
-  seed ← required_in 0 18446744073709551615 (value (codes "seed"))
-  cpus ← required_in 1 16 (value (codes "cpus"))
-  partitions ← required_in 1 32 (value (codes "partitions"))
-  ticks ← required_in 1 1000000 (value (codes "ticks"))
+  seed ← required_in 0 greatest_u64 (value (codes "seed"))
+  cpus ← required_in 1 most_cpus (value (codes "cpus"))
+  partitions ← required_in 1 most_partitions (value (codes "partitions"))
+  ticks ← required_in 1 most_ticks (value (codes "ticks"))
   Some (Gen seed cpus partitions ticks)
 
 -- `check`, by the values of its options

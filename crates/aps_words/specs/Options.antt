@@ -39,7 +39,8 @@ abbrev pub is_given : List Given → Text → Bool
 is_given given name = list_any (λ (option : Given). bytes_eq option.0 name) given
 
 -- goes on behind a word that begins an option: with its value, or with the option that waits for one
-abbrev pub begun : List Text → List Given → Option (Text × Option Text) → (List Given → Option Text → Option (List Given)) → Option (List Given)
+abbrev pub begun : List Text → List Given → Option (Text × Option Text) → (List Given → Option Text → Option (List Given))
+    → Option (List Given)
 begun names given None next = None
 begun names given (Some (name, Some value)) next =
     if is_known names name && not (is_given given name) then next (given ++ (name, value) ∷ []) None else None

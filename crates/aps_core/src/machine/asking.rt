@@ -87,7 +87,8 @@ impl Machine {
 
 /// The partition is marked, if this holds. Each other mark stays.
 fn mark(found: &mut [bool; 32], p: PartitionId, holds: bool)
-    ensures { (k : ℕ) → k < most_partitions → slice_index_or found.new k false ≡ (slice_index_or found.old k false || (holds && nat_eq p k)) }
+    ensures { (k : ℕ) → k < most_partitions
+        → slice_index_or found.new k false ≡ (slice_index_or found.old k false || (holds && nat_eq p k)) }
 {
     if holds {
         found[p.index()] = true;

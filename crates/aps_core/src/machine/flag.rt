@@ -5,7 +5,7 @@ ghost use Rattle.aps_model.specs.Limits.{greatest_priority, most_cpus};
 ghost use Rattle.aps_model.specs.Pick.{contenders, greatest, merit_among};
 ghost use Rattle.aps_ready.specs.Gates.{AreGates, is_first};
 ghost use Rattle.aps_core.specs.Classes.{AreClasses};
-ghost use Rattle.aps_core.specs.Lowest.{CanLook, IsKey, IsLeast, IsLeastOf, IsNoLess, IsRank, IsTold, height_of, limit, lowest, ranked_at};
+ghost use Rattle.aps_core.specs.Lowest.{CanLook, IsKey, IsLeast, IsLeastOf, IsNoLess, IsRank, IsTold, height_of, height_past_all, key_past_all, limit, lowest, ranked_at};
 ghost use Rattle.aps_core.specs.Seats.{seats_of};
 
 use super::Machine;
@@ -49,7 +49,7 @@ impl Machine {
         requires d { d < most_cpus }
         ensures key { d < length self.now.cpus → IsKey (ranked_at self.now entries.now parts.now c now d) d result }
         ensures rank { d < length self.now.cpus → IsRank (ranked_at self.now entries.now parts.now c now d) }
-        ensures past { length self.now.cpus ≤ d → 16000 ≤ result }
+        ensures past { length self.now.cpus ≤ d → key_past_all ≤ result }
     {
         let past = past_if(dues.at(d) <= now);
         posts.at(d).key + past
@@ -128,7 +128,7 @@ impl Machine {
     ) -> Lowest
         requires look { CanLook self.now entries.now parts.now c now posts.now classes dues.now }
         ensures same { IsTold (lowest self.now entries.now parts.now c now self.now.shape.cpus) result.cpu result.height }
-        ensures within { result.height < 1000 → result.cpu < length self.now.cpus }
+        ensures within { result.height < height_past_all → result.cpu < length self.now.cpus }
     {
         let least = self.least_key(entries, dues, parts, posts, classes, c, now);
         Lowest {
@@ -191,7 +191,7 @@ impl Machine {
 /// How much is added to a key where this holds, so that it is past all.
 #[inline(always)]
 fn past_if(holds: bool) -> u16
-    ensures { result ≡ (if holds then 16000 else 0) }
+    ensures { result ≡ (if holds then key_past_all else 0) }
 {
     // a product, since a branch here would be foretold wrongly often
     u16::from(holds) * PAST_ALL

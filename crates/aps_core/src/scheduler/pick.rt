@@ -22,7 +22,8 @@ impl Scheduler {
         requires spare { AreSpare self.old.machine self.old.dues }
         requires own { slice_index self.old.dues cpu ≤ e.old.to }
         requires posts { AreOthersPosts self.old.machine cpu self.old.posts }
-        ensures same { pick self.old.machine entries.now cpu e.old.to e.old ≡ record { entry = e.new; state = self.new.machine; reboot = None } }
+        ensures same { pick self.old.machine entries.now cpu e.old.to e.old
+            ≡ record { entry = e.new; state = self.new.machine; reboot = None } }
         ensures kept { IsKept self.old.machine self.new.machine }
         ensures seats { self.new.ready ≡ seats_of self.new.machine }
         ensures posts { ArePosts self.new.machine self.new.posts }

@@ -35,7 +35,8 @@ impl Scheduler {
         ensures facts { result ≡ false → (x : ℕ) → facts_of self.new.machine x ≡ facts_of self.old.machine x }
         ensures window { result ≡ false → self.new.window ≡ self.old.window }
         ensures counts { Counts self.new.machine.shape entries.now (now / self.old.machine.shape.tick) self.new.window }
-        ensures pending { (e : EntryOf) → e.to ≡ now → IsPending scenario.now self.old.machine.shape.tick (entries.now ++ e ∷ []) self.new.ctl }
+        ensures pending { (e : EntryOf) → e.to ≡ now
+            → IsPending scenario.now self.old.machine.shape.tick (entries.now ++ e ∷ []) self.new.ctl }
         ensures others { IsTickOf self.old self.new }
     {
         if is_later || entries.is_empty() {
@@ -57,7 +58,8 @@ impl Scheduler {
         ensures facts { result ≡ false → (x : ℕ) → facts_of self.new.machine x ≡ facts_of self.old.machine x }
         ensures window { result ≡ false → self.new.window ≡ self.old.window }
         ensures counts { Counts self.new.machine.shape entries.now (now / self.old.machine.shape.tick) self.new.window }
-        ensures pending { (e : EntryOf) → e.to ≡ now → IsPending scenario.now self.old.machine.shape.tick (entries.now ++ e ∷ []) self.new.ctl }
+        ensures pending { (e : EntryOf) → e.to ≡ now
+            → IsPending scenario.now self.old.machine.shape.tick (entries.now ++ e ∷ []) self.new.ctl }
         ensures others { IsTickOf self.old self.new }
     {
         if self.machine.has_tick_work(entries, now, tick) {

@@ -25,7 +25,8 @@ impl Core {
     /// Which partitions have a candidate among the threads that are ready after the entries so far, where the partitions
     /// stand so.
     pub fn candidates(&self, parts: &[PartFacts]) -> [bool; 32]
-        ensures { (p : ℕ) → p < most_partitions → slice_index_or result p false ≡ has_candidate parts.now p (contenders (state_of self.now)) }
+        ensures { (p : ℕ) → p < most_partitions
+            → slice_index_or result p false ≡ has_candidate parts.now p (contenders (state_of self.now)) }
     {
         self.scheduler.machine.candidates(parts)
     }

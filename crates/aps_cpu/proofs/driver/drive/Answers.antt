@@ -1,6 +1,6 @@
 use Rattle.std.proofs.Common.{◌≡◌, ◌<◌, ap, sym, subst, ◌∙◌, arith}
 use Rattle.aps_lock.specs.Seats.{SeatData, waited_after}
-use Rattle.aps_cpu.specs.Driven.{EndsWith, IsOnFrom}
+use Rattle.aps_cpu.specs.Driven.{EndsWith, IsOnFrom, most_waited}
 use Rattle.aps_cpu.proofs.Turns.{HasMade, made_more, made_one, on_trans, on_turn}
 use Rattle.aps_cpu.proofs.driver.drive.Goals.{in-NotYet+else-waited-ge-MOST_WAITED, in-Took}
 use Rattle.aps_cpu.proofs.driver.drive.Goals as goal
@@ -12,7 +12,7 @@ loop-preserved g c =
     let from : SeatData = c.args.seat.now in
     let before : SeatData = c.loop.seat in
     let after : SeatData = c.turn.new.seat in
-    let waited : after.waited < 1000000 = elim c.match-turn.branch [
+    let waited : after.waited < most_waited = elim c.match-turn.branch [
       | in-NotYet+else-waited-ge-MOST_WAITED w ↦ omega (arith, w.waited.ensures, w.if-waited-ge-MOST_WAITED.false)
       | in-Took w ↦ omega (arith, ap (λ s. s.waited) t.3, ap (waited_after before.first before.last before.waited) w.in-Took.is)
     ] in

@@ -1,5 +1,5 @@
 use Rattle.std.proofs.Common.{◌<◌, ◌≤◌}
-use Rattle.aps_cpu.specs.Driven.{IsOnFrom}
+use Rattle.aps_cpu.specs.Driven.{IsOnFrom, most_waited}
 use Rattle.aps_cpu.proofs.Turns.{HasMade}
 use Rattle.aps_cpu.proofs.driver.drive.Given as goal
 
@@ -9,5 +9,5 @@ invariant-loop g l = record {
   made : HasMade l.initial.seat l.seat;
   low : l.initial.seat.first ≤ l.cpu;
   high : l.cpu ≤ l.initial.seat.last;
-  waited : l.seat.waited < 1000000;
+  waited : l.seat.waited < most_waited;
 }

@@ -1,4 +1,5 @@
 use Rattle.std.proofs.Common.{◌≡◌, ◌∙◌, [], ap, sym, arith, Some}
+use Rattle.aps_model.specs.Limits.{most_threads}
 use Rattle.aps_explain.specs.Chain.{Chain, chain_from, gone_on}
 use Rattle.aps_explain.proofs.Ranges.{fold_range}
 use Rattle.aps_explain.proofs.chain.explained.Goals as goal
@@ -15,5 +16,5 @@ loop-preserved c =
 
 pub returns-clause-same : goal.returns-clause-same
 returns-clause-same c =
-    let all : c.loop.counter ≡ 1024 = omega arith in
+    let all : c.loop.counter ≡ most_threads = omega arith in
     c.into_told.ensures ∙ ap (λ (chain : Chain). chain.told) (c.loop.invariant.same ∙ ap (chain_from c.args.scene.now c.args.x) all)

@@ -1,4 +1,5 @@
 use Rattle.std.proofs.Common.{◌≡◌, ◌≤◌, take}
+use Rattle.aps_model.specs.Limits.{last_moment}
 use Rattle.aps_laws.specs.Moments.{moment}
 use Rattle.aps_core.specs.Run.{state_of}
 use Rattle.aps_explain.specs.Ties.{ties_of}
@@ -9,5 +10,5 @@ invariant-loop-e l = record {
   core : l.core ≡ record l.fn.core { entries = take l.e-index l.entries };
   tied : l.ties ≡ ties_of (state_of l.core);
   last : l.last ≡ moment (take l.e-index l.entries);
-  early : l.last ≤ 10000000000000;
+  early : l.last ≤ last_moment;
 }

@@ -2,6 +2,7 @@ use Rattle.std.proofs.Common.{◌≡◌, ◌+◌, ◌*◌, ◌∷◌, ◌++◌, 
 use Rattle.std.proofs.lemmas.List.{take_more, take_all}
 use Rattle.aps_model.specs.declared.entry.Entry.{Entry}
 use Rattle.aps_model.specs.History.{IsEntry}
+use Rattle.aps_model.specs.Limits.{longest_tick}
 use Rattle.aps_latency.specs.Bills.{AreBills}
 use Rattle.aps_latency.proofs.Billed.{at_most_more, bills_more, bills_none, small_more, small_none}
 use Rattle.aps_latency.proofs.billing.bills.Goals as goal
@@ -15,7 +16,7 @@ loop-e-init c = record {
 pub add-requires-clause-room : goal.add-requires-clause-room
 add-requires-clause-room c = record {
   count = c.loop-e.invariant.sums.count;
-  each = λ x less. at_most_more (c.loop-e.e-index * 10000000) _ _ (omega arith) (c.loop-e.invariant.small x less);
+  each = λ x less. at_most_more (c.loop-e.e-index * longest_tick) _ _ (omega arith) (c.loop-e.invariant.small x less);
 }
 
 pub loop-e-preserved : goal.loop-e-preserved

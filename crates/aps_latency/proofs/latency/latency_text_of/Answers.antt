@@ -2,6 +2,7 @@ use Rattle.std.proofs.Common.{◌≡◌, ◌≤◌, ℕ, ◌++◌, ◌∙◌, Li
 use lib.Chars.{codes}
 use Rattle.std.specs.List.{flat_map, enumerate_from}
 use Rattle.aps_model.specs.declared.scenario.ThreadRow.{ThreadRow}
+use Rattle.aps_model.specs.Limits.{most_threads}
 use Rattle.aps_model.specs.Scenario.{Scenario}
 use Rattle.aps_model.specs.Valid.{IsScenario}
 use Rattle.aps_latency.specs.Text.{HasPlaces, thread_with}
@@ -22,7 +23,7 @@ returns c =
     let known = c.in_ok-known.known in
     let title : List ℕ = codes "aps latency 1\n" in
     let valid : IsScenario scenario = subst IsScenario c.scenario-scenario.ensures c.threads-threads.ensures.valid in
-    let few : length scenario.threads ≤ 1024 = valid.few_threads in
+    let few : length scenario.threads ≤ most_threads = valid.few_threads in
     let threads : c.threads-threads.result.now ≡ scenario.threads = c.threads-threads.ensures.same ∙ ap (λ (s : Scenario). s.threads) c.scenario-scenario.ensures in
     let channels : c.channels-channels.result.now ≡ scenario.channels = c.channels-channels.ensures.same ∙ ap (λ (s : Scenario). s.channels) c.scenario-scenario.ensures in
     c.in_ok-add_threads.ensures

@@ -1,6 +1,7 @@
 use Rattle.std.proofs.Common.{◌≡◌, ℕ, ◌∙◌, ◌++◌, List, ap, string_bytes, arith}
 use Rattle.std.specs.Prelude.{slice_index}
 use Rattle.std.specs.List.{flat_map, range_with_len}
+use Rattle.aps_model.specs.Limits.{most_partitions}
 use Rattle.aps_latency.specs.Text.{bill_line, bill_lines}
 use Rattle.aps_latency.proofs.Pieces.{number_more}
 use Rattle.aps_latency.proofs.lines.add_bills.Goals as goal
@@ -11,6 +12,6 @@ loop-p-preserved c = number_more (λ p. bill_line p (slice_index c.args.bills.no
 pub returns : goal.returns
 unfolding bill_lines
 returns c =
-    let all : c.loop-p.p ≡ 32 = omega arith in
+    let all : c.loop-p.p ≡ most_partitions = omega arith in
     let line : ℕ → List ℕ = λ p. bill_line p (slice_index c.args.bills.now.used p) in
     c.loop-p.invariant ∙ ap (λ n. string_bytes c.args.out.now ++ flat_map line (range_with_len 0 n)) all

@@ -1,5 +1,6 @@
 use Rattle.std.proofs.Common.{◌≡◌, refl, get_or, replicate, subst, sym}
 use Rattle.std.proofs.lemmas.List.{get_or-replicate}
+use Rattle.aps_model.specs.Limits.{most_partitions}
 use Rattle.aps_pictures.specs.declared.group.Point.{Point}
 use Rattle.aps_pictures.specs.Group.{no_point, unread_point}
 use Rattle.aps_pictures.proofs.group.empty_group.Goals as goal
@@ -9,5 +10,5 @@ returns c = record {
   from = refl;
   end = refl;
   unchanged = refl;
-  points = λ p less. subst (λ (one : Point). get_or (replicate 32 one) p unread_point ≡ no_point) (sym c.no_point.ensures) (get_or-replicate 32 p no_point unread_point less);
+  points = λ p less. subst (λ (one : Point). get_or (replicate most_partitions one) p unread_point ≡ no_point) (sym c.no_point.ensures) (get_or-replicate most_partitions p no_point unread_point less);
 }

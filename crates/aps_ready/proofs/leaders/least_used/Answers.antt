@@ -1,4 +1,5 @@
 use Rattle.std.proofs.Common.{◌≡◌, ℕ, ◌%◌, ◌<◌, length, true, ◌||◌}
+use Rattle.aps_model.specs.Limits.{most_partitions}
 use Rattle.aps_levels.specs.Bits.{has}
 use Rattle.aps_ready.proofs.Fewer.{was_in, fewer}
 use Rattle.aps_ready.proofs.Leading.{cut_of, kept_in, none_leading, leading_same, leaders_of, more_of, seen_of, none_seen, one_more, all_seen}
@@ -15,8 +16,8 @@ partitions-init c =
       some = λ p h. c.partitions_of.ensures.some p (cut p h).1;
       known = λ p h. (cut p h).0;
       are = none_leading parts (seen_of wanted left) c.nobody-leaders.result
-          (λ g below. none_seen (wanted g) (left (g % 32))
-          (λ h. kept_in all left (length parts) (g % 32) c.below-left.ensures (c.requires.known g below h)
+          (λ g below. none_seen (wanted g) (left (g % most_partitions))
+          (λ h. kept_in all left (length parts) (g % most_partitions) c.below-left.ensures (c.requires.known g below h)
           (c.partitions_of.ensures.all g below h)))
           c.nobody-leaders.ensures.groups c.nobody-leaders.ensures.used c.nobody-leaders.ensures.budget;
     }
@@ -47,5 +48,5 @@ returns c =
     let wanted = has c.args.groups in
     leaders_of parts wanted c.partitions.leaders c.meet.result
     (leading_same parts (seen_of wanted (has c.partitions.left)) wanted c.partitions.leaders
-    (λ g _. all_seen (wanted g) (has c.partitions.left (g % 32)) (c.in_default.ensures.none (g % 32))) c.partitions.invariant.are)
+    (λ g _. all_seen (wanted g) (has c.partitions.left (g % most_partitions)) (c.in_default.ensures.none (g % most_partitions))) c.partitions.invariant.are)
     c.meet.ensures

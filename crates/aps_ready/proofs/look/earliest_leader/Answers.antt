@@ -8,6 +8,7 @@ use Rattle.aps_ready.specs.Leaders.{is_less_than, AreLeaders}
 use Rattle.aps_ready.proofs.Among.{best_of_leaders, best_of_nobody, least_at_level}
 use Rattle.aps_ready.proofs.Tops.{kept}
 use Rattle.aps_ready.proofs.look.earliest_leader.Goals as goal
+use Rattle.aps_ready.specs.Group.{group_count}
 
 first : (a b : Bool) → (a && b) ≡ true → a ≡ true
 first true b h = cc
@@ -17,7 +18,7 @@ clash : (t : Bool) → t ≡ true → t ≡ false → ⊥
 clash t p q = cc
 
 -- the leaders are of these groups
-leads_among : (parts : List PartFacts) (groups : Bits64) (leaders : Leaders) (g : ℕ) → AreLeaders parts (has groups) leaders → g < 64
+leads_among : (parts : List PartFacts) (groups : Bits64) (leaders : Leaders) (g : ℕ) → AreLeaders parts (has groups) leaders → g < group_count
     → has leaders.groups g ≡ true → has groups g ≡ true
 leads_among parts groups leaders g are below h =
     first (has groups g) (not (is_less_than parts leaders.used leaders.budget g)) (sym (are.these g below) ∙ h)
@@ -43,7 +44,7 @@ returns-else-is_empty c =
     let parts = c.args.parts.now in
     let leaders = c.least_used-leaders.result in
     let some = c.if-is_empty.ensures.some (search rules) in
-    let inside : (g : ℕ) → g < 64 → has leaders.groups g ≡ true → has c.args.groups g ≡ true =
+    let inside : (g : ℕ) → g < group_count → has leaders.groups g ≡ true → has c.args.groups g ≡ true =
     λ g below h. leads_among parts c.args.groups leaders g c.least_used-leaders.ensures below h in
     best_of_leaders parts row (firsts_of row) (has c.args.groups) (has leaders.groups) leaders
     c.earliest.result (kept row c.requires.queued) c.least_used-leaders.ensures

@@ -8,6 +8,7 @@ use Rattle.aps_ready.proofs.Among.{best_of_open}
 use Rattle.aps_ready.proofs.Tops.{kept}
 use Rattle.aps_ready.proofs.Winner.{near_wins}
 use Rattle.aps_ready.proofs.look.near.Goals as goal
+use Rattle.aps_ready.specs.Group.{group_count}
 
 pub returns-then-are_known : goal.returns-then-are_known
 returns-then-are_known c free there =
@@ -16,7 +17,7 @@ returns-then-are_known c free there =
     let found = c.in-Some.found in
     let same = c.of_first.ensures.same there in
     let best = c.best_at_level.result in
-    let best_there : best.group < 64 = subst (λ (e : Entrant). e.group < 64) same there in
+    let best_there : best.group < group_count = subst (λ (e : Entrant). e.group < group_count) same there in
     let opened : open_first parts best.group ≡ true = subst (λ (e : Entrant). open_first parts e.group ≡ true) same (c.of_first.ensures.first there) in
     subst (IsWinner free parts row) (sym same)
     (near_wins free parts row (firsts_of row) c.occupied.result found.groups best

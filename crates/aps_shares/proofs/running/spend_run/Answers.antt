@@ -1,4 +1,5 @@
 use Rattle.std.proofs.Common.{◌≤◌, ◌∙◌, ap, subst, sym}
+use Rattle.aps_model.specs.Limits.{most_entries}
 use Rattle.aps_core.specs.Run.{Run, Setup}
 use Rattle.aps_shares.proofs.running.spend_run.Goals as goal
 
@@ -12,4 +13,4 @@ loop-alloc-preserved c = record {
 }
 
 pub go_on-requires-clause-few : goal.go_on-requires-clause-few
-go_on-requires-clause-few c = subst (λ (s : Setup). s.limit ≤ 4000000) (sym c.loop-alloc.invariant.setup) c.requires.few
+go_on-requires-clause-few c = subst (λ (s : Setup). s.limit ≤ most_entries) (sym c.loop-alloc.invariant.setup) c.requires.few

@@ -1,5 +1,6 @@
 use Rattle.std.proofs.Common.{◌≡◌, ◌∙◌, ap, refl, arith}
 use Rattle.std.specs.List.{sum_by, range_with_len}
+use Rattle.aps_model.specs.Limits.{most_partitions}
 use Rattle.aps_shares.specs.Share.{taken_by}
 use Rattle.aps_shares.proofs.Folded.{sum_more}
 use Rattle.aps_shares.proofs.share.others.Goals as goal
@@ -12,5 +13,5 @@ loop-q-preserved c = record {
 
 pub returns : goal.returns
 returns c =
-    let all : c.loop-q.q ≡ 32 = omega arith in
+    let all : c.loop-q.q ≡ most_partitions = omega arith in
     c.loop-q.invariant.same ∙ ap (λ n. sum_by (taken_by c.args.turn c.args.p c.args.sample.now) (range_with_len 0 n)) all

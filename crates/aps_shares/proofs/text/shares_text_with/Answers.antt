@@ -2,6 +2,7 @@ use Rattle.std.proofs.Common.{◌≡◌, ◌≤◌, ◌++◌, ◌∙◌, ℕ, Li
 use Rattle.std.specs.List.{flat_map, enumerate_from}
 use Rattle.aps_model.specs.declared.partition.PartitionRow.{PartitionRow}
 use Rattle.aps_model.specs.After.{state_after}
+use Rattle.aps_model.specs.Limits.{most_partitions}
 use Rattle.aps_model.specs.Scenario.{Scenario}
 use Rattle.aps_shares.specs.declared.share.Share.{Share}
 use Rattle.aps_shares.specs.declared.spent.Spent.{Spent}
@@ -23,7 +24,7 @@ returns c =
     let turn : c.tick_of_all-turn.result ≡ tick_of_all scenario.shape =
     c.tick_of_all-turn.ensures ∙ ap tick_of_all (c.shape.ensures.same ∙ ap (λ (s : Scenario). s.shape) c.scenario.ensures) in
     let rows : c.as_slice.result.now ≡ (state_after scenario h).rows = c.as_slice.ensures.value ∙ c.in_ok-all.ensures.rows in
-    let few : length (state_after scenario h).rows ≤ 32 = subst (λ (r : List PartitionRow). length r ≤ 32) c.in_ok-all.ensures.rows c.in_ok-all.ensures.few in
+    let few : length (state_after scenario h).rows ≤ most_partitions = subst (λ (r : List PartitionRow). length r ≤ most_partitions) c.in_ok-all.ensures.rows c.in_ok-all.ensures.few in
     c.in_ok-add_partitions.ensures
     ∙ ap (λ t. t ++ flat_map (partition_text f a) (enumerate_from 0 c.as_slice.result.now))
     (c.in_ok-add_head.ensures ∙ ap (λ (t : List ℕ). t ++ head_lines c.in_ok-all.all.shares.counts c.tick_of_all-turn.result) c.new-out.ensures.bytes

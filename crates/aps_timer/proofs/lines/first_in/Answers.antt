@@ -1,5 +1,5 @@
 use Rattle.std.proofs.Common.{◌+◌, ◌*◌, refl, sym, ◌∙◌, subst, get_or, arith}
-use Rattle.aps_timer.specs.Lines.{no_bits}
+use Rattle.aps_timer.specs.Lines.{no_bits, words_of_line}
 use Rattle.aps_timer.proofs.Firsts.{IsPast, ended_in_line, more_past}
 use Rattle.aps_timer.proofs.lines.first_in.Goals.{After-first_of-first}
 use Rattle.aps_timer.proofs.lines.first_in.Goals as goal
@@ -13,7 +13,7 @@ more c =
     let begin = c.args.begin in
     let word = c.loop-word.word in
     subst (IsPast row lines line begin (word + 1)) (sym c.first_of-first.ensures)
-    (more_past row lines line begin word (get_or lines (16 * line + word) no_bits) c.loop-word.first c.first_in_word.result
+    (more_past row lines line begin word (get_or lines (words_of_line * line + word) no_bits) c.loop-word.first c.first_in_word.result
     (omega arith) c.loop-word.invariant refl c.first_in_word.ensures.one c.first_in_word.ensures.others)
 
 pub returns-then-wakes_by-clause-others : goal.returns-then-wakes_by-clause-others

@@ -1,10 +1,11 @@
 use Rattle.std.proofs.Common.{◌||◌, slice_index_or, false, arith, refl}
+use Rattle.aps_model.specs.Limits.{most_partitions}
 use Rattle.aps_samples.specs.Picks.{bills}
 use Rattle.aps_samples.proofs.Fill.{filled_none}
 use Rattle.aps_waves.proofs.told.with_billed.Goals as goal
 
 pub loop-p-init : goal.loop-p-init
-loop-p-init c = filled_none (λ p. bills c.args.pick.now p || slice_index_or c.args.ready.now p false) false 32 _ refl
+loop-p-init c = filled_none (λ p. bills c.args.pick.now p || slice_index_or c.args.ready.now p false) false most_partitions _ refl
 
 pub returns-clause-places : goal.returns-clause-places
 returns-clause-places c = c.loop-p.invariant.places

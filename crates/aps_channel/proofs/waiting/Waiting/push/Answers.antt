@@ -1,4 +1,5 @@
 use Rattle.std.proofs.Common.{◌++◌, ◌∷◌, [], ◌≤◌, slice_set, arith}
+use Rattle.aps_model.specs.Limits.{greatest_priority}
 use Rattle.aps_channel.specs.Waiting.{messages_at, with_messages}
 use Rattle.aps_channel.proofs.Queues.{free_of_levels}
 use Rattle.aps_channel.proofs.Records.{free_key, room_for}
@@ -24,7 +25,7 @@ left : (c : goal.After-self-1) → AreSeenQueues c.push_back.new.self c.push_bac
     c.insert_reserved-key.new.self c.self.inside.threads
     (with_messages c.args.self.now c.args.c (messages_at c.args.self.now c.args.c ++ (record { sender = c.args.sender; priority = c.args.priority }) ∷ []))
 left c =
-    let fits : c.args.priority ≤ 255 = omega (arith, c.ranges.priority.fits) in
+    let fits : c.args.priority ≤ greatest_priority = omega (arith, c.ranges.priority.fits) in
     seen_more c.self.inside.arrivals c.self.inside.levels c.push_back.new.self c.push_back-2.new.self c.self.inside.in_use.items c.self.inside.records c.insert_reserved-key.new.self
     c.index-set.result.now c.with.result c.args.c c.index-c.result c.insert_reserved-key.result c.self.inside.threads (record { sender = c.args.sender; priority = c.args.priority }) c.args.self.now
     c.self.invariant c.self.view_is c.index-c.ensures.same c.requires.channel c.requires.thread fits c.requires.free

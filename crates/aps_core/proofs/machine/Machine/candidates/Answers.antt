@@ -1,11 +1,12 @@
 use Rattle.std.proofs.Common.{arith}
 use Rattle.std.proofs.lemmas.Grind.{common_steps}
+use Rattle.aps_model.specs.Limits.{most_partitions}
 use Rattle.aps_core.proofs.Scan.{any_ready, any_other, none_marked}
 use Rattle.aps_core.proofs.machine.Machine.candidates.Goals as goal
 use Rattle.aps_core.proofs.machine.Machine.candidates.Goals.{in-Some, in_default}
 
 pub loop-x-init : goal.loop-x-init
-loop-x-init c = λ p inside. none_marked 32 p
+loop-x-init c = λ p inside. none_marked most_partitions p
 
 pub loop-x-preserved : goal.loop-x-preserved
 loop-x-preserved c =

@@ -4,6 +4,7 @@ use Rattle.aps_model.specs.TickWork.{changes_with, do_command, view_of}
 use Rattle.aps_core.specs.Calls.{command_at}
 use Rattle.aps_core.specs.Counts.{Counts}
 use Rattle.aps_core.specs.MachineView.{state_of}
+use Rattle.aps_core.specs.Room.{changes_of_a_run}
 use Rattle.aps_core.proofs.Commands.{IsPerformed, added_change, counts_performed, done_by, few_replies, performed_machine, performed_of}
 use Rattle.aps_core.proofs.machine.Machine.do_command.Goals as goal
 
@@ -47,7 +48,7 @@ push_change-requires c =
     (c.mark_by.ensures.law call s.rows s.shape c.view_of-view.result c.perform-answer.ensures.answer)
     (c.self-2.view_is ∙ c.set_mark.ensures) in
     let one = added_change s h j c.args.place (record { tick = c.args.tick; call = c.args.call.now }) c.perform-answer.result c.change_by-change.result c.in-Some.kind t done c.in-Some.is in
-    let few = subst (λ (u : SchedulerState). length (do_command h j u (command_at c.args.tick c.args.place c.args.call.now)).changes ≤ 2079) (sym c.self.view_is) c.requires.changes in
+    let few = subst (λ (u : SchedulerState). length (do_command h j u (command_at c.args.tick c.args.place c.args.call.now)).changes ≤ changes_of_a_run) (sym c.self.view_is) c.requires.changes in
     let space = c.self-2.invariant.change_room in
     record { room = omega (arith, one, few, space) }
 

@@ -5,7 +5,7 @@ use Rattle.std.proofs.Math.ListN.{drop_of_length-le}
 use Rattle.std.proofs.lemmas.List.{take_all}
 use Rattle.aps_laws.proofs.EachThread.{go_on_count}
 use Rattle.aps_model.specs.SchedulerState.{SchedulerState}
-use Rattle.aps_core.specs.Room.{HasRoomToWake}
+use Rattle.aps_core.specs.Room.{HasRoomToWake, last_place, stamps_before}
 use Rattle.aps_model.specs.TickWork.{waking}
 use Rattle.aps_core.specs.Sleepers.{IsTimed, numbers_of}
 use Rattle.aps_core.specs.Touched.{woke}
@@ -18,12 +18,12 @@ pub loop-i-preserved : goal.loop-i-preserved
 loop-i-preserved c = record {
   same = grind (arith, common_steps, woken_more c.args.scenario.now c.args.now c.args.self.now c.take_due.new.self c.loop-i.i);
   room =
-      let place : 256 + c.loop-i.i + 1 ≡ 256 + (c.loop-i.i + 1) = omega arith in
-      let stamp : 6000000000 + c.loop-i.i + 1 ≡ 6000000000 + (c.loop-i.i + 1) = omega arith in
-      subst (λ p. HasRoomToWake p (6000000000 + (c.loop-i.i + 1)) c.go_on.new.self) place
-      (subst (λ n. HasRoomToWake (256 + c.loop-i.i + 1) n c.go_on.new.self) stamp
-      (subst (HasRoomToWake (256 + c.loop-i.i + 1) (6000000000 + c.loop-i.i + 1)) (sym c.go_on.ensures)
-      (woken_room c.args.scenario.now (256 + c.loop-i.i) (6000000000 + c.loop-i.i) c.loop-i.self c.at-x.result c.args.now c.loop-i.invariant.room)));
+      let place : last_place + c.loop-i.i + 1 ≡ last_place + (c.loop-i.i + 1) = omega arith in
+      let stamp : stamps_before + c.loop-i.i + 1 ≡ stamps_before + (c.loop-i.i + 1) = omega arith in
+      subst (λ p. HasRoomToWake p (stamps_before + (c.loop-i.i + 1)) c.go_on.new.self) place
+      (subst (λ n. HasRoomToWake (last_place + c.loop-i.i + 1) n c.go_on.new.self) stamp
+      (subst (HasRoomToWake (last_place + c.loop-i.i + 1) (stamps_before + c.loop-i.i + 1)) (sym c.go_on.ensures)
+      (woken_room c.args.scenario.now (last_place + c.loop-i.i) (stamps_before + c.loop-i.i) c.loop-i.self c.at-x.result c.args.now c.loop-i.invariant.room)));
   count =
       c.time.ensures.count ∙ c.loop-i.invariant.count
       ∙ sym (ap (λ (s : SchedulerState). length s.threads) c.go_on.ensures ∙ go_on_count c.args.scenario.now c.loop-i.self c.at-x.result c.args.now);

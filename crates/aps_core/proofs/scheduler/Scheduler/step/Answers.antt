@@ -7,6 +7,7 @@ use Rattle.aps_model.specs.declared.shape.Shape.{Shape}
 use Rattle.aps_model.specs.declared.state.Pick.{Pick}
 use Rattle.aps_model.specs.Bill.{bill_of}
 use Rattle.aps_model.specs.Due.{due}
+use Rattle.aps_model.specs.Limits.{last_moment, most_commands}
 use Rattle.aps_model.specs.Messages.{Effect}
 use Rattle.aps_model.specs.SchedulerState.{SchedulerState, cpu_at, thread_at}
 use Rattle.aps_model.specs.Shape.{IsShape}
@@ -22,7 +23,7 @@ use Rattle.aps_core.specs.Kept.{IsKept}
 use Rattle.aps_core.specs.LastEnds.{AreEnds}
 use Rattle.aps_core.specs.Pending.{IsPending}
 use Rattle.aps_core.specs.Posts.{ArePosts}
-use Rattle.aps_core.specs.Room.{HasRoomToWake}
+use Rattle.aps_core.specs.Room.{HasRoomToWake, changes_of_a_run, last_place, stamps_before}
 use Rattle.aps_core.specs.Seats.{who_at}
 use Rattle.aps_core.specs.Sleepers.{sleepers_of}
 use Rattle.aps_core.specs.Standing.{DoOthersStand}
@@ -57,14 +58,14 @@ begin_tick-commanded-requires-clause-work c = record {
       (omega (arith, c.requires.ready.rises, (c.of-now.ensures ∙ c.requires.after.nexts c.args.cpu c.requires.ready.exists))) c.tick_of-tick.ensures.same c.go_on-is_later.ensures.same c.begin-running.ensures.same;
   early = rw (c.of-now.ensures ∙ c.requires.after.nexts c.args.cpu c.requires.ready.exists) c.requires.ready.early;
   room =
-      subst (HasRoomToWake 256 6000000000) (sym c.begin-running.ensures.same)
+      subst (HasRoomToWake last_place stamps_before) (sym c.begin-running.ensures.same)
       (record { places = c.requires.ready.wakes.places; stamps = c.requires.ready.wakes.stamps });
   timed = c.requires.after.timed ∙ ap sleepers_of (sym c.begin-running.ensures.same);
   replies =
-      subst (λ (s : SchedulerState). length s.replies ≤ 1024)
+      subst (λ (s : SchedulerState). length s.replies ≤ most_commands)
       (sym (ticked_by c.args.scenario.now c.args.self.now.machine c.args.entries.now c.args.cpu _ _ _ (c.of-now.ensures ∙ c.requires.after.nexts c.args.cpu c.requires.ready.exists) c.begin-running.ensures.same refl)) c.requires.ready.replies;
   changes =
-      subst (λ (s : SchedulerState). length s.changes ≤ 2079)
+      subst (λ (s : SchedulerState). length s.changes ≤ changes_of_a_run)
       (sym (ticked_by c.args.scenario.now c.args.self.now.machine c.args.entries.now c.args.cpu _ _ _ (c.of-now.ensures ∙ c.requires.after.nexts c.args.cpu c.requires.ready.exists) c.begin-running.ensures.same refl)) c.requires.ready.changes_ticked;
 }
 
@@ -86,7 +87,7 @@ bill-requires-clause-forward c = rw (c.bill_of-e.ensures.from, c.bill_of-e.ensur
 
 pub bill-requires-clause-since : goal.bill-requires-clause-since
 bill-requires-clause-since c =
-    subst (λ (s : SchedulerState). (x : ℕ) → (thread_at s x).since ≤ 10000000000000)
+    subst (λ (s : SchedulerState). (x : ℕ) → (thread_at s x).since ≤ last_moment)
     (sym (ticked_by c.args.scenario.now c.args.self.now.machine c.args.entries.now c.args.cpu _ _ _ (c.of-now.ensures ∙ c.requires.after.nexts c.args.cpu c.requires.ready.exists) c.begin-running.ensures.same c.begin_tick-commanded.ensures.same))
     c.requires.ready.since
 

@@ -4,7 +4,7 @@ use Rattle.aps_model.specs.SchedulerState.{SchedulerState}
 use Rattle.aps_ctl.specs.Pending.{all_at}
 use Rattle.aps_model.specs.TickWork.{wake_all}
 use Rattle.aps_core.specs.Kept.{IsKept}
-use Rattle.aps_core.specs.Room.{HasRoomToWake}
+use Rattle.aps_core.specs.Room.{HasRoomToWake, last_place, stamps_before}
 use Rattle.aps_core.specs.Seats.{seat_at}
 use Rattle.aps_core.specs.Sleepers.{sleepers_of}
 use Rattle.aps_core.proofs.Commands.{commands_room}
@@ -43,8 +43,8 @@ do_commands-commanded-requires-clause-changes c =
 
 pub wake_all-requires-clause-room : goal.wake_all-requires-clause-room
 wake_all-requires-clause-room c =
-    let place : ℕ = 256 in
-    let stamp : ℕ = 6000000000 in
+    let place : ℕ = last_place in
+    let stamp : ℕ = stamps_before in
     subst (HasRoomToWake place stamp) (sym c.do_commands-commanded.ensures.same)
     (commands_room place stamp c.args.entries.now c.args.tick (all_at c.args.tick c.args.self.now.ctl) c.args.self.now.machine c.requires.room)
 

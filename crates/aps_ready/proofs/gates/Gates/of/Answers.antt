@@ -1,5 +1,6 @@
 use Rattle.std.proofs.Common.{◌≡◌, ℕ, ◌+◌, [], cond, nat_eq, ap, ◌∙◌, arith}
 use Rattle.aps_model.specs.Budget.{part_at}
+use Rattle.aps_model.specs.Limits.{most_partitions}
 use Rattle.aps_ready.proofs.GateLaws.{gates_same, told, told_none, told_more, told_all}
 use Rattle.aps_ready.proofs.gates.Gates.of.Goals as goal
 
@@ -17,6 +18,6 @@ loop-p-preserved c =
 pub returns : goal.returns
 returns c =
     let parts = c.args.parts.now in
-    let all : c.loop-p.p ≡ 32 = omega arith in
+    let all : c.loop-p.p ≡ most_partitions = omega arith in
     gates_same (told parts c.loop-p.p) (part_at parts) c.loop-p.gates
     (λ q below. ap (λ (n : ℕ). told parts n q) all ∙ told_all parts q below) c.loop-p.invariant

@@ -5,6 +5,7 @@ use Rattle.aps_ready.proofs.Fewer.{fewer}
 use Rattle.aps_ready.proofs.Earliest.{best_of_one, best_of_more, all_seen}
 use Rattle.aps_ready.proofs.lists.Lists.earliest.Goals.{then-other-best, else-other-best}
 use Rattle.aps_ready.proofs.lists.Lists.earliest.Goals as goal
+use Rattle.aps_ready.specs.Group.{group_count}
 
 pub groups-init : goal.groups-init
 groups-init c =
@@ -15,7 +16,7 @@ groups-init c =
 pub groups-smaller : goal.groups-smaller
 groups-smaller c =
     let least = c.in-Some-least.ensures.some in
-    fewer (has c.groups.left) (has c.without_least-left-in-Some-least.result) c.in-Some-least.group 64
+    fewer (has c.groups.left) (has c.without_least-left-in-Some-least.result) c.in-Some-least.group group_count
     (c.without_least-left-in-Some-least.ensures c.in-Some-least.group least) least.here least.below
 
 pub groups-preserved : goal.groups-preserved

@@ -4,6 +4,7 @@ use Rattle.aps_ready.specs.Entrant.{entrant_at}
 use Rattle.aps_ready.specs.Lists.{head_of, link, AreLists, IsPlace}
 use Rattle.aps_ready.proofs.ListLaws.{lists_entered}
 use Rattle.aps_ready.proofs.lists.Lists.enter.Goals as goal
+use Rattle.aps_ready.specs.Group.{group_count}
 
 pub invariant_of-self : goal.invariant_of-self
 invariant_of-self c =
@@ -21,6 +22,6 @@ invariant_of-self c =
     (subst (λ (before : List ℕ). AreLists new (set (set s.after.items p x) x (link s.after.items p)) before c.enter.new.self) (sym c.link.ensures.before)
     (lists_entered s.row.items s.after.items s.before.items s.table c.enter.new.self x p one c.self.invariant
     (omega (arith, c.requires.inside, ap length view)) c.requires.group c.requires.level refl
-    (subst (λ (row : List Entrant). 64 ≤ (entrant_at row x).group) (sym view) c.requires.out)
-    (subst (λ (row : List Entrant). (y : ℕ) → (entrant_at row y).group < 64 → (entrant_at row y).stamp ≢ one.stamp) (sym view) c.requires.stamp)
+    (subst (λ (row : List Entrant). group_count ≤ (entrant_at row x).group) (sym view) c.requires.out)
+    (subst (λ (row : List Entrant). (y : ℕ) → (entrant_at row y).group < group_count → (entrant_at row y).stamp ≢ one.stamp) (sym view) c.requires.stamp)
     place c.enter.ensures))

@@ -1,16 +1,18 @@
 use Rattle.std.proofs.Common.{◌≡◌, ℕ, ◌<◌, ◌∙◌, ap, arith, length, List}
 use Rattle.std.proofs.lemmas.List.{get_or_read}
+use Rattle.aps_levels.specs.Levels.{level_count}
 use Rattle.aps_ready.specs.declared.entrant.Entrant.{Entrant}
 use Rattle.aps_ready.specs.Entrant.{entrant_at, vacant}
 use Rattle.aps_ready.specs.Firsts.{firsts_of, level_of}
-use Rattle.aps_ready.specs.Lists.{head_of, link}
+use Rattle.aps_ready.specs.Lists.{head_of, link, node_count}
 use Rattle.aps_ready.proofs.ListLaws.{head_low}
 use Rattle.aps_ready.proofs.Looks.{IsFirstOf, first_is}
 use Rattle.aps_ready.proofs.lists.Lists.first.Goals as goal
+use Rattle.aps_ready.specs.Group.{group_count}
 
 -- the node that was read is that of the first
 read_first : (row seen : List Entrant) (after before : List ℕ) (l g head r : ℕ) → row ≡ seen → head ≡ head_of l g
-    → length after ≡ 17408 → l < 256 → g < 64 → r ≡ link after head → IsFirstOf row after l g
+    → length after ≡ node_count → l < level_count → g < group_count → r ≡ link after head → IsFirstOf row after l g
     → (r < length row) × (entrant_at row r ≡ entrant_at (firsts_of seen) g)
 read_first row seen after before l g head r view head_is size l_below g_below read first =
     let at : r ≡ link after (head_of l g) = read ∙ ap (link after) head_is in

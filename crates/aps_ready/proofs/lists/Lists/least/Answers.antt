@@ -1,6 +1,7 @@
 use Rattle.std.proofs.Common.{ℕ, ◌<◌, List, Option, Some, None, IfSome, IfNone, subst}
 use Rattle.aps_levels.specs.declared.bits.Bits64.{Bits64}
 use Rattle.aps_levels.specs.Bits.{has}
+use Rattle.aps_levels.specs.Levels.{level_count}
 use Rattle.aps_ready.specs.declared.entrant.Entrant.{Entrant}
 use Rattle.aps_ready.specs.declared.table.Found.{Found}
 use Rattle.aps_ready.specs.Firsts.{firsts_of, AreAt, AreEmpty, AreLeast}
@@ -22,7 +23,7 @@ some_at row after before at_level set (Some found) lists is = least_at row after
 some_at row after before at_level set None lists is = is
 
 none_empty : (row : List Entrant) (after before : List ℕ) (at_level : List Bits64) (set : Bits64) (r : Option Found) → AreLists row after before at_level
-    → IfNone r ((l : ℕ) → l < 256 → IsFree at_level (has set) l) → IfNone r (AreEmpty (firsts_of row) set)
+    → IfNone r ((l : ℕ) → l < level_count → IsFree at_level (has set) l) → IfNone r (AreEmpty (firsts_of row) set)
 none_empty row after before at_level set (Some found) lists is = is
 none_empty row after before at_level set None lists is = none_least row after before at_level set lists is
 

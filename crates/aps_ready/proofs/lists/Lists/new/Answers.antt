@@ -1,6 +1,6 @@
 use Rattle.std.proofs.Common.{◌≡◌, ◌∙◌, ap, sym, subst, arith, replicate, List}
 use Rattle.aps_ready.specs.declared.entrant.Entrant.{Entrant}
-use Rattle.aps_ready.specs.Lists.{AreLists}
+use Rattle.aps_ready.specs.Lists.{AreLists, node_count}
 use Rattle.aps_ready.proofs.ListLaws.{lists_empty}
 use Rattle.aps_ready.proofs.lists.Lists.new.Goals as goal
 
@@ -8,8 +8,8 @@ pub invariant_of-result : goal.invariant_of-result
 invariant_of-result c =
     let forth = c.forth in
     let back = c.back in
-    let ends_forth : forth.node ≡ 17408 = omega (arith, c.forth-test.false, forth.auto.node-end) in
-    let ends_back : back.node ≡ 17408 = omega (arith, c.back-test.false, back.auto.node-end) in
+    let ends_forth : forth.node ≡ node_count = omega (arith, c.forth-test.false, forth.auto.node-end) in
+    let ends_back : back.node ≡ node_count = omega (arith, c.back-test.false, back.auto.node-end) in
     subst (λ (row : List Entrant). AreLists row forth.after.items back.before.items c.in_ok-table.table)
     (sym (c.in_ok-row.ensures.items_if_clones_equal (λ y h. h) ∙ ap (replicate c.args.threads) c.vacant.ensures))
     (lists_empty c.args.threads forth.after.items back.before.items c.in_ok-table.table c.requires

@@ -7,6 +7,7 @@ use Rattle.aps_ready.specs.Ready.{seat_of, with_facts, IsFree}
 use Rattle.aps_ready.proofs.Queued.{place_in_row, seen_at, is_in, changed_seat, free_without}
 use Rattle.aps_ready.specs.Entrant.{entrant_at}
 use Rattle.aps_ready.proofs.ready.Ready.change.Goals as goal
+use Rattle.aps_ready.specs.Group.{group_count}
 
 pub at-stamp-requires : goal.at-stamp-requires
 at-stamp-requires c = place_in_row c.self.inside.lists c.args.self.now c.args.x c.index.result c.self.view_is c.requires.inside c.index.ensures.same
@@ -17,7 +18,7 @@ put-requires-clause-stamp c =
     let i = c.index.result in
     let within : i < length row = place_in_row row c.args.self.now c.args.x i c.self.view_is c.requires.inside c.index.ensures.same in
     let seen = seen_at row c.args.self.now c.args.x i c.self.view_is c.requires.inside c.index.ensures.same in
-    let present : (entrant_at row i).group < 64 = is_in (entrant_at row i) (λ none. c.requires.present (sym seen ∙ none)) in
+    let present : (entrant_at row i).group < group_count = is_in (entrant_at row i) (λ none. c.requires.present (sym seen ∙ none)) in
     subst (All (IsFree c.at-stamp.result.stamp))
     (ap (λ (l : List (Option Contender)). set l i None) c.self.view_is ∙ ap (λ (j : ℕ). set c.args.self.now j None) c.index.ensures.same ∙ sym c.take.ensures)
     (free_without row i c.at-stamp.result.stamp c.self.invariant.0 within present (ap (λ (e : Entrant). e.stamp) c.at-stamp.ensures))
@@ -30,7 +31,7 @@ returns c =
     let within : i < length row = place_in_row row old c.args.x i c.self.view_is c.requires.inside c.index.ensures.same in
     let seen : seat_of (entrant_at row i) ≡ slice_index_or old c.args.x None =
     seen_at row old c.args.x i c.self.view_is c.requires.inside c.index.ensures.same in
-    let present : (entrant_at row i).group < 64 = is_in (entrant_at row i) (λ none. c.requires.present (sym seen ∙ none)) in
+    let present : (entrant_at row i).group < group_count = is_in (entrant_at row i) (λ none. c.requires.present (sym seen ∙ none)) in
     let thread : (entrant_at row i).thread ≡ c.args.x = c.self.invariant.0.threads i within present ∙ c.index.ensures.same in
     let known : ℕ → Option Contender = λ (s : ℕ). Some (record { thread = c.args.x; facts = c.args.facts; stamp = s }) in
     c.put.ensures

@@ -1,5 +1,6 @@
 use Rattle.std.proofs.Common.{◌≡◌, ◌<◌, ℕ, Bool, List, Option, Some, true, false, sym, ◌∙◌, ap}
 use Rattle.aps_model.specs.declared.merit.Contender.{Contender}
+use Rattle.aps_model.specs.Limits.{most_partitions}
 use Rattle.aps_model.specs.Pick.{missing}
 use Rattle.aps_levels.specs.Bits.{has}
 use Rattle.aps_ready.specs.Ready.{members}
@@ -29,7 +30,7 @@ returns-in-Some c parts are few =
 
 pub returns-in_default : goal.returns-in_default
 returns-in_default c parts are few =
-    let none : (k : ℕ) → k < 32 → has c.minus-starved.result k ≡ false = elim c.in_default.branch [
+    let none : (k : ℕ) → k < most_partitions → has c.minus-starved.result k ≡ false = elim c.in_default.branch [
       | in_default-via-in-Some+else-p-lt-MOST_PARTITIONS w ↦ λ k below.
           absurd (clash (has c.minus-starved.result w.in-Some.p) w.in-Some.ensures.some.here
           (not_past parts c.args.gates c.join-2.result c.minus-starved.result w.in-Some.p are w.in-Some.ensures.some.below

@@ -5,6 +5,7 @@ use Rattle.aps_ready.specs.Ready.{seat_of, IsQueued}
 use Rattle.aps_ready.proofs.Queued.{seats_set, seen, seen_at, queued_set, free_stamp, place_in_row, in_group, is_out}
 use Rattle.aps_ready.proofs.Rings.{within_row}
 use Rattle.aps_ready.proofs.ready.Ready.put.Goals as goal
+use Rattle.aps_ready.specs.Group.{group_count}
 
 pub enter-requires : goal.enter-requires
 enter-requires c =
@@ -12,7 +13,7 @@ enter-requires c =
     let e = c.entrant_of.result in
     let is = c.entrant_of.ensures.same in
     let x : e.thread ≡ c.args.x = ap (λ (f : Entrant). f.thread) is in
-    let out : 64 ≤ (entrant_at row e.thread).group =
+    let out : group_count ≤ (entrant_at row e.thread).group =
     is_out (entrant_at row e.thread) (seen_at row c.args.self.now c.args.x e.thread c.self.view_is c.requires.inside x ∙ c.requires.out) in
     record {
       group = omega (arith, ap (λ (f : Entrant). f.group) is, in_group c.args.facts c.entrant_of.ensures.partition);

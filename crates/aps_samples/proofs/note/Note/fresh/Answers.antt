@@ -4,6 +4,7 @@ use Rattle.aps_model.specs.declared.partition.PartitionRow.{PartitionRow}
 use Rattle.aps_model.specs.declared.shape.Shape.{Shape}
 use Rattle.aps_model.specs.Audit.{allowance}
 use Rattle.aps_model.specs.History.{History}
+use Rattle.aps_model.specs.Limits.{most_partitions}
 use Rattle.aps_model.specs.Partition.{row_or_none}
 use Rattle.aps_core.specs.Run.{state_of}
 use Rattle.aps_samples.proofs.note.Note.fresh.Goals as goal
@@ -19,8 +20,8 @@ returns c =
             c.allowances.ensures p less ∙ ap (λ (s : Shape). allowance s (row_or_none c.rows.result.now p).budget) shape
             ∙ ap (λ (l : List PartitionRow). allowance (state_of c.args.core.now).shape (row_or_none l p).budget) rows;
       };
-      lacking = λ p less. get_or-replicate 32 p false false less;
-      out = λ p less. get_or-replicate 32 p false false less;
+      lacking = λ p less. get_or-replicate most_partitions p false false less;
+      out = λ p less. get_or-replicate most_partitions p false false less;
       starved = refl;
       changed = refl;
     }

@@ -4,6 +4,7 @@ use Rattle.aps_model.specs.declared.command.Change.{Change}
 use Rattle.aps_model.specs.declared.entry.Entry.{Entry}
 use Rattle.aps_model.specs.After.{state_after}
 use Rattle.aps_model.specs.History.{History, IsEntry}
+use Rattle.aps_model.specs.Limits.{most_cpus}
 use Rattle.aps_core.specs.Run.{Run, state_of}
 use Rattle.aps_core.specs.Turn.{IsTaken, with_entry}
 use Rattle.aps_samples.specs.Look.{IsLook, IsSeen}
@@ -74,8 +75,8 @@ returns-clause-up c =
     let look : IsLook scenario (take self.next h) e c.at-look.result = returns-clause-look c in
     let sums = c.add.new.self in
     let small = c.index-cpu.ensures.small in
-    let few : e.cpu < 16 = omega (arith, small, cpu) in
-    let places : length self.free ≡ 16 = omega arith in
+    let few : e.cpu < most_cpus = omega (arith, small, cpu) in
+    let places : length self.free ≡ most_cpus = omega arith in
     let all : GoesOnBy self.sums.all c.args.tick e e.critical sums.all = subst (λ (d : Entry). GoesOnBy self.sums.all c.args.tick d d.critical sums.all) is c.add.ensures.all in
     let free_there : GoesOnBy self.sums.free c.args.tick c.index-entries-self.result (slice_index_or self.free e.cpu false) sums.free =
     subst (λ k. GoesOnBy self.sums.free c.args.tick c.index-entries-self.result (slice_index_or self.free k false) sums.free) cpu c.add.ensures.free in

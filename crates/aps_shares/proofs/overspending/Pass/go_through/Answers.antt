@@ -1,6 +1,7 @@
 use Rattle.std.proofs.Common.{◌≡◌, ◌≤◌, ◌∙◌, List, ap, sym, subst, arith}
 use Rattle.std.proofs.lemmas.List.{take_all}
 use Rattle.aps_model.specs.declared.entry.Entry.{Entry}
+use Rattle.aps_model.specs.Limits.{most_entries}
 use Rattle.aps_core.specs.Run.{Run}
 use Rattle.aps_core.specs.Turn.{with_entry}
 use Rattle.aps_steps.specs.Entry.{entry_of}
@@ -26,7 +27,7 @@ go_on-requires-clause-turn c =
     (taken_at c.args.self.now.core.setup c.loop-e.self.core c.args.entries.now c.loop-e.e-index c.e-item.result c.loop-e.invariant.core c.requires.legal c.loop-e-test.true (sym c.e-item.is) c.requires.few).turn
 
 pub go_on-requires-clause-few : goal.go_on-requires-clause-few
-go_on-requires-clause-few c = subst (λ (r : Run). r.setup.limit ≤ 4000000) (sym c.loop-e.invariant.core) c.requires.most
+go_on-requires-clause-few c = subst (λ (r : Run). r.setup.limit ≤ most_entries) (sym c.loop-e.invariant.core) c.requires.most
 
 pub loop-e-preserved : goal.loop-e-preserved
 loop-e-preserved c =

@@ -1,6 +1,7 @@
 use Rattle.std.proofs.Common.{◌≡◌, ◌-◌, List, ℕ, length, drop, ap, subst, arith, append_assoc, take_all, length-drop}
 use Rattle.std.specs.Str.{IsAscii}
 use Rattle.aps_text.proofs.line.LineBuffer.line.Goals as goal
+use Rattle.aps_text.specs.Line.{longest_line}
 
 pub put_span-requires : goal.put_span-requires
 put_span-requires c = omega (arith, ap length c.clear.ensures, ap length c.put_byte.ensures)
@@ -10,7 +11,7 @@ returns c =
     let f = c.filled.inside in
     let whole : drop f.start f.bytes ≡ c.put_span.new.self = c.filled.view_is in
     let ascii : IsAscii c.put_span.new.self = subst (λ (bs : List ℕ). IsAscii bs) whole c.filled.invariant.1 in
-    rw (take_all (87 - f.start) (drop f.start f.bytes) (omega (arith, length-drop f.start f.bytes)), whole) record {
+    rw (take_all (longest_line - f.start) (drop f.start f.bytes) (omega (arith, length-drop f.start f.bytes)), whole) record {
       text = rw (c.put_span.ensures.text, c.put_bill.ensures.text, c.put_done.ensures.text, c.put_byte.ensures, c.put_pick.ensures.text, c.clear.ensures) (simp append_assoc);
       short = omega (arith, ap length c.clear.ensures, ap length c.put_byte.ensures);
       ascii = ascii;

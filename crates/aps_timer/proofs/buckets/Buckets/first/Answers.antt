@@ -1,4 +1,5 @@
 use Rattle.std.proofs.Common.{◌≡◌, inl, inr, ℕ, ◌≤◌, false, List, Option, Some, sym, subst}
+use Rattle.aps_model.specs.Limits.{last_thread}
 use Rattle.aps_levels.specs.declared.bits.Bits64.{Bits64}
 use Rattle.aps_timer.specs.Buckets.{AreNear, IsFurther, IsNear}
 use Rattle.aps_timer.specs.Order.{goes_before}
@@ -20,9 +21,9 @@ returns-clause-kept c =
     let begin = c.first_near-begin.result.0 in
     let further = c.first_further-further.result.0 in
     kept_still row before.lines.items before.begin begin before.further further c.requires
-    (subst (λ (lines : List Bits64). (x until : ℕ) → x ≤ 1023 → SleepsUntil row x until → IsNear lines before.begin x until → IsNear lines begin x until)
+    (subst (λ (lines : List Bits64). (x until : ℕ) → x ≤ last_thread → SleepsUntil row x until → IsNear lines before.begin x until → IsNear lines begin x until)
     c.deref.ensures.value c.first_near-begin.ensures.still)
-    (subst (λ (lines : List Bits64). (x until : ℕ) → x ≤ 1023 → SleepsUntil row x until → IsFurther lines before.further x until → IsFurther lines further x until)
+    (subst (λ (lines : List Bits64). (x until : ℕ) → x ≤ last_thread → SleepsUntil row x until → IsFurther lines before.further x until → IsFurther lines further x until)
     c.deref-2.ensures.value c.first_further-further.ensures.still)
 
 pub returns-clause-others : goal.returns-clause-others

@@ -1,5 +1,5 @@
 use Rattle.std.proofs.Common.{inl, inr, ℕ, ◌%◌, true, subst, arith}
-use Rattle.aps_timer.specs.Buckets.{bucket_of}
+use Rattle.aps_timer.specs.Buckets.{bucket_count, bucket_of, further_line}
 use Rattle.aps_timer.proofs.Kept.{IsSet, others_same, placed_still, stands_alone}
 use Rattle.aps_timer.proofs.buckets.Buckets.put.Goals as goal
 
@@ -10,7 +10,7 @@ returns-then-bucket_of-lt-BUCKETS-clause-here c =
     inl (record {
       from = omega arith;
       before = omega arith;
-      stands = stands_alone before.lines.items after (bucket_of c.args.until % 1024) c.args.x (omega arith)
+      stands = stands_alone before.lines.items after (bucket_of c.args.until % bucket_count) c.args.x (omega arith)
           (subst (λ (line : ℕ). IsSet before.lines.items after line c.args.x true) c.line_until.ensures c.place.ensures.stands) c.requires;
     })
 
@@ -26,7 +26,7 @@ returns-else-self-until-clause-here c =
     let after = c.place-else-self-until.new.lines.items in
     inr (record {
       from = omega arith;
-      stands = stands_alone before.lines.items after 1024 c.args.x (omega arith) c.place-else-self-until.ensures.stands c.requires;
+      stands = stands_alone before.lines.items after further_line c.args.x (omega arith) c.place-else-self-until.ensures.stands c.requires;
     })
 
 pub returns-else-self-until-clause-others : goal.returns-else-self-until-clause-others
@@ -34,4 +34,4 @@ returns-else-self-until-clause-others c y other few apart =
     let before = c.args.self.now in
     let after = c.place-else-self-until.new.lines.items in
     placed_still before.lines.items after before.begin before.further c.min-self.result y other
-    (others_same before.lines.items after 1024 c.args.x y true few apart c.place-else-self-until.ensures.stands) (omega arith)
+    (others_same before.lines.items after further_line c.args.x y true few apart c.place-else-self-until.ensures.stands) (omega arith)

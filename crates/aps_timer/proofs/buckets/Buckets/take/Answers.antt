@@ -1,6 +1,7 @@
 use Rattle.std.proofs.Common.{ℕ, false, ◌∙◌, subst, arith}
 use Rattle.aps_timer.proofs.Kept.{IsSet, others_same, placed_still, stands_nowhere}
 use Rattle.aps_timer.proofs.buckets.Buckets.take.Goals as goal
+use Rattle.aps_timer.specs.Buckets.{further_line}
 
 pub returns-clause-here : goal.returns-clause-here
 returns-clause-here c =
@@ -16,5 +17,5 @@ returns-clause-others c y other few apart =
     let between = c.place.new.lines.items in
     placed_still before.lines.items c.place-2.new.lines.items before.begin before.further before.further y other
     (λ l.
-    others_same between c.place-2.new.lines.items 1024 c.args.x y false few apart c.place-2.ensures.stands l
+    others_same between c.place-2.new.lines.items further_line c.args.x y false few apart c.place-2.ensures.stands l
     ∙ others_same before.lines.items between c.line_until.result c.args.x y false few apart c.place.ensures.stands l) (omega arith)

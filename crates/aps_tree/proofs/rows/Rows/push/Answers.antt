@@ -2,6 +2,7 @@ use Rattle.std.proofs.Common.{◌≡◌, ◌<◌, ◌++◌, [], ◌∷◌, lengt
 use Rattle.std.specs.Map.{keys_of, values_of}
 use Rattle.std.specs.Str.{bytes_eq}
 use Rattle.std.proofs.lemmas.List.{map-append}
+use Rattle.aps_model.specs.Limits.{most_partitions}
 use Rattle.indexmap.specs.IndexMap.{insert_entry, keys, values, spare}
 use Rattle.aps_model.specs.Partition.{partition_named}
 use Rattle.aps_tree.specs.Named.{AreByName}
@@ -14,7 +15,7 @@ entries c =
     let name = c.args.row.name in
     let free : position (bytes_eq name) (keys map) ≡ None =
     ap (position (bytes_eq name)) c.self.invariant.named ∙ found_by_name (values map) name ∙ ap (λ rows. partition_named rows name) c.self.view_is ∙ c.requires.free in
-    let few = subst (λ rows. length rows < 32) (sym c.self.view_is) c.requires.room in
+    let few = subst (λ rows. length rows < most_partitions) (sym c.self.view_is) c.requires.room in
     let is = c.insert.ensures.succeeds (has_room (keys map) (values map) (spare map) few c.self.invariant) in
     on_ok c.insert.result is c.insert.ensures.entries
     ∙ ap (λ key. insert_entry bytes_eq map.entries key c.args.row) c.new.ensures

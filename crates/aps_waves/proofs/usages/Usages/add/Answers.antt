@@ -1,6 +1,7 @@
 use Rattle.std.proofs.Common.{◌≤◌, ◌/◌, ◌-◌, ◌++◌, [], ◌∷◌, ◌∙◌, ap, sym, subst, arith, Fits, w32}
 use Rattle.aps_model.specs.declared.shape.Shape.{Shape}
 use Rattle.aps_model.specs.History.{History}
+use Rattle.aps_model.specs.Limits.{last_tick}
 use Rattle.aps_model.specs.Scenario.{Scenario}
 use Rattle.aps_laws.proofs.MomentLaws.{moment-append}
 use Rattle.aps_window.specs.Entries.{IsInOneTick}
@@ -31,7 +32,7 @@ go_on-requires-clause-few c =
     let core = c.args.core.now in
     let tick = ap (λ (x : Shape). x.tick) (c.shape.ensures.same ∙ ap (λ (x : Scenario). x.shape) (c.scenario.ensures ∙ ap (λ (h : History). h.scenario) c.history.ensures.same)) in
     let early = (is_later core.setup.scenario core.setup.order core.entries c.args.e.now c.history.ensures.valid c.requires.legal).early in
-    subst (λ t. c.args.e.now.to / t ≤ 100000000) (sym tick) (omega (arith, early))
+    subst (λ t. c.args.e.now.to / t ≤ last_tick) (sym tick) (omega (arith, early))
 
 pub add_time-requires-clause-entry : goal.add_time-requires-clause-entry
 add_time-requires-clause-entry c =

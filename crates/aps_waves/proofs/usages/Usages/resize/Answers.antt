@@ -1,6 +1,7 @@
 use Rattle.std.proofs.Common.{◌≤◌, ◌∙◌, ap, arith}
 use Rattle.aps_model.specs.declared.shape.Shape.{Shape}
 use Rattle.aps_model.specs.History.{History}
+use Rattle.aps_model.specs.Limits.{longest_window}
 use Rattle.aps_window.specs.Window.{Window}
 use Rattle.aps_waves.specs.declared.usages.Usages.{Usages}
 use Rattle.aps_waves.proofs.Counted.{fitted}
@@ -10,7 +11,7 @@ pub returns : goal.returns
 returns c =
     let span = c.shape.result.now.window in
     let made : Window → Usages = λ w. record { window = w; span = span } in
-    let short : span ≤ 400 =
+    let short : span ≤ longest_window =
     let same = ap (λ (x : Shape). x.window) c.shape.ensures.same in
     let kept = c.shape.ensures.keeps.shape.window_short in omega (arith, same, kept) in
     fitted c.args.core.now c.args.self.now (made c.fit.new.window) span c.history.ensures.valid c.history.ensures.legal c.requires
