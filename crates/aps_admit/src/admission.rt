@@ -6,7 +6,7 @@ use std::marker::Model;
 
 /// The budget of one demand, in parts of all processor time: the least one whose allowance, in ns of a window, is at
 /// least the need and the slack of all demands. `below` is the allowance of one part less, which isn't enough.
-#[derive(Clone, Copy, Debug, PartialEq, Eq)]
+#[derive(Clone, Copy, PartialEq, Eq)]
 pub struct Granted {
     pub name: Name,
     pub budget: u16,
@@ -15,7 +15,7 @@ pub struct Granted {
 }
 
 /// Budgets, in the order of the demands. Contracts see them as a list.
-#[derive(Debug, Drop)]
+#[derive(Drop)]
 pub struct Grants {
     grants: Vec<Granted>,
 }
@@ -53,7 +53,7 @@ impl Grants {
 }
 
 /// What is answered to demands.
-#[derive(Debug, Drop)]
+#[derive(Drop)]
 pub enum Admission {
     /// All demands are met with these budgets.
     Budgets(Grants),

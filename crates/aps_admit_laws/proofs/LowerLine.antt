@@ -1,5 +1,5 @@
 -- What admitted demands get.
-use Rattle.std.proofs.Common.{◌≡◌, ℕ, zero, suc, ◌+◌, ◌*◌, ◌<◌, ◌≤◌, List, [], ◌∷◌, length, map, Bool, true, false, cond, nat_le, nat_eq, slice_index_or, Some, refl, sym, ap, subst, ◌∙◌, arith, inl, inr}
+use Rattle.std.proofs.Common.{◌≡◌, ℕ, zero, suc, ◌+◌, ◌*◌, ◌<◌, ◌≤◌, List, [], ◌∷◌, length, map, Bool, true, false, cond, nat_le, nat_eq, Some, refl, sym, ap, subst, ◌∙◌, arith, inl, inr}
 use Rattle.std.specs.Prelude.{slice_get}
 use Rattle.std.specs.List.{AllZip, sum_by}
 use Rattle.std.proofs.Math.Nat.{le_of_mul-le-mul_left, mul-le-mul_left, suc-mul}
@@ -14,7 +14,7 @@ use Rattle.aps_model.specs.After.{state_after}
 use Rattle.aps_model.specs.Bound.{slack, others_slack}
 use Rattle.aps_model.specs.Legal.{IsLegal}
 use Rattle.aps_model.specs.Loaded.{finished_ticks, IsSteady, state_of_tick}
-use Rattle.aps_model.specs.Partition.{no_row, row_or_none}
+use Rattle.aps_model.specs.Partition.{row_or_none}
 use Rattle.aps_model.specs.Scenario.{Scenario}
 use Rattle.aps_model.specs.Shape.{IsShape, whole}
 use Rattle.aps_model.specs.Usage.{critical_used, used}
@@ -28,7 +28,7 @@ use Rattle.aps_admit.specs.declared.admission.Admission.TheVariants.{Budgets, Ne
 use Rattle.aps_admit.specs.Admission.{admission, budget_for, granted}
 use Rattle.aps_admit.specs.Least.{total_slack}
 use Rattle.aps_admit.proofs.LeastBudgets.{allowance-times, least_budget-least, parts-some}
-use Rattle.aps_admit_laws.specs.Admitted.{AreGrantedRows, IsAdmitted, IsAdmittedWindow, IsCalmWindow, IsGrantedRow, IsSameFrame, MeetsNeeds}
+use Rattle.aps_admit_laws.specs.Admitted.{AreGranted, AreGrantedRows, IsAdmitted, IsAdmittedWindow, IsCalmWindow, IsGrantedRow, IsGrantedTo, IsSameFrame, MeetsNeeds}
 
 -- ---- sums
 
@@ -106,22 +106,40 @@ map-many : (shape : Shape) (slack : ℕ) (demands : List Demand) → length (map
 map-many shape slack [] = refl
 map-many shape slack (demand ∷ demands) = ap (λ n. suc n) (map-many shape slack demands)
 
--- the partition of a demand is there, and has what was granted
-record HasBudget (shape : Shape) (slack : ℕ) (demands : List Demand) (rows : List PartitionRow) (i : ℕ) (demand : Demand) : Type 0 where
-  pub inside : i < length demands
-  pub budget : (slice_index_or rows i no_row).budget ≡ budget_for shape slack demand
+-- the grant of a demand is found at its place
+grant_of : (shape : Shape) (slack : ℕ) (demands : List Demand) (i : ℕ) (demand : Demand) → slice_get demands i ≡ Some demand
+    → slice_get (map (granted shape slack) demands) i ≡ Some (granted shape slack demand)
+grant_of shape slack [] i demand is = absurd (cc)
+grant_of shape slack (other ∷ demands) zero demand is =
+    let same : other ≡ demand = cc in ap (λ d. Some (granted shape slack d)) same
+grant_of shape slack (other ∷ demands) (suc i) demand is = grant_of shape slack demands i demand is
 
-found : (shape : Shape) (slack : ℕ) (demands : List Demand) (rows : List PartitionRow) (i : ℕ) (demand : Demand)
-    → AllZip IsGrantedRow (map (granted shape slack) demands) rows → slice_get demands i ≡ Some demand → HasBudget shape slack demands rows i demand
-found shape slack [] rows i demand each is = absurd (cc)
-found shape slack (other ∷ demands) [] i demand each is = absurd each
-found shape slack (other ∷ demands) (row ∷ rows) zero demand each is =
-    let same : other ≡ demand = cc in
-    record { inside = omega arith; budget = each.0.budget ∙ ap (budget_for shape slack) same }
-found shape slack (other ∷ demands) (row ∷ rows) (suc i) demand each is =
-    let rest = found shape slack demands rows i demand each.1 is in
-    let inside : i < length demands = rest.inside in
+-- the rows behind the root, in order
+row_at : (grants : List Granted) (rows : List PartitionRow) (i : ℕ) (grant : Granted) → AllZip IsGrantedRow grants rows
+    → slice_get grants i ≡ Some grant → IsGrantedTo rows i grant
+row_at [] rows i grant each is = absurd (cc)
+row_at (other ∷ grants) [] i grant each is = absurd each
+row_at (other ∷ grants) (row ∷ rows) zero grant each is =
+    let same : other ≡ grant = cc in
+    record { inside = omega arith; budget = each.0.budget ∙ ap (λ (g : Granted). g.budget) same }
+row_at (other ∷ grants) (row ∷ rows) (suc i) grant each is =
+    let rest = row_at grants rows i grant each.1 is in
+    let inside : i < length rows = rest.inside in
     record { inside = omega arith; budget = rest.budget }
+
+pub in_order : (grants : List Granted) (rows : List PartitionRow) → AreGrantedRows grants rows → AreGranted grants (λ i. i + 1) rows
+in_order grants [] each = absurd each
+in_order grants (root ∷ rows) each = record {
+  each = λ i grant is.
+      let at = row_at grants rows i grant each is in
+      let inside : i < length rows = at.inside in
+      let behind : IsGrantedTo (root ∷ rows) (suc i) grant = record { inside = omega arith; budget = at.budget } in
+      subst (λ p. IsGrantedTo (root ∷ rows) p grant) (next i) behind;
+  few = let same : length rows ≡ length grants = rows-many grants rows each in omega (arith, same);
+}
+  where
+    next : (i : ℕ) → suc i ≡ i + 1
+    next i = omega arith
 
 -- ---- the need, from the lower line of the bound
 
@@ -133,32 +151,36 @@ need-met parts whole need slack budget used others some given line less =
     let times : parts * need ≤ parts * used = omega (arith, given, line, most, spread) in
     le_of_mul-le-mul_left times some
 
+-- the slack of one demand less than there are rows
+few-slack : (shape : Shape) (n d others : ℕ) → n ≤ d + 1 → others + shape.cpus * shape.tick ≤ n * (shape.cpus * shape.tick)
+    → others ≤ d * shape.cpus * shape.tick
+few-slack shape n d others few less =
+    let tick = shape.cpus * shape.tick in
+    let most : tick * n ≤ tick * (d + 1) = mul-le-mul_left tick few in
+    let spread : tick * (d + 1) ≡ d * shape.cpus * shape.tick + tick = omega arith in
+    let turned : tick * n ≡ n * tick = omega arith in
+    omega (arith, less, most, spread, turned)
+
 -- the rows of a state, with what a window of it has
-needs-in_rows : (shape : Shape) (demands : List Demand) (rows : List PartitionRow) (h : List Entry) (a i : ℕ) (demand : Demand) → IsShape shape
-    → AreGrantedRows (map (granted shape (total_slack shape (length demands))) demands) rows
+needs-in_rows : (shape : Shape) (demands : List Demand) (place : ℕ → ℕ) (rows : List PartitionRow) (h : List Entry) (a i : ℕ) (demand : Demand)
+    → IsShape shape → AreGranted (map (granted shape (total_slack shape (length demands))) demands) place rows
     → ((q : ℕ) → q < length rows → critical_used shape.tick h q a (a + shape.window) ≡ 0)
     → ((p : ℕ) → p < length rows → (row_or_none rows p).budget * whole shape
     ≤ shape.parts * used shape.tick h p a (a + shape.window) + shape.parts * others_slack shape rows h a p)
-    → slice_get demands i ≡ Some demand → demand.need ≤ used shape.tick h (suc i) a (a + shape.window)
-needs-in_rows shape demands [] h a i demand is granted none line at = absurd granted
-needs-in_rows shape demands (root ∷ rows) h a i demand is each none line at =
+    → slice_get demands i ≡ Some demand → demand.need ≤ used shape.tick h (place i) a (a + shape.window)
+needs-in_rows shape demands place rows h a i demand is grants none line at =
     let all = total_slack shape (length demands) in
-    let here = found shape all demands rows i demand each at in
-    let count : length rows ≡ length demands = rows-many (map (granted shape all) demands) rows each ∙ map-many shape all demands in
-    let within : i < length demands = here.inside in
-    let inside : suc i < length (root ∷ rows) = omega (arith, count, within) in
+    let here = grants.each i (granted shape all demand) (grant_of shape all demands i demand at) in
+    let few : length rows ≤ length demands + 1 = subst (λ n. length rows ≤ n + 1) (map-many shape all demands) grants.few in
     let least = least_budget-least shape (demand.need + all) is in
     let given : (demand.need + all) * shape.parts ≤ budget_for shape all demand * whole shape =
     allowance-times shape (demand.need + all) (budget_for shape all demand) least.enough in
-    let others = others_slack-le shape (root ∷ rows) h a (suc i) inside none in
-    let less : others_slack shape (root ∷ rows) h a (suc i) ≤ all = by_count (length rows) (length demands) _ count others in
-    let lower = subst (λ n. n * whole shape ≤ shape.parts * used shape.tick h (suc i) a (a + shape.window) + shape.parts * others_slack shape (root ∷ rows) h a (suc i))
-    here.budget (line (suc i) inside) in
-    need-met shape.parts (whole shape) demand.need all (budget_for shape all demand) (used shape.tick h (suc i) a (a + shape.window))
-    (others_slack shape (root ∷ rows) h a (suc i)) (parts-some shape is) given lower less
-  where
-    by_count : (n d others : ℕ) → n ≡ d → others + shape.cpus * shape.tick ≤ suc n * (shape.cpus * shape.tick) → others ≤ d * shape.cpus * shape.tick
-    by_count n d others same less = rw (← same) (omega (arith, less, suc-mul n (shape.cpus * shape.tick)))
+    let others = others_slack-le shape rows h a (place i) here.inside none in
+    let less : others_slack shape rows h a (place i) ≤ all = few-slack shape (length rows) (length demands) _ few others in
+    let lower = subst (λ n. n * whole shape ≤ shape.parts * used shape.tick h (place i) a (a + shape.window) + shape.parts * others_slack shape rows h a (place i))
+    here.budget (line (place i) here.inside) in
+    need-met shape.parts (whole shape) demand.need all (budget_for shape all demand) (used shape.tick h (place i) a (a + shape.window))
+    (others_slack shape rows h a (place i)) (parts-some shape is) given lower less
 
 -- ---- the laws
 
@@ -167,38 +189,33 @@ same-granted : (shape other : Shape) (demands : List Demand) → IsSameFrame sha
     → map (granted shape (total_slack shape (length demands))) demands ≡ map (granted other (total_slack other (length demands))) demands
 same-granted shape other demands frame = rw (frame.parts, frame.cpus, frame.tick, frame.window) refl
 
-pub met_by_rows : (shape : Shape) (demands : List Demand) (grants : List Granted) (scenario : Scenario) (order : Order) (h : List Entry) (a : ℕ)
-    → admission shape demands ≡ Budgets grants → IsScenario scenario → IsLegal scenario order h
-    → IsAdmittedWindow shape grants scenario h a → MeetsNeeds shape demands h a
-met_by_rows shape demands grants scenario order h a is valid legal w =
+pub met_by_rows : (shape : Shape) (demands : List Demand) (grants : List Granted) (place : ℕ → ℕ) (scenario : Scenario) (order : Order)
+    (h : List Entry) (a : ℕ) → admission shape demands ≡ Budgets grants → IsScenario scenario → IsLegal scenario order h
+    → IsAdmittedWindow shape grants place scenario h a → MeetsNeeds shape demands place h a
+met_by_rows shape demands grants place scenario order h a is valid legal w =
     let s = state_of_tick scenario h a in
     let order_of = tick_in_order scenario order h a valid legal in
-    let rows = subst (λ g. AreGrantedRows g s.rows) (granted-all shape demands grants is ∙ same-granted shape s.shape demands w.frame) w.rows in
+    let rows = subst (λ g. AreGranted g place s.rows) (granted-all shape demands grants is ∙ same-granted shape s.shape demands w.frame) w.rows in
     let long : a + s.shape.window ≤ finished_ticks scenario.shape h = subst (λ n. a + n ≤ finished_ticks scenario.shape h) (sym w.frame.window) w.finished in
     let steady : IsSteady scenario.shape.tick h (state_after scenario h).changes a (a + s.shape.window) =
     subst (λ n. IsSteady scenario.shape.tick h (state_after scenario h).changes a (a + n)) (sym w.frame.window) w.steady in
     let bound = λ (p : ℕ) (inside : p < length s.rows). (window_bound scenario order h valid legal a p long steady inside).below in
     record {
       each = λ i demand at.
-          let met : demand.need ≤ used s.shape.tick h (suc i) a (a + s.shape.window) =
-          needs-in_rows s.shape demands s.rows h a i demand order_of.shape rows w.uncritical bound at in
-          let window : demand.need ≤ used s.shape.tick h (suc i) a (a + shape.window) =
-          subst (λ n. demand.need ≤ used s.shape.tick h (suc i) a (a + n)) w.frame.window met in
-          let ticks : demand.need ≤ used shape.tick h (suc i) a (a + shape.window) =
-          subst (λ n. demand.need ≤ used n h (suc i) a (a + shape.window)) w.frame.tick window in
-          subst (λ p. demand.need ≤ used shape.tick h p a (a + shape.window)) (next i) ticks;
+          let met : demand.need ≤ used s.shape.tick h (place i) a (a + s.shape.window) =
+          needs-in_rows s.shape demands place s.rows h a i demand order_of.shape rows w.uncritical bound at in
+          let window : demand.need ≤ used s.shape.tick h (place i) a (a + shape.window) =
+          subst (λ n. demand.need ≤ used s.shape.tick h (place i) a (a + n)) w.frame.window met in
+          subst (λ n. demand.need ≤ used n h (place i) a (a + shape.window)) w.frame.tick window;
     }
-  where
-    next : (i : ℕ) → suc i ≡ i + 1
-    next i = omega arith
 
-pub met : (shape : Shape) (demands : List Demand) (grants : List Granted) (scenario : Scenario) (order : Order) (h : List Entry) (a : ℕ)
-    → admission shape demands ≡ Budgets grants → IsScenario scenario → IsAdmitted shape grants scenario → IsLegal scenario order h
-    → IsCalmWindow scenario h a → MeetsNeeds shape demands h a
-met shape demands grants scenario order h a is valid admitted legal w =
+pub met : (shape : Shape) (demands : List Demand) (grants : List Granted) (place : ℕ → ℕ) (scenario : Scenario) (order : Order)
+    (h : List Entry) (a : ℕ) → admission shape demands ≡ Budgets grants → IsScenario scenario → IsAdmitted shape grants place scenario
+    → IsLegal scenario order h → IsCalmWindow scenario h a → MeetsNeeds shape demands place h a
+met shape demands grants place scenario order h a is valid admitted legal w =
     let s = state_of_tick scenario h a in
     let sizes = (tick_in_order scenario order h a valid legal).sizes in
-    met_by_rows shape demands grants scenario order h a is valid legal (record {
+    met_by_rows shape demands grants place scenario order h a is valid legal (record {
       finished = subst (λ n. a + n ≤ finished_ticks scenario.shape h) admitted.frame.window w.finished;
       steady = subst (λ n. IsSteady scenario.shape.tick h (state_after scenario h).changes a (a + n)) admitted.frame.window w.steady;
       frame = record {
@@ -207,6 +224,6 @@ met shape demands grants scenario order h a is valid admitted legal w =
         tick = sizes.tick ∙ admitted.frame.tick;
         window = w.window ∙ admitted.frame.window;
       };
-      rows = subst (AreGrantedRows grants) (sym w.rows) admitted.rows;
+      rows = subst (AreGranted grants place) (sym w.rows) admitted.rows;
       uncritical = w.uncritical;
     })

@@ -9,7 +9,7 @@ use aps_model::{
 
 /// What is altered: a partition of this name is created or modified, by a command; parameters are set; a thread is marked as
 /// critical, or no longer; a partition's critical budget is cancelled.
-#[derive(Clone, Copy, Debug, PartialEq, Eq)]
+#[derive(Clone, Copy, PartialEq, Eq)]
 pub enum Altered {
     Create(Name),
     Modify(Name),
@@ -20,7 +20,7 @@ pub enum Altered {
 }
 
 /// At this moment (ns) this was altered, or refused.
-#[derive(Clone, Copy, Debug, PartialEq, Eq)]
+#[derive(Clone, Copy, PartialEq, Eq)]
 pub struct Alteration {
     pub moment: Nanos,
     pub altered: Altered,

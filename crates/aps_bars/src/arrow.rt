@@ -4,14 +4,14 @@ ghost use Rattle.aps_bars.specs.Arrow as spec;
 
 use aps_model::{Done, Entry, ThreadId};
 
-#[derive(Clone, Copy, Debug, PartialEq, Eq)]
+#[derive(Clone, Copy, PartialEq, Eq)]
 pub enum Carried {
     Message,
     Reply,
 }
 
 /// What goes from one thread to another at the end of an entry.
-#[derive(Clone, Copy, Debug, PartialEq, Eq)]
+#[derive(Clone, Copy, PartialEq, Eq)]
 pub struct Arrow {
     pub carried: Carried,
     pub source: ThreadId,

@@ -10,7 +10,7 @@ use std::marker::Model;
 
 /// From one moment to another (ns) a processor ran this thread, which is billed to this partition, as critical time where
 /// `critical` is set, and whose own partition was this one.
-#[derive(Clone, Copy, Debug, PartialEq, Eq)]
+#[derive(Clone, Copy, PartialEq, Eq)]
 pub struct Bar {
     pub from: Nanos,
     pub to: Nanos,
@@ -21,7 +21,7 @@ pub struct Bar {
 }
 
 /// What a processor ran over time: bars in order. It ran nobody between them.
-#[derive(Debug, Drop)]
+#[derive(Drop)]
 pub struct Lane {
     bars: Vec<Bar>,
 }

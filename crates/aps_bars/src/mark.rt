@@ -6,7 +6,7 @@ ghost use Rattle.aps_bars.specs.Mark as spec;
 use aps_model::{CpuId, Done, Entry};
 
 /// What an entry tells of a message: a server took it, or it waits for one.
-#[derive(Clone, Copy, Debug, PartialEq, Eq)]
+#[derive(Clone, Copy, PartialEq, Eq)]
 pub enum Message {
     Taken,
     Waits,

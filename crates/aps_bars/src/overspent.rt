@@ -3,7 +3,7 @@ use aps_model::{Nanos, PartitionId};
 
 /// An entry that ended at this moment (ns) made this partition bankrupt: by so much (ns) the partition's critical usage in the window
 /// exceeded its critical budget.
-#[derive(Clone, Copy, Debug, PartialEq, Eq)]
+#[derive(Clone, Copy, PartialEq, Eq)]
 pub struct Overspent {
     pub moment: Nanos,
     pub partition: PartitionId,

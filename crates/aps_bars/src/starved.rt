@@ -7,7 +7,7 @@ use std::alloc::Global;
 use std::marker::Model;
 
 /// From one moment to another (ns) the last entry named this partition as the one without work.
-#[derive(Clone, Copy, Debug, PartialEq, Eq)]
+#[derive(Clone, Copy, PartialEq, Eq)]
 pub struct Starved {
     pub from: Nanos,
     pub to: Nanos,

@@ -3,14 +3,14 @@ ghost use Rattle.std.specs.Prelude.{◌≡◌, ◌<◌, length, IfSome};
 ghost use Rattle.aps_channel.specs.Links.{ends_pushed, ends_removed, links_pushed, links_removed, with_after, with_before};
 
 /// Who stands before a number in its line, and who after it.
-#[derive(Clone, Copy, Debug, PartialEq, Eq)]
+#[derive(Clone, Copy, PartialEq, Eq)]
 pub struct Link {
     pub before: Option<u16>,
     pub after: Option<u16>,
 }
 
 /// Who stands first in a line, and who last.
-#[derive(Clone, Copy, Debug, PartialEq, Eq)]
+#[derive(Clone, Copy, PartialEq, Eq)]
 pub struct Ends {
     pub first: Option<u16>,
     pub last: Option<u16>,

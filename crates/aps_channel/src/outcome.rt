@@ -2,7 +2,7 @@
 use aps_model::ThreadId;
 
 /// What became of a message that was sent.
-#[derive(Clone, Copy, Debug, PartialEq, Eq)]
+#[derive(Clone, Copy, PartialEq, Eq)]
 pub enum Sent {
     /// The thread that had waited longest at the channel has it, and holds the sender as its client.
     Delivered(ThreadId),
@@ -11,7 +11,7 @@ pub enum Sent {
 }
 
 /// What a receive got.
-#[derive(Clone, Copy, Debug, PartialEq, Eq)]
+#[derive(Clone, Copy, PartialEq, Eq)]
 pub enum Received {
     /// Refused: the caller holds this client and hasn't replied to it.
     Holding { client: ThreadId },
@@ -22,7 +22,7 @@ pub enum Received {
 }
 
 /// What a reply did.
-#[derive(Clone, Copy, Debug, PartialEq, Eq)]
+#[derive(Clone, Copy, PartialEq, Eq)]
 pub enum Replied {
     /// This client waits no longer, and the caller serves nobody.
     Freed(ThreadId),

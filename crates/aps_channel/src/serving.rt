@@ -12,7 +12,7 @@ use std::marker::Model;
 const SERVERS: usize = 0;
 
 /// What a server holds: the number of its client, and of the channel by which the client's message came.
-#[derive(Clone, Copy, Debug, PartialEq, Eq)]
+#[derive(Clone, Copy, PartialEq, Eq)]
 pub struct Held {
     pub client: u16,
     pub channel: u8,

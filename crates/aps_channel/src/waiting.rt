@@ -24,7 +24,7 @@ const GREATEST: u8 = 255;
 const MOST_KEYS: usize = 65535;
 
 /// The record of a message that waits.
-#[derive(Clone, Copy, Debug, PartialEq, Eq)]
+#[derive(Clone, Copy, PartialEq, Eq)]
 pub struct MessageRecord {
     pub sender: ThreadId,
     /// the priority with which the message came

@@ -13,7 +13,7 @@ use aps_model::limits::MOST_PARTITIONS;
 use aps_model::{PartFacts, PartitionId};
 
 /// The groups of threads that are of class 1. A group is a partition's number, or 32 more for its critical threads.
-#[derive(Clone, Copy, Debug, PartialEq, Eq)]
+#[derive(Clone, Copy, PartialEq, Eq)]
 pub struct Classes {
     pub first: Bits64,
 }

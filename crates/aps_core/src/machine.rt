@@ -1,3 +1,4 @@
+//! The machine: all that one step leaves to the next, beside the history.
 ghost use Rattle.std.specs.Prelude.{◌≡◌, ◌≢◌, ◌⊎◌, ◌<◌, ◌≤◌, ◌/◌, length, is_some, All, IfSome, None, true, false};
 ghost use Rattle.aps_model.specs.After.{is_at_horizon};
 ghost use Rattle.aps_model.specs.Due.{due, first_due, last_to};

@@ -1,3 +1,4 @@
+//! Candidates and critical picks, by how the partitions stand.
 ghost use Rattle.std.specs.Prelude.{◌≡◌, All};
 ghost use Rattle.aps_model.specs.Budget.{part_at};
 ghost use Rattle.aps_model.specs.Merit.{is_candidate, is_critical_pick};

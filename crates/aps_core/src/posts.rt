@@ -17,7 +17,7 @@ const CLASS: u16 = 256;
 /// A processor's thread: its group, where it stands if that is of class 0, and how much higher if it is of class 1. An idle
 /// processor stands at 0 in any case. Beside that its key by the classes at hand, which is the lesser the lower it stands, and
 /// of equal ones the later it comes.
-#[derive(Clone, Copy, Debug, PartialEq, Eq)]
+#[derive(Clone, Copy, PartialEq, Eq)]
 pub struct Post {
     group: u16,
     base: u16,

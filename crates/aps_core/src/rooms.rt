@@ -1,5 +1,6 @@
+//! The room that a run takes at its start.
 /// For how many entries, replies and changes a run took room at its boot. No list of the run outgrows it.
-#[derive(Clone, Copy, Debug, PartialEq, Eq)]
+#[derive(Clone, Copy, PartialEq, Eq)]
 pub struct Room {
     /// The limit of the run.
     pub entries: u32,

@@ -183,7 +183,7 @@ impl Scheduler {
 
 /// What a step made: its entry, the partition for which it ends the run by a reboot, and whether rows, parameters, replies
 /// or changes may be others than before.
-#[derive(Clone, Copy, Debug, PartialEq, Eq)]
+#[derive(Clone, Copy, PartialEq, Eq)]
 pub struct Stepped {
     pub entry: Entry,
     pub reboot: Option<PartitionId>,

@@ -1,3 +1,5 @@
+//! The core: a run under way, one step after the other. (A module `core` beside `Core` is refused, so the file has
+//! this name.)
 ghost use Rattle.std.specs.Prelude.{◌≡◌, ◌<◌, ◌≤◌, [], length, All, IfOk, Some, None, true, false};
 ghost use Rattle.aps_model.specs.declared.entry.End.{End};
 ghost use Rattle.aps_model.specs.declared.entry.Order.TheVariants.{Fixed};

@@ -1,3 +1,4 @@
+//! What a step answers.
 use aps_model::{CpuId, End, Entry, Nanos};
 
 /// What a processor's step answers. Due moments, turns and entries are defined in docs/DEFINITIONS.md.

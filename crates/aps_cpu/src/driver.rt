@@ -1,3 +1,4 @@
+//! A driver: it takes the turns of one seat until the run has ended.
 ghost use Rattle.std.specs.Prelude.{◌≡◌, ◌+◌, ◌<◌, if◌then◌else◌, nat_lt};
 ghost use Rattle.aps_model.specs.Limits.{IsIn};
 ghost use Rattle.aps_lock.specs.Seats.{IsSeatOf};

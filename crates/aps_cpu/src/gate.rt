@@ -1,3 +1,4 @@
+//! Gates: what a driver calls before each of its turns.
 use aps_lock::CpuSeat;
 use aps_model::CpuId;
 use std::sync::Wait;

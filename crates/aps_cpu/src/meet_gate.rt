@@ -1,3 +1,4 @@
+//! A gate by which a test sees that two threads were under way at once.
 use crate::gate::Gate;
 use aps_lock::CpuSeat;
 use aps_model::CpuId;

@@ -1,3 +1,4 @@
+//! A run with one thread for each processor.
 ghost use Rattle.std.specs.Prelude.{◌≡◌, ℕ, ◌+◌, ◌-◌, ◌<◌, ◌≤◌, All, [], length, slice_index_or, vec_capacity, IfSome, IsSome};
 ghost use Rattle.aps_model.specs.Legal.{IsLegal};
 ghost use Rattle.aps_laws.specs.Runs.{EndsNoSooner};

@@ -14,7 +14,7 @@ use aps_tree::Tree;
 use aps_window::Window;
 
 /// The verdict on a partition's critical usage, in ns.
-#[derive(Clone, Copy, Debug, PartialEq, Eq)]
+#[derive(Clone, Copy, PartialEq, Eq)]
 pub enum Bill {
     /// The usage is within the critical budget.
     Fine,
@@ -23,7 +23,7 @@ pub enum Bill {
 }
 
 /// What a bankruptcy did.
-#[derive(Clone, Copy, Debug, PartialEq, Eq)]
+#[derive(Clone, Copy, PartialEq, Eq)]
 pub enum Effect {
     /// Nothing: standing is lost while the usage isn't below the critical budget.
     Keep,

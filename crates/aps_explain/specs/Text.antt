@@ -17,7 +17,9 @@ use Rattle.aps_model.specs.Scenario.{Scenario, thread_row}
 use Rattle.aps_model.specs.SchedulerState.{cpu_at, row_at, thread_at}
 use Rattle.aps_model.specs.Usage.{window_critical, window_used}
 use Rattle.aps_lives.specs.declared.life.Segment.{Segment}
-use Rattle.aps_lives.specs.Life.{life_of}
+use Rattle.aps_laws.specs.Moments.{moment}
+use Rattle.aps_lives.specs.Doing.{doing_by}
+use Rattle.aps_lives.specs.Life.{goes_on, last_of, life_of}
 use Rattle.aps_explain.specs.declared.above.Above.{Above}
 use Rattle.aps_explain.specs.declared.because.Because.{Because}
 use Rattle.aps_explain.specs.declared.because.Because.TheVariants.{Running, Shut, NotYet, Outranked, Sleeping, WaitsForReply, WaitsForReceiver, WaitsForMessage, Gone}
@@ -64,10 +66,16 @@ channel_name past c = slice_index_or past.scenario.channels c []
 
 -- ---- what each thread has
 
--- since when a thread with this life does what it does at a moment; that moment itself where the life ends before
-abbrev pub since : List Segment → ℕ → ℕ
-since [] at = at
-since (segment ∷ life) at = if nat_le segment.from at && nat_lt at segment.to then segment.from else since life at
+-- since when a thread with this life is in this state after the last entry: since the last segment begins where that is of the
+-- same, else since that entry's end
+abbrev pub since_last : Past → List Segment → State → ℕ
+since_last past life st =
+    if goes_on life (doing_by (state_in past) st) then (last_of life).from else moment past.entries
+
+-- since when a thread with this life does what it does at a moment; where the life ends before, since the last of these moments
+abbrev pub since : List Segment → ℕ → ℕ → ℕ
+since [] last at = last
+since (segment ∷ life) last at = if nat_le segment.from at && nat_lt at segment.to then segment.from else since life last at
 
 -- a thread in this state since this moment
 abbrev pub head_by : Past → State → ℕ → ℕ → List ℕ
@@ -75,7 +83,9 @@ head_by past st moment x = line_of (
     codes "thread" ∷ decimal x ∷ thread_name past x ∷ codes "state" ∷ state_word st ∷ codes "since" ∷ decimal moment ∷ [])
 
 abbrev pub head_line : Past → List Segment → ℕ → ℕ → List ℕ
-head_line past life at x = head_by past (thread_at (state_in past) x).state (since life at) x
+head_line past life at x =
+    let st = (thread_at (state_in past) x).state in
+    head_by past st (since life (since_last past life st) at) x
 
 -- these values, behind a word
 abbrev pub values_line : Past → List ℕ → Facts → List ℕ
@@ -204,11 +214,21 @@ thread_with past at lives x = thread_text past at (slice_index_or lives x []) x
 abbrev pub told_thread : Scenario → List Entry → ℕ → ℕ → List ℕ
 told_thread scenario h at x = thread_text (past_at scenario h at) at (life_of scenario h x) x
 
-abbrev pub title_text : ℕ → List ℕ
-title_text at = codes "aps explain 1\n" ++ line_of (codes "at" ∷ decimal at ∷ [])
+abbrev pub moment_line : ℕ → List ℕ
+moment_line at = line_of (codes "at" ∷ decimal at ∷ [])
+
+abbrev pub end_line : ℕ → ℕ → List ℕ
+end_line at end = line_of (codes "at" ∷ decimal at ∷ codes "end" ∷ decimal end ∷ [])
+
+-- the moment that was asked for, and the end of the history where the moment isn't before it
+abbrev pub at_line : ℕ → ℕ → List ℕ
+at_line at end = if nat_lt at end then moment_line at else end_line at end
+
+abbrev pub title_text : ℕ → ℕ → List ℕ
+title_text at end = codes "aps explain 1\n" ++ at_line at end
 
 -- why thread x of a history runs at a moment, or doesn't
 abbrev pub explain_text : Scenario → List Entry → ℕ → ℕ → List ℕ
 explain_text scenario h x at =
-    title_text at
+    title_text at (moment h)
     ++ flat_map (told_thread scenario h at) (explained (past_at scenario h at) x)

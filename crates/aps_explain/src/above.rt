@@ -9,7 +9,7 @@ use aps_model::{CpuId, Nanos, NoMemory, Pick, State, ThreadId};
 use std::alloc::Global;
 
 /// A candidate that is greater than another thread, and the first test by which it is.
-#[derive(Clone, Copy, Debug, PartialEq, Eq)]
+#[derive(Clone, Copy, PartialEq, Eq)]
 pub struct Above {
     pub thread: ThreadId,
     pub test: Test,

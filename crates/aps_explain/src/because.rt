@@ -10,7 +10,7 @@ use aps_model::{ChannelId, CpuId, Nanos, NoMemory, PartitionId, Pick, State, Thr
 use std::alloc::Global;
 
 /// Why a thread runs at a moment, or doesn't. Moments are ns.
-#[derive(Clone, Copy, Debug, PartialEq, Eq)]
+#[derive(Clone, Copy, PartialEq, Eq)]
 pub enum Because {
     /// It runs, and is billed and marked as its pick fixed it.
     Running {

@@ -7,7 +7,7 @@ use aps_model::{Free, Merit, less_fraction};
 
 /// What two threads are compared by, in the order of the tests: the class, the priority, the fraction of the budget that is used,
 /// and the stamp. Between two of class 0 the fraction comes before the priority where free time goes by ratio.
-#[derive(Clone, Copy, Debug, PartialEq, Eq)]
+#[derive(Clone, Copy, PartialEq, Eq)]
 pub enum Test {
     Class,
     Priority,

@@ -32,16 +32,28 @@ pub fn add_head(
     write!(out, "thread {x} {name} state {state} since {since}\n")
 }
 
-/// Since when (ns) a thread with this life does what it does at a moment; that moment itself where the life ends before.
-pub fn since(life: &[Segment], at: Nanos) -> Nanos
-    ensures { result ≡ spec.since life.now at }
+/// Since when (ns) a thread with this life is in this state after the last entry: since its last segment begins, or since that
+/// entry's end where the segment is of something else.
+pub fn since_last(scene: &Scene, life: &[Segment], state: &State) -> Nanos
+    ensures { result ≡ spec.since_last scene.now life.now state.now }
+{
+    match life.last() {
+        Some(segment) if scene.does(state, &segment.doing) => segment.from,
+        _ => scene.last(),
+    }
+}
+
+/// Since when (ns) a thread with this life does what it does at a moment; where the life ends before, since the last of these
+/// moments (ns).
+pub fn since(life: &[Segment], last: Nanos, at: Nanos) -> Nanos
+    ensures { result ≡ spec.since life.now last at }
 {
     for i in 0..life.len() {
         if life[i].from <= at && at < life[i].to {
             return life[i].from;
         }
     }
-    at
+    last
 }
 
 /// These values, behind a word.

@@ -15,6 +15,7 @@ ghost use Rattle.aps_laws.specs.Ids.{IsInRange, NamesKnown};
 ghost use Rattle.aps_laws.specs.Moments.{moment};
 ghost use Rattle.aps_core.specs.Run.{state_of};
 ghost use Rattle.aps_core.specs.Small.{IsSmall};
+ghost use Rattle.aps_lives.specs.Doing.{doing_by, is_same};
 ghost use Rattle.aps_explain.specs.Past as spec;
 ghost use Rattle.aps_explain.specs.Parts.{part_by, part_by_row};
 ghost use Rattle.aps_explain.specs.Ties.{newest_server, ties_of};
@@ -22,10 +23,11 @@ ghost use Rattle.aps_model.specs.Limits.{last_moment, last_tick, most_entries, m
 
 use crate::ties::Ties;
 use aps_core::Core;
+use aps_lives::{Doing, does};
 use aps_merit::{is_candidate, merit_of};
 use aps_model::{
     ChannelId, CpuId, CpuNow, Entry, Facts, Merit, Nanos, NoMemory, PartFacts, PartitionId,
-    PartitionRow, Scenario, Shape, ThreadId, ThreadNow, Usage, has_allowance,
+    PartitionRow, Scenario, Shape, State, ThreadId, ThreadNow, Usage, has_allowance,
 };
 use std::alloc::Global;
 use std::marker::Model;
@@ -163,6 +165,20 @@ impl Scene {
         self.core.thread(x)
     }
 
+    /// Whether a thread in this state does this.
+    pub fn does(&self, state: &State, doing: &Doing) -> bool
+        ensures { result ≡ is_same doing.now (doing_by (spec.state_in self.now) state.now) }
+    {
+        does(&self.core, state, doing)
+    }
+
+    /// When the last entry ends (ns); 0 where there is none.
+    pub fn last(&self) -> Nanos
+        ensures { result ≡ moment self.now.entries }
+    {
+        end_of(self.entries())
+    }
+
     /// The processor as it stands.
     pub fn cpu(&self, c: CpuId) -> CpuNow
         ensures { result ≡ cpu_at (spec.state_in self.now) c }
@@ -217,6 +233,16 @@ impl Scene {
     {
         let facts = self.facts_of(x);
         is_candidate(facts, &self.part(facts.partition))
+    }
+}
+
+/// When the last of these entries ends (ns); 0 where there is none.
+pub fn end_of(entries: &[Entry]) -> Nanos
+    ensures { result ≡ moment entries.now }
+{
+    match entries.last() {
+        Some(e) => e.to,
+        None => 0,
     }
 }
 

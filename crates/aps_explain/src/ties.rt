@@ -15,7 +15,7 @@ use std::alloc::Global;
 use std::marker::Model;
 
 /// A message that waits: its sender, and the priority with which the sender counted when it sent.
-#[derive(Clone, Copy, Debug, PartialEq, Eq)]
+#[derive(Clone, Copy, PartialEq, Eq)]
 struct Message {
     sender: ThreadId,
     priority: u8,
@@ -32,7 +32,7 @@ impl Model for Message {
 }
 
 /// A server, the client for which it works, and the channel by which the client's message came.
-#[derive(Clone, Copy, Debug, PartialEq, Eq)]
+#[derive(Clone, Copy, PartialEq, Eq)]
 struct Triple {
     server: ThreadId,
     client: ThreadId,

@@ -84,3 +84,25 @@ parts_told path value reason wanted l0 l1 l2 l3 l4 l5 t1 t3 t4 t5 none q1 e1 e2 
     let s4 : l4 ≡ cut (shown_text (path ++ codes ": " ++ value ++ reason)) =
     shown_step (path ++ codes ": " ++ value) reason l3 l4 s3 (e4 ∙ ap (λ t. cut (l3 ++ shown_text t)) q4) in
     shown_step (path ++ codes ": " ++ value ++ reason) wanted l4 l5 s4 (e5 ∙ ap (λ t. cut (l4 ++ shown_text t)) q5)
+
+-- the same with a place
+pub placed_parts_told : (path place value reason wanted : List ℕ) (l0 l1 l2 l3 l4 l5 l6 l7 t3 t5 t6 t7 : List ℕ) → l0 ≡ []
+    → l1 ≡ cut (l0 ++ shown_text path) → l2 ≡ cut (l1 ++ shown_text (codes " ("))
+    → t3 ≡ place → l3 ≡ cut (l2 ++ shown_text t3)
+    → l4 ≡ cut (l3 ++ shown_text (codes "): "))
+    → t5 ≡ value → l5 ≡ cut (l4 ++ shown_text t5)
+    → t6 ≡ reason → l6 ≡ cut (l5 ++ shown_text t6)
+    → t7 ≡ wanted → l7 ≡ cut (l6 ++ shown_text t7)
+    → l7 ≡ cut (shown_text (path ++ codes " (" ++ place ++ codes "): " ++ value ++ reason ++ wanted))
+placed_parts_told path place value reason wanted l0 l1 l2 l3 l4 l5 l6 l7 t3 t5 t6 t7 none e1 e2 q3 e3 e4 q5 e5 q6 e6 q7 e7 =
+    let s1 : l1 ≡ cut (shown_text path) = e1 ∙ ap (λ l. cut (l ++ shown_text path)) none in
+    let s2 : l2 ≡ cut (shown_text (path ++ codes " (")) = shown_step path (codes " (") l1 l2 s1 e2 in
+    let s3 : l3 ≡ cut (shown_text (path ++ codes " (" ++ place)) =
+    shown_step (path ++ codes " (") place l2 l3 s2 (e3 ∙ ap (λ t. cut (l2 ++ shown_text t)) q3) in
+    let s4 : l4 ≡ cut (shown_text (path ++ codes " (" ++ place ++ codes "): ")) =
+    shown_step (path ++ codes " (" ++ place) (codes "): ") l3 l4 s3 e4 in
+    let s5 : l5 ≡ cut (shown_text (path ++ codes " (" ++ place ++ codes "): " ++ value)) =
+    shown_step (path ++ codes " (" ++ place ++ codes "): ") value l4 l5 s4 (e5 ∙ ap (λ t. cut (l4 ++ shown_text t)) q5) in
+    let s6 : l6 ≡ cut (shown_text (path ++ codes " (" ++ place ++ codes "): " ++ value ++ reason)) =
+    shown_step (path ++ codes " (" ++ place ++ codes "): " ++ value) reason l5 l6 s5 (e6 ∙ ap (λ t. cut (l5 ++ shown_text t)) q6) in
+    shown_step (path ++ codes " (" ++ place ++ codes "): " ++ value ++ reason) wanted l6 l7 s6 (e7 ∙ ap (λ t. cut (l6 ++ shown_text t)) q7)

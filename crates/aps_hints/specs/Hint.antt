@@ -1,5 +1,5 @@
 -- The line that tells of a refused text.
-use Rattle.std.specs.Prelude.{◌≡◌, ℕ, List, ◌++◌, codes}
+use Rattle.std.specs.Prelude.{◌≡◌, ℕ, ◌⊎◌, List, ◌++◌, codes, take, ⊤}
 use Rattle.aps_scenario.specs.declared.kind.Kind.{Kind}
 use Rattle.aps_scenario.specs.declared.kind.Kind.TheVariants.{NotToml, Missing, UnknownKey, WrongKind, OutOfRange, BadName, UnknownName, Duplicate, BadOperation, BudgetOver}
 use Rattle.aps_hints.specs.Line.{shown_text, cut}
@@ -22,8 +22,28 @@ reason_text BudgetOver = codes " is more than the parent has left; "
 abbrev pub hint_text : (path value : List ℕ) → Kind → (wanted : List ℕ) → List ℕ
 hint_text path value kind wanted = cut (shown_text (path ++ codes ": " ++ value ++ reason_text kind ++ wanted))
 
+-- the same with a place behind the path, in brackets
+abbrev pub placed_text : (path place value : List ℕ) → Kind → (wanted : List ℕ) → List ℕ
+placed_text path place value kind wanted =
+    cut (shown_text (path ++ codes " (" ++ place ++ codes "): " ++ value ++ reason_text kind ++ wanted))
+
 -- such a line of this path and this kind
-pub record IsHint (path : List ℕ) (kind : Kind) (line : List ℕ) : Type 0 where
-  pub value : List ℕ
-  pub wanted : List ℕ
-  pub told : line ≡ hint_text path value kind wanted
+abbrev pub IsHintOf : (path : List ℕ) → Kind → (line : List ℕ) → Type 0
+IsHintOf path kind line = (value : List ℕ) × (wanted : List ℕ)
+    × ((line ≡ hint_text path value kind wanted) ⊎ ((place : List ℕ) × (line ≡ placed_text path place value kind wanted)))
+
+-- the path of `do` in the table of this path
+abbrev pub IsDoPath : (path told : List ℕ) → Type 0
+IsDoPath path told = (n : ℕ) × (told ≡ take n path ++ codes ".do")
+
+-- what may be wrong with a `do`
+abbrev pub IsDoFault : Kind → Type 0
+IsDoFault WrongKind = ⊤
+IsDoFault OutOfRange = ⊤
+IsDoFault kind = ⊥
+
+-- a line of this path and this kind; where a key is unknown, it may be one of `do` in the same table, which decides what
+-- keys that has
+abbrev pub IsHint : (path : List ℕ) → Kind → (line : List ℕ) → Type 0
+IsHint path kind line = IsHintOf path kind line
+    ⊎ ((kind ≡ UnknownKey) × (told : List ℕ) × (fault : Kind) × IsDoPath path told × IsDoFault fault × IsHintOf told fault line)

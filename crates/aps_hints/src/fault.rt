@@ -14,7 +14,7 @@ pub fn push_fault(
 ) -> Result<(), NoMemory> {
     match std::str::from_utf8(bytes) {
         Ok(_) => {
-            push_place(
+            push_end(
                 alloc,
                 line,
                 bytes,
@@ -24,14 +24,25 @@ pub fn push_fault(
             line.push_text(error.message().as_bytes())
         }
         Err(error) => {
-            push_place(alloc, line, bytes, error.valid_up_to())?;
+            push_end(alloc, line, bytes, error.valid_up_to())?;
             line.push_text(b": no UTF-8")
         }
     }
 }
 
+/// Writes where a document ends too soon: the line and the column of a place.
+fn push_end(alloc: Global, line: &mut Line, bytes: &[u8], place: usize) -> Result<(), NoMemory> {
+    line.push_text(b"it stops being one at ")?;
+    push_position(alloc, line, bytes, place)
+}
+
 /// Writes the line and the column of a place, both from 1, columns in bytes.
-fn push_place(alloc: Global, line: &mut Line, bytes: &[u8], place: usize) -> Result<(), NoMemory> {
+pub fn push_position(
+    alloc: Global,
+    line: &mut Line,
+    bytes: &[u8],
+    place: usize,
+) -> Result<(), NoMemory> {
     let before = &bytes[..place.min(bytes.len())];
     let newlines = before.iter().filter(|byte| **byte == b'\n').count();
     let behind = before
@@ -39,7 +50,7 @@ fn push_place(alloc: Global, line: &mut Line, bytes: &[u8], place: usize) -> Res
         .rev()
         .take_while(|byte| **byte != b'\n')
         .count();
-    line.push_text(b"it stops being one at line ")?;
+    line.push_text(b"line ")?;
     push_number(alloc, line, newlines.saturating_add(1))?;
     line.push_text(b", column ")?;
     push_number(alloc, line, behind.saturating_add(1))

@@ -1,10 +1,14 @@
 //! What a person is told of a text that is no scenario, or no demands.
-ghost use Rattle.std.specs.Prelude.{◌≡◌, ℕ, List, IfOk};
-ghost use Rattle.aps_hints.specs.Hint.{hint_text, reason_text, IsHint};
+ghost use Rattle.std.specs.Prelude.{IfOk};
+ghost use Rattle.aps_hints.specs.Hint.{IsHint, IsHintOf};
 
+use crate::blame::{do_fault, do_path};
 use crate::fault::push_fault;
 use crate::line::Line;
+use crate::place::place_of;
+use crate::placed::place_told;
 use crate::spot::{Document, Spot, spot_of};
+use crate::told::{Parts, told};
 use crate::value::push_value;
 use crate::wanted::push_wanted;
 use aps_model::NoMemory;
@@ -12,9 +16,10 @@ use aps_scenario::{Kind, PathText};
 use std::alloc::{AllocError, Global};
 use toml::Table;
 
-/// What a person is told of a refused text: the path of the part that was refused, the value that stands there, what is
-/// wrong with it, and what is wanted. `kind` and `path` are those of the refusal, as `scenario_of` or `demands_of` of
-/// `aps_scenario` gives them for these bytes. Where the bytes have no value at the path the line says so, in its place.
+/// What a person is told of a refused text: the path of the part that was refused, where that is in the text, the value that
+/// stands there, what is wrong with it, and what is wanted. `kind` and `path` are those of the refusal, as `scenario_of` or
+/// `demands_of` of `aps_scenario` gives them for these bytes. Where the bytes have no value at the path the line says so, in
+/// its place. Where a command has a key that doesn't belong there, since its `do` names no command, `do` is what is told.
 pub fn scenario_hint(
     alloc: Global,
     bytes: &[u8],
@@ -24,67 +29,68 @@ pub fn scenario_hint(
 ) -> Result<Line, NoMemory>
     ensures { IfOk result (IsHint path.now kind) }
 {
-    let (value, wanted) = found_in(alloc, bytes, document, kind, path)?;
-    told(alloc, path, &value, kind, &wanted)
-}
-
-/// The parts of a line, one behind the other.
-fn told(
-    alloc: Global,
-    path: &PathText,
-    value: &Line,
-    kind: Kind,
-    wanted: &Line,
-) -> Result<Line, NoMemory>
-    ensures { IfOk result (λ line. line ≡ hint_text path.now value.now kind wanted.now) }
-{
-    let mut line = Line::new(alloc);
-    line.push_text(path.text())?;
-    line.push_text(b": ")?;
-    line.push_text(value.as_bytes())?;
-    line.push_text(reason(kind).as_bytes())?;
-    line.push_text(wanted.as_bytes())?;
-    Ok(line)
-}
-
-/// What is wrong, as it is told behind the value.
-fn reason(kind: Kind) -> &'static str
-    ensures { result.now ≡ reason_text kind }
-{
-    match kind {
-        Kind::NotToml => "this is no TOML document; ",
-        Kind::Missing => "this key is missing; it takes ",
-        Kind::UnknownKey => "this key doesn't belong here; the keys are ",
-        Kind::WrongKind => " is of another kind; wanted is ",
-        Kind::OutOfRange => " is out of range; wanted is ",
-        Kind::BadName => " is no name; wanted is ",
-        Kind::UnknownName => " names nothing; ",
-        Kind::Duplicate => " is taken; ",
-        Kind::BadOperation { .. } => " can't stand here; ",
-        Kind::BudgetOver => " is more than the parent has left; ",
+    match toml::table_from_slice(alloc, bytes) {
+        Ok(top) => table_hint(alloc, bytes, document, kind, path.text(), &top),
+        Err(error) if error.is_memory() => Err(AllocError),
+        Err(error) => {
+            let mut parts = Parts::new(alloc);
+            push_fault(alloc, &mut parts.wanted, bytes, &error)?;
+            whole_told(alloc, path.text(), kind, &parts)
+        }
     }
 }
 
-/// The value that was refused, if the refusal is of one, and what is wanted.
-fn found_in(
+/// What is told of a text as a whole.
+fn whole_told(alloc: Global, path: &[u8], kind: Kind, parts: &Parts) -> Result<Line, NoMemory>
+    ensures { IfOk result (IsHint path.now kind) }
+{
+    told(alloc, path, kind, parts)
+}
+
+/// What is told of a document that is no scenario, or no demands.
+fn table_hint(
     alloc: Global,
     bytes: &[u8],
     document: Document,
     kind: Kind,
-    path: &PathText,
-) -> Result<(Line, Line), NoMemory> {
-    let mut value = Line::new(alloc);
-    let mut wanted = Line::new(alloc);
-    match toml::table_from_slice(alloc, bytes) {
-        Ok(top) => {
-            let spot = spot_of(std::str::from_utf8(path.text()).unwrap_or("-"));
-            push_refused(alloc, &mut value, &top, kind, &spot)?;
-            push_wanted(alloc, &mut wanted, &top, document, kind, &spot)?;
+    path: &[u8],
+    top: &Table,
+) -> Result<Line, NoMemory>
+    ensures { IfOk result (IsHint path.now kind) }
+{
+    match do_fault(kind, &spot_at(path), top) {
+        Some(fault) => {
+            let path = do_path(alloc, path)?;
+            part_hint(alloc, bytes, document, fault, &path, top)
         }
-        Err(error) if error.is_memory() => return Err(AllocError),
-        Err(error) => push_fault(alloc, &mut wanted, bytes, &error)?,
+        None => part_hint(alloc, bytes, document, kind, path, top),
     }
-    Ok((value, wanted))
+}
+
+/// What is told of a part of a document.
+fn part_hint(
+    alloc: Global,
+    bytes: &[u8],
+    document: Document,
+    kind: Kind,
+    path: &[u8],
+    top: &Table,
+) -> Result<Line, NoMemory>
+    ensures { IfOk result (IsHintOf path.now kind) }
+{
+    let spot = spot_at(path);
+    let mut parts = Parts::new(alloc);
+    if let Some(place) = place_of(bytes, &spot) {
+        parts.place = Some(place_told(alloc, bytes, place, &spot, top)?);
+    }
+    push_refused(alloc, &mut parts.value, top, kind, &spot)?;
+    push_wanted(alloc, &mut parts.wanted, top, document, kind, &spot)?;
+    told(alloc, path, kind, &parts)
+}
+
+/// Where this path leads.
+fn spot_at(path: &[u8]) -> Spot<'_> {
+    spot_of(std::str::from_utf8(path).unwrap_or("-"))
 }
 
 /// Writes the value that was refused, if the refusal is of one.

@@ -2,7 +2,7 @@
 use toml::{Table, Value};
 
 /// What a text was read as.
-#[derive(Clone, Copy, Debug, PartialEq, Eq)]
+#[derive(Clone, Copy, PartialEq, Eq)]
 pub enum Document {
     /// A scenario, as `scenario_of` of `aps_scenario` reads it.
     Scenario,

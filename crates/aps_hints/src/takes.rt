@@ -133,3 +133,20 @@ fn command_keys(does: &str) -> &'static str {
         _ => "tick and do, as long as do names no command",
     }
 }
+
+/// Whether this is what some command does.
+pub fn names_command(does: &str) -> bool {
+    match does {
+        "create"
+        | "modify"
+        | "lookup"
+        | "query_partition"
+        | "query_thread"
+        | "query_parameters"
+        | "set_parameters"
+        | "statistics"
+        | "mark_critical"
+        | "clear_critical" => true,
+        _ => false,
+    }
+}

@@ -5,7 +5,7 @@ use aps_model::{ChannelId, ThreadId};
 use std::marker::Model;
 
 /// A server, the client for which it works, and the channel by which the client's message came.
-#[derive(Clone, Copy, Debug, PartialEq, Eq)]
+#[derive(Clone, Copy, PartialEq, Eq)]
 pub struct Triple {
     server: ThreadId,
     client: ThreadId,

@@ -8,7 +8,7 @@ use aps_lives::Tally;
 
 /// Of the answered calls to a channel: how long each took, from the end of its send to its answer; how long each of the messages
 /// waited that weren't taken at once; and how long the servers ran for them all (ns).
-#[derive(Clone, Copy, Debug, PartialEq, Eq)]
+#[derive(Clone, Copy, PartialEq, Eq)]
 pub struct Answered {
     pub call: Tally,
     pub queue: Tally,

@@ -11,7 +11,7 @@ use std::marker::Model;
 
 /// A call, as far as it goes without its end: to which channel, and when the send ended (ns). How long (ns) the message waited until
 /// a server took it, which is 0 where none has yet; and how long that server ran while it held the thread.
-#[derive(Clone, Copy, Debug, PartialEq, Eq)]
+#[derive(Clone, Copy, PartialEq, Eq)]
 pub struct Asked {
     pub channel: ChannelId,
     pub begin: Nanos,
@@ -20,14 +20,14 @@ pub struct Asked {
 }
 
 /// A call that was answered, and when (ns).
-#[derive(Clone, Copy, Debug, PartialEq, Eq)]
+#[derive(Clone, Copy, PartialEq, Eq)]
 pub struct Call {
     pub asked: Asked,
     pub end: Nanos,
 }
 
 /// The calls of a thread: those that were answered, in order, and the one that goes on, if one does.
-#[derive(Debug, Drop)]
+#[derive(Drop)]
 pub struct Calls {
     ended: Vec<Call>,
     current: Option<Asked>,

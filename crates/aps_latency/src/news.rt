@@ -12,7 +12,7 @@ use aps_model::{ChannelId, Done, Entry, Nanos, Op, Scenario, State, ThreadId};
 
 /// What an entry tells of a thread's call: nothing; a send ended, to this channel; a server took the message; the server ran for
 /// so long (ns) while it held the thread; it did so, and then its reply or its exit freed the thread.
-#[derive(Clone, Copy, Debug, PartialEq, Eq)]
+#[derive(Clone, Copy, PartialEq, Eq)]
 pub enum News {
     Nothing,
     Sent(ChannelId),

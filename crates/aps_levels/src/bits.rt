@@ -3,7 +3,7 @@ ghost use Rattle.std.specs.Prelude.{◌≡◌, ℕ, ◌+◌, ◌<◌, ◌||◌, 
 ghost use Rattle.aps_levels.specs.Bits.{has, IsLeast};
 
 /// A set of numbers below 64.
-#[derive(Clone, Copy, Debug, PartialEq, Eq)]
+#[derive(Clone, Copy, PartialEq, Eq)]
 pub struct Bits64 {
     word: u64,
 }

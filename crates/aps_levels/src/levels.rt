@@ -7,7 +7,7 @@ use crate::bits::Bits64;
 
 /// A set of levels, numbers below 256. Where priorities are kept as levels, 255 less the priority, the least level is the
 /// greatest priority.
-#[derive(Clone, Copy, Debug, PartialEq, Eq)]
+#[derive(Clone, Copy, PartialEq, Eq)]
 pub struct Levels {
     /// levels 0 to 63
     first: Bits64,

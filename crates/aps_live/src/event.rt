@@ -1,3 +1,4 @@
+//! What a caller says of its threads at a step.
 use aps_model::ThreadId;
 
 /// What the caller tells of the threads as its processor steps. The thread that ran since the processor's last step waits

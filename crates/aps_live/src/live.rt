@@ -1,3 +1,4 @@
+//! The live scheduler: many threads step it under a lock.
 ghost use Rattle.std.specs.Prelude.{◌≡◌, ℕ, ◌+◌, ◌-◌, ◌<◌, ◌≤◌, ◌++◌, [], IfOk};
 ghost use Rattle.aps_live.specs.LiveHistory.{NamesThread};
 ghost use Rattle.aps_live.specs.Seats.{HasAllCpus, HasCpu, HasSeen, IsSeatOf, IsSeatTurn, own_steps, taken};

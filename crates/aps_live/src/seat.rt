@@ -1,3 +1,4 @@
+//! The right to step some processors of a live scheduler.
 ghost use Rattle.std.specs.Prelude.{◌≡◌, ◌<◌, ◌≤◌, length};
 
 use crate::rule::Place;

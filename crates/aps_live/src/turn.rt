@@ -1,3 +1,4 @@
+//! What a live step answers.
 use aps_model::{Entry, Nanos};
 
 /// What a live step answers.

@@ -11,7 +11,7 @@ use std::marker::Model;
 
 /// How long (ns) a thread ran, was ready, waited for a server or its reply, and waited for a message.
 // A life tells no bound of its length, so 64 bits might not do.
-#[derive(Clone, Copy, Debug, PartialEq, Eq)]
+#[derive(Clone, Copy, PartialEq, Eq)]
 pub struct Times {
     pub running: u128,
     pub ready: u128,
@@ -20,7 +20,7 @@ pub struct Times {
 }
 
 /// A cycle that has ended: from one moment to another (ns) the thread neither slept nor was gone, and then it was.
-#[derive(Clone, Copy, Debug, PartialEq, Eq)]
+#[derive(Clone, Copy, PartialEq, Eq)]
 pub struct Cycle {
     pub begin: Nanos,
     pub end: Nanos,
@@ -28,14 +28,14 @@ pub struct Cycle {
 }
 
 /// A cycle that goes on: since this moment (ns) the thread neither slept nor was gone.
-#[derive(Clone, Copy, Debug, PartialEq, Eq)]
+#[derive(Clone, Copy, PartialEq, Eq)]
 pub struct Begun {
     pub begin: Nanos,
     pub times: Times,
 }
 
 /// The cycles of a life: those that have ended, in order, and the one that goes on at the life's end, if one does.
-#[derive(Debug, Drop)]
+#[derive(Drop)]
 pub struct Cycles {
     ended: Vec<Cycle>,
     current: Option<Begun>,

@@ -9,7 +9,7 @@ use aps_model::{ChannelId, CpuId, CpuNow, PartitionId, State, ThreadId};
 
 /// What a thread does. `Running` has the partition that is billed and the mark, as the pick fixed them; `Sleeping` has no
 /// moment; all else is as in `State`.
-#[derive(Clone, Copy, Debug, PartialEq, Eq)]
+#[derive(Clone, Copy, PartialEq, Eq)]
 pub enum Doing {
     Ready,
     Running {

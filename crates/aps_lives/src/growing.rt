@@ -14,7 +14,7 @@ use std::alloc::Global;
 use std::marker::Model;
 
 /// Since this moment (ns) a thread has been doing this, which its life doesn't tell yet.
-#[derive(Clone, Copy, Debug, PartialEq, Eq)]
+#[derive(Clone, Copy, PartialEq, Eq)]
 pub struct Aside {
     pub from: Nanos,
     pub doing: Doing,

@@ -12,7 +12,7 @@ pub mod text;
 mod waits;
 
 pub use cycle::{Begun, Cycle, Cycles, Times};
-pub use doing::Doing;
+pub use doing::{Doing, does};
 pub use growing::GrowingLives;
 pub use life::{Life, Segment};
 pub use retracing::lives;

@@ -8,7 +8,7 @@ use std::alloc::Global;
 use std::marker::Model;
 
 /// From one moment to another (ns) a thread does this.
-#[derive(Clone, Copy, Debug, PartialEq, Eq)]
+#[derive(Clone, Copy, PartialEq, Eq)]
 pub struct Segment {
     pub from: Nanos,
     pub to: Nanos,
@@ -16,7 +16,7 @@ pub struct Segment {
 }
 
 /// What a thread does over time: segments in order.
-#[derive(Debug, Drop)]
+#[derive(Drop)]
 pub struct Life {
     segments: Vec<Segment>,
 }

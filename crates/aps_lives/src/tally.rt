@@ -6,14 +6,14 @@ ghost use Rattle.aps_lives.specs.Tally as spec;
 use aps_model::Nanos;
 
 /// The longest of some waits, and when it began (ns); of equal ones the first.
-#[derive(Clone, Copy, Debug, PartialEq, Eq)]
+#[derive(Clone, Copy, PartialEq, Eq)]
 pub struct Longest {
     pub ns: Nanos,
     pub begin: Nanos,
 }
 
 /// How many waits there were, how long they were together (ns), and the longest, if there were any.
-#[derive(Clone, Copy, Debug, PartialEq, Eq)]
+#[derive(Clone, Copy, PartialEq, Eq)]
 pub struct Tally {
     pub count: u64,
     pub total: u128,

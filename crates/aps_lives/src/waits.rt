@@ -11,7 +11,7 @@ use aps_model::Nanos;
 
 /// What the next segment of a life tells of a wait: there was none; or the thread was ready from this moment on for so long (ns)
 /// after it woke, or after it ran.
-#[derive(Clone, Copy, Debug, PartialEq, Eq)]
+#[derive(Clone, Copy, PartialEq, Eq)]
 pub enum Wait {
     No,
     Woken { begin: Nanos, ns: Nanos },
@@ -20,7 +20,7 @@ pub enum Wait {
 
 /// The waits of a life, with what the next segment is looked at by: the last one, and whether that stands behind one in which
 /// the thread ran.
-#[derive(Clone, Copy, Debug, PartialEq, Eq)]
+#[derive(Clone, Copy, PartialEq, Eq)]
 pub struct Waits {
     /// Ready after sleep or a wait for others, to running; 0 where it runs at once.
     pub wake: Tally,

@@ -1,3 +1,4 @@
+//! The dispatcher: many threads take the turns of one core under a lock.
 ghost use Rattle.std.specs.Prelude.{◌≡◌, ℕ, ◌+◌, ◌-◌, ◌<◌, ◌≤◌, ◌++◌, length, nat_lt, IfOk, IfErr};
 ghost use Rattle.aps_core.specs.Run.{Run};
 ghost use Rattle.aps_model.specs.Seat.{IsSeen, own_entries};
@@ -120,8 +121,8 @@ impl Dispatch {
 
     /// Waits until a processor of the seat may have the turn: where it comes soon the driver looks for a while, and else it
     /// sleeps until another driver's turn wakes it. It comes back sooner where a processor that may have the turn has no
-    /// driver at hand, and so does a seat of several processors, which never sleeps. This is advice: it takes no turn, and
-    /// the turn may be another's by then.
+    /// driver at hand, or where nobody wakes it for 100 ms, and so does a seat of several processors, which never sleeps.
+    /// This is advice: it takes no turn, and the turn may be another's by then.
     pub fn await_turn<R: Wait>(&self, rt: &R, seat: &CpuSeat) {
         if seat.first == seat.last {
             self.hint.await_turn(rt, seat.first);
@@ -130,7 +131,8 @@ impl Dispatch {
 
     /// Waits while another driver takes a long row of turns in vain, unless a processor of the seat may have the turn. So
     /// drivers that can only give up do so one after the other, and none waits at the lock for another that wants for a
-    /// processor of the machine. A seat of several processors doesn't wait. This is advice: it takes no turn.
+    /// processor of the machine. A sleep ends by itself after 100 ms. A seat of several processors doesn't wait. This is
+    /// advice: it takes no turn.
     pub fn await_vain<R: Wait>(&self, rt: &R, seat: &CpuSeat) {
         if seat.first == seat.last {
             self.hint.await_vain(rt, seat.first);
@@ -138,7 +140,8 @@ impl Dispatch {
     }
 
     /// Tells the other drivers whether a driver of this seat waits for its turns and takes them, or does something else
-    /// meanwhile. While it does, others don't sleep where the seat may have the turn. This is advice too.
+    /// meanwhile. While it does, others don't sleep where the seat may have the turn, and those that sleep are woken. This is
+    /// advice too.
     pub fn set_at_hand(&self, seat: &CpuSeat, is_at_hand: bool) {
         self.hint
             .set_at_hand(CpuSet::between(seat.first, seat.last), is_at_hand);

@@ -1,12 +1,12 @@
 //! Whose turn it may be. Threads read this advice without a ticket: no clause rests on it, and where it is wrong it costs
 //! time alone.
+use crate::bell::Bell;
 use crate::cpu_set::CpuSet;
 use crate::turns::{Turns, last_cpu};
 use aps_core::Core;
 use aps_model::limits::MOST_CPUS;
 use aps_model::{CpuId, NoMemory};
 use crossbeam_utils::CachePadded;
-use crossbeam_utils::sync::EventCount;
 use std::alloc::Global;
 use std::sync::Wait;
 use std::sync::atomic::Ordering::SeqCst;
@@ -51,7 +51,7 @@ struct Board {
 struct Door {
     /// Whether a driver of the processor waits here, or takes a turn.
     is_at_hand: AtomicBool,
-    bell: EventCount,
+    bell: Bell,
 }
 
 /// How the board names this processor as the one whose driver takes turns in vain.
@@ -64,7 +64,7 @@ impl Door {
     fn new() -> Door {
         Door {
             is_at_hand: AtomicBool::new(false),
-            bell: EventCount::new(),
+            bell: Bell::new(),
         }
     }
 }
@@ -164,14 +164,14 @@ impl Hint {
     /// Wakes the driver of the processor.
     fn ring(&self, cpu: CpuId) {
         if let Some(door) = self.doors.get(cpu.index()) {
-            door.bell.notify_one();
+            door.bell.ring();
         }
     }
 
     /// Wakes all drivers.
     fn wake_all(&self) {
         for door in self.doors.as_slice() {
-            door.bell.notify_all();
+            door.bell.ring_all();
         }
     }
 
@@ -183,8 +183,17 @@ impl Hint {
         }
     }
 
-    /// Notes for each of these processors whether a driver waits for its turn or takes it.
+    /// Notes for each of these processors whether a driver waits for its turn or takes it. Where none does any more, and one
+    /// of them may have the turn, it wakes the others, who would wait for it.
     pub(crate) fn set_at_hand(&self, cpus: CpuSet, is_at_hand: bool) {
+        self.note_at_hand(cpus, is_at_hand);
+        if !is_at_hand && self.may_turn(cpus) {
+            self.wake_all();
+        }
+    }
+
+    /// Notes it at the door of each of these processors.
+    fn note_at_hand(&self, cpus: CpuSet, is_at_hand: bool) {
         for c in 0..MOST_CPUS {
             if cpus.has(CpuId::at(c)) {
                 if let Some(door) = self.doors.get(c) {
@@ -197,8 +206,8 @@ impl Hint {
     /// The driver of these processors is gone. Where they may have the turn, or it was the one that took turns in vain, it
     /// wakes the others, who would wait for it.
     pub(crate) fn leave(&self, cpus: CpuSet) {
-        self.set_at_hand(cpus, false);
-        if self.gives_way(cpus) || self.turns().next.meets(cpus) {
+        self.note_at_hand(cpus, false);
+        if self.gives_way(cpus) || self.may_turn(cpus) {
             self.wake_all();
         }
     }
@@ -229,17 +238,17 @@ impl Hint {
     }
 
     /// Sleeps while the driver of another processor takes turns in vain, unless the processor may have the turn: of drivers
-    /// that can only give up one goes at a time, since all of them would wait for one another at the lock.
+    /// that can only give up one goes at a time, since all of them would wait for one another at the lock. It comes back
+    /// sooner where nobody rings for long.
     pub(crate) fn await_vain<R: Wait>(&self, rt: &R, cpu: CpuId) {
         let Some(door) = self.doors.get(cpu.index()) else {
             return;
         };
         for _ in rt.forever() {
-            let key = door.bell.prepare_wait();
-            if self.turns().next.has(cpu) || self.goes_in_vain(cpu) {
+            let sleeper = door.bell.announce();
+            if self.turns().next.has(cpu) || self.goes_in_vain(cpu) || !sleeper.sleep(rt) {
                 return;
             }
-            key.wait(rt);
         }
     }
 
@@ -261,7 +270,7 @@ impl Hint {
     }
 
     /// Waits until the processor may have the turn: it looks for a while where its turn comes soon, and else sleeps. It
-    /// comes back sooner where a processor that may have the turn has no driver at hand.
+    /// comes back sooner where a processor that may have the turn has no driver at hand, and where nobody rings for long.
     pub(crate) fn await_turn<R: Wait>(&self, rt: &R, cpu: CpuId) {
         for _ in rt.forever() {
             if self.is_seen(cpu) {
@@ -271,7 +280,9 @@ impl Hint {
                 thread::yield_now();
                 return;
             }
-            self.sleep(rt, cpu);
+            if !self.sleep(rt, cpu) {
+                return;
+            }
         }
     }
 
@@ -308,14 +319,13 @@ impl Hint {
         }
     }
 
-    /// Sleeps until somebody rings, unless the processor may have the turn by now.
-    fn sleep<R: Wait>(&self, rt: &R, cpu: CpuId) {
+    /// Sleeps until somebody rings, unless the processor may have the turn by now. The answer is no where nobody rang for
+    /// long.
+    fn sleep<R: Wait>(&self, rt: &R, cpu: CpuId) -> bool {
         let Some(door) = self.doors.get(cpu.index()) else {
-            return;
+            return false;
         };
-        let key = door.bell.prepare_wait();
-        if !self.turns().next.has(cpu) && self.has_drivers() {
-            key.wait(rt);
-        }
+        let sleeper = door.bell.announce();
+        self.turns().next.has(cpu) || !self.has_drivers() || sleeper.sleep(rt)
     }
 }

@@ -3,6 +3,7 @@
 //! The threads that drive the seats stand above.
 #![tactic(auto)]
 
+mod bell;
 mod cpu_set;
 mod dispatch;
 mod hint;

@@ -1,3 +1,4 @@
+//! The right to take the turns of some processors.
 ghost use Rattle.std.specs.Prelude.{◌≡◌, ◌<◌, ◌≤◌, length};
 
 use crate::rule::Place;

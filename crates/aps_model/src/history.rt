@@ -1,3 +1,4 @@
+//! The recorded history of a run.
 ghost use Rattle.std.specs.Prelude.{◌≡◌, ◌<◌, ◌≤◌, ◌++◌, [], ◌∷◌, length, vec_len, vec_capacity, IfOk, Some, None};
 
 use crate::command::{Answer, Change, ChangeKind, CtlRefusal, Reply};
@@ -15,7 +16,6 @@ use std::marker::Model;
 /// and the end as they stand last. It keeps room for its lists, so that adding to them takes no memory. The type keeps
 /// that its rows and its shape have their ranges, and that of each entry `from` is at most `to`, `to` at most
 /// 10,000,000,000,000 ns and `to - from` at most 10,000,000 ns.
-#[derive(Debug)]
 pub struct History {
     scenario: Scenario,
     entries: Vec<Entry>,

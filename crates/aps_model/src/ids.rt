@@ -1,3 +1,4 @@
+//! The numbers of processors, threads, partitions and channels.
 ghost use Rattle.std.specs.Prelude.{◌≡◌, ℕ, ◌<◌, ◌≤◌, ◌↔◌, ◌∷◌, IsOk, IfOk, IfErr};
 ghost use Rattle.std.specs.Coded.{coded_ℕ};
 ghost use Rattle.aps_model.specs.Limits.{last_channel, last_cpu, last_partition, last_thread};
@@ -13,7 +14,7 @@ pub type NoMemory = AllocError;
 pub type Nanos = u64;
 
 /// A number that stands outside its range, which is from `low` to `high`, both included.
-#[derive(Clone, Copy, Debug, PartialEq, Eq, Hash)]
+#[derive(Clone, Copy, Debug, PartialEq, Eq)]
 pub struct OutOfRange {
     pub value: u64,
     pub low: u64,
@@ -21,7 +22,7 @@ pub struct OutOfRange {
 }
 
 /// A processor, by its number, 0 to 15. Contracts see it as that number.
-#[derive(Clone, Copy, Debug, PartialEq, Eq, Hash, PartialOrd, Ord)]
+#[derive(Clone, Copy, Debug, PartialEq, Eq, PartialOrd, Ord)]
 pub struct CpuId {
     index: u8,
 }
@@ -73,7 +74,7 @@ impl CpuId {
 }
 
 /// A thread, by its number, 0 to 1,023: its place in the scenario. Contracts see it as that number.
-#[derive(Clone, Copy, Debug, PartialEq, Eq, Hash, PartialOrd, Ord)]
+#[derive(Clone, Copy, Debug, PartialEq, Eq, PartialOrd, Ord)]
 pub struct ThreadId {
     index: u16,
 }
@@ -129,7 +130,7 @@ impl ThreadId {
 }
 
 /// A partition, by its number, 0 to 31. `System` is 0. Contracts see it as that number.
-#[derive(Clone, Copy, Debug, PartialEq, Eq, Hash, PartialOrd, Ord)]
+#[derive(Clone, Copy, Debug, PartialEq, Eq, PartialOrd, Ord)]
 pub struct PartitionId {
     index: u8,
 }
@@ -181,7 +182,7 @@ impl PartitionId {
 }
 
 /// A channel, by its number, 0 to 255: its place in the scenario. Contracts see it as that number.
-#[derive(Clone, Copy, Debug, PartialEq, Eq, Hash, PartialOrd, Ord)]
+#[derive(Clone, Copy, Debug, PartialEq, Eq, PartialOrd, Ord)]
 pub struct ChannelId {
     index: u8,
 }

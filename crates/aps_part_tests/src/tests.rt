@@ -1,4 +1,5 @@
 //! The parts of the scheduler, each used alone.
+mod allowance;
 mod channel;
 mod critical;
 mod ctl;

@@ -1,5 +1,5 @@
 -- What the panels say of the samples that are shown.
-use Rattle.std.specs.Prelude.{◌≡◌, ℕ, ◌+◌, ◌*◌, ◌/◌, ◌<◌, Bool, false, ◌&&◌, ◌||◌, List, max, min, nat_eq, nat_lt, if◌then◌else◌, Option, Some, None, slice_index, slice_index_or}
+use Rattle.std.specs.Prelude.{◌≡◌, ℕ, ◌+◌, ◌*◌, ◌/◌, ◌<◌, Bool, false, not, ◌&&◌, ◌||◌, List, max, min, nat_eq, nat_lt, if◌then◌else◌, Option, Some, None, slice_index, slice_index_or}
 use Rattle.std.specs.List.{fold, range_with_len}
 use Rattle.aps_model.specs.Limits.{greatest_u64, most_partitions, thousandths}
 use Rattle.aps_model.specs.declared.entry.Entry.{Entry}
@@ -59,16 +59,21 @@ abbrev pub less : Option Peak → Peak → Bool → Option Peak
 less None peak counts = if counts then Some peak else None
 less (Some first) peak counts = if counts && nat_lt peak.share first.share then Some peak else Some first
 
+-- the window is full, and a change lies in it
+abbrev pub is_changed : Sample → Bool
+is_changed sample = sample.full && not sample.unchanged
+
 abbrev pub no_found : Found
-no_found = record { scale = 0; critical = false; most = None; least = None }
+no_found = record { scale = 0; critical = false; most = None; least = None; changed = None }
 
 -- with one sample more
 abbrev pub found_with : Sizes → ℕ → Found → Sample → Found
 found_with sizes p found sample = record {
   scale = max found.scale (scale_of (highest_of sizes sample p) (whole_of sizes sample));
   critical = found.critical || nat_lt 0 (slice_index sample.usage.critical p);
-  most = more found.most (peak_of sizes sample p) sample.full;
+  most = more found.most (peak_of sizes sample p) sample.unchanged;
   least = less found.least (peak_of sizes sample p) (slice_index_or sample.demand p false);
+  changed = more found.changed (peak_of sizes sample p) (is_changed sample);
 }
 
 -- ---- of so many ticks from one on

@@ -2,7 +2,7 @@
 ghost use Rattle.std.specs.Prelude.{◌≡◌, ℕ, ◌+◌, ◌*◌, ◌<◌, ◌≤◌, ◌&&◌, false, nat_lt, length, IfOk, slice_index, slice_index_or};
 ghost use Rattle.aps_model.specs.Legal.{IsLegal};
 ghost use Rattle.aps_model.specs.Loaded.{finished_ticks};
-ghost use Rattle.aps_pictures.specs.Group.{IsEmptyGroup, joined, no_point, point_of, unread_point};
+ghost use Rattle.aps_pictures.specs.Group.{IsEmptyGroup, is_nearer, joined, nearer, no_point, point_of, unread_point};
 ghost use Rattle.aps_pictures.specs.Scale.{depth_of, top_at};
 ghost use Rattle.aps_pictures.specs.Survey.{no_found, whole_of};
 ghost use Rattle.aps_samples.specs.Pass.{IsAt, scenario_of};
@@ -11,18 +11,20 @@ ghost use Rattle.aps_model.specs.Limits.{last_tick, most_entries, most_partition
 use crate::scale::{Sizes, depth_of, top_of};
 use crate::survey::{Range, Survey, bound_of};
 use aps_model::limits::MOST_PARTITIONS;
-use aps_model::{History, NoMemory, Order};
+use aps_model::{History, Nanos, NoMemory, Order};
 use aps_samples::{Sample, Samples};
 use std::alloc::Global;
 
 /// How many points a line has at most.
 const POINTS: u64 = 1000;
 
-/// Of one partition in a group of samples: how far below the top of its panel stand the most that it used and the least, the
-/// most that wasn't critical, what it was allowed last, and the least bound; and whether in one of these ticks it had no
-/// candidate at some pick.
+/// Of one partition in a group of samples: of the sample in which its usage comes nearest to its bound, what it used and what it
+/// uses at most (ns), and how far below the top of its panel lie what it used, what of that wasn't critical, what it was allowed,
+/// and the bound. Of all samples it has how far below the top the least usage lies, and whether some pick had no candidate.
 #[derive(Clone, Copy)]
 pub struct Point {
+    used: Nanos,
+    most: Nanos,
     pub high: u16,
     pub low: u16,
     pub plain: u16,
@@ -181,6 +183,8 @@ fn no_point() -> Point
     ensures { result ≡ no_point }
 {
     Point {
+        used: 0,
+        most: u64::MAX,
         high: 900,
         low: 0,
         plain: 900,
@@ -234,13 +238,16 @@ fn point_of(sample: &Sample, sizes: Sizes, p: usize, top: u64, lacking: bool) ->
 {
     let whole = sizes.whole(sample.window);
     let used = sample.usage.used[p];
+    let most = bound_of(sample, sizes, p);
     let depth = depth_of(used, whole, top);
     Point {
+        used,
+        most,
         high: depth,
         low: depth,
         plain: depth_of(used.saturating_sub(sample.usage.critical[p]), whole, top),
         allowance: depth_of(sample.allowance[p], whole, top),
-        bound: depth_of(bound_of(sample, sizes, p), whole, top),
+        bound: depth_of(most, whole, top),
         lacking,
     }
 }
@@ -249,12 +256,31 @@ fn point_of(sample: &Sample, sizes: Sizes, p: usize, top: u64, lacking: bool) ->
 fn joined(point: &Point, next: &Point) -> Point
     ensures { result ≡ joined point.now next.now }
 {
+    let shown = nearer(point, next);
     Point {
-        high: point.high.min(next.high),
         low: point.low.max(next.low),
-        plain: point.plain.min(next.plain),
-        allowance: next.allowance,
-        bound: point.bound.max(next.bound),
         lacking: point.lacking || next.lacking,
+        ..shown
     }
+}
+
+/// The one of two points that is shown: the second where it is nearer.
+fn nearer(point: &Point, next: &Point) -> Point
+    ensures { result ≡ nearer point.now next.now }
+{
+    if is_nearer(next, point) {
+        *next
+    } else {
+        *point
+    }
+}
+
+/// Whether the usage of one is nearer to its bound, or further beyond it, than that of the other; where they are equally near,
+/// whether the one used more.
+fn is_nearer(a: &Point, b: &Point) -> bool
+    ensures { result ≡ is_nearer a.now b.now }
+{
+    let further = u128::from(b.used) + u128::from(a.most);
+    let near = u128::from(a.used) + u128::from(b.most);
+    further < near || further == near && b.used < a.used
 }

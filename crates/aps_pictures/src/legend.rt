@@ -17,6 +17,9 @@ const CELL: u64 = 3400;
 
 const CELLS: u64 = 4;
 
+/// What is said of a partition that a command creates later.
+pub const NOT_CREATED: &str = "not created yet";
+
 /// Where the legend of partitions begins.
 const TOP: u64 = 420;
 
@@ -73,22 +76,17 @@ pub fn sample_at(x: u64, y: u64) -> Area {
     }
 }
 
-/// The name of a partition, what it used, and its budget.
+/// The name of a partition, what it used, and its budget in the last tick that is shown; or that it didn't exist by then.
 fn add_share(out: &mut String, scene: &Scene, p: usize) -> Result<(), NoMemory>
     requires { p < length scene.now.rows.items }
 {
     let name = text_of(&scene.rows[p].name);
     write!(out, "{name} ")?;
+    let Some(row) = scene.standing.rows.get(p) else {
+        return out.push_str(NOT_CREATED);
+    };
     let whole = u128::from(scene.cpus) * u128::from(scene.span.length());
     add_percent(out, scene.usage.used[p], whole)?;
     out.push_str(" of ")?;
-    add_standing(out, scene, p)
-}
-
-/// The budget of a partition in the last tick that is shown, or a dash where it didn't exist.
-fn add_standing(out: &mut String, scene: &Scene, p: usize) -> Result<(), NoMemory> {
-    match scene.standing.rows.get(p) {
-        Some(row) => add_budget(out, row.budget, scene.parts),
-        None => out.push_str("- %"),
-    }
+    add_budget(out, row.budget, scene.parts)
 }

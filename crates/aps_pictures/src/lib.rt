@@ -3,6 +3,7 @@
 #![tactic(auto)]
 
 mod group;
+pub mod laws;
 pub mod legend;
 mod life;
 mod panel;
@@ -12,6 +13,7 @@ pub mod scene;
 mod shown;
 mod survey;
 mod threads;
+mod tip;
 pub mod titles;
 mod usage;
 

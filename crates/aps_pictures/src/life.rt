@@ -2,25 +2,60 @@
 ghost use Rattle.std.specs.Prelude.{◌≡◌, ◌+◌, ◌*◌, ◌<◌, ◌≤◌, length};
 ghost use Rattle.aps_svg.specs.Span.{lowest_top};
 
+use crate::scene::Scene;
+use crate::tip::open_tip;
 use aps_lives::{Doing, Life, Segment};
-use aps_model::{CpuId, NoMemory, PartitionId};
-use aps_svg::element::{add_rect, close_text, open_text};
+use aps_model::{CpuId, Name, NoMemory, PartitionId, Scenario};
+use aps_svg::element::{add_rect, close_group, close_text, open_text};
 use aps_svg::{Anchor, Area, Columns, Edge, Fill, Part, Place, Span};
 use std::fmt::Write;
 
 /// How high a bar is.
 const HEIGHT: u64 = 150;
 
-/// The segments of a life that last long enough to be seen.
-pub fn add_life(out: &mut String, span: &Span, life: &Life, y: u64) -> Result<(), NoMemory>
+/// The segments of a thread's life that last long enough to be seen, and its exit.
+pub fn add_life(
+    out: &mut String,
+    scenario: &Scenario,
+    scene: &Scene,
+    name: &Name,
+    life: &Life,
+    y: u64,
+) -> Result<(), NoMemory>
     requires { y ≤ lowest_top }
 {
     for segment in life.segments() {
-        if span.meets(segment.from, segment.to) {
-            add_segment(out, span, segment, y)?;
+        if is_shown(&scene.span, segment) {
+            open_tip(out, scenario, scene, name, segment)?;
+            add_segment(out, &scene.span, segment, y)?;
+            close_group(out)?;
         }
     }
     Ok(())
+}
+
+/// Whether something is drawn of a segment: a thread that sleeps has nothing, one that is gone a mark where it exits.
+fn is_shown(span: &Span, segment: &Segment) -> bool {
+    if !span.meets(segment.from, segment.to) {
+        return false;
+    }
+    match segment.doing {
+        Doing::Sleeping => false,
+        Doing::Gone => segment.from >= span.from,
+        _ => span.x_of(segment.from) < span.x_of(segment.to),
+    }
+}
+
+/// The exit of a thread with this life, where it lies in the span.
+pub fn add_exit(out: &mut String, span: &Span, life: &Life, y: u64) -> Result<(), NoMemory>
+    requires { y ≤ lowest_top }
+{
+    match life.segments().last() {
+        Some(segment) if segment.doing == Doing::Gone && span.has(segment.from) => {
+            add_gone(out, span.x_of(segment.from), y + 40)
+        }
+        _ => Ok(()),
+    }
 }
 
 fn add_segment(out: &mut String, span: &Span, segment: &Segment, y: u64) -> Result<(), NoMemory>
@@ -28,9 +63,6 @@ fn add_segment(out: &mut String, span: &Span, segment: &Segment, y: u64) -> Resu
 {
     let x = span.x_of(segment.from);
     let width = span.x_of(segment.to).saturating_sub(x);
-    if width == 0 {
-        return Ok(());
-    }
     match segment.doing {
         Doing::Running {
             cpu,
@@ -48,7 +80,9 @@ fn add_segment(out: &mut String, span: &Span, segment: &Segment, y: u64) -> Resu
         }
         Doing::Ready => add_ready(out, x, y + 50, width),
         Doing::Sending(_) | Doing::Replying(_) => add_wait(out, x, y + 50, width),
-        _ => Ok(()),
+        Doing::Receiving(_) => add_receive(out, x, y + 75, width),
+        Doing::Gone => add_gone(out, x, y + 40),
+        Doing::Sleeping => Ok(()),
     }
 }
 
@@ -97,6 +131,23 @@ pub fn add_wait(out: &mut String, x: u64, y: u64, width: u64) -> Result<(), NoMe
     write!(
         out,
         "<rect x=\"{x}\" y=\"{y}\" width=\"{width}\" height=\"50\" fill=\"#ffffff\" stroke=\"#222222\" stroke-width=\"8\"/>\n"
+    )
+}
+
+/// A dotted line of time in which a thread waited for a message.
+pub fn add_receive(out: &mut String, x: u64, y: u64, width: u64) -> Result<(), NoMemory> {
+    write!(
+        out,
+        "<path d=\"M{x} {y}h{width}\" stroke=\"#222222\" stroke-width=\"10\" stroke-dasharray=\"10 30\"/>\n"
+    )
+}
+
+/// A cross where a thread exits, from `y` on downwards.
+pub fn add_gone(out: &mut String, x: u64, y: u64) -> Result<(), NoMemory> {
+    let left = x.saturating_sub(35);
+    write!(
+        out,
+        "<path d=\"M{left} {y}l70 70m0 -70l-70 70\" stroke=\"#222222\" stroke-width=\"14\"/>\n"
     )
 }
 

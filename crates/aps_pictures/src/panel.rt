@@ -4,6 +4,7 @@ ghost use Rattle.aps_model.specs.Limits.{most_partitions};
 ghost use Rattle.aps_svg.specs.Span.{left_edge, lowest_top, page_width};
 
 use crate::group::{Group, Groups};
+use crate::legend::NOT_CREATED;
 use crate::scale::{HEIGHT, Sizes, top_of};
 use crate::survey::{Found, Peak, Range, Survey};
 use crate::titles::{add_budget, text_of};
@@ -108,7 +109,8 @@ fn open_panel_title(out: &mut String, panel: &Panel) -> Result<(), NoMemory> {
     open_text(out, place, size, Anchor::Start)
 }
 
-/// The name of a partition, its budget in the last tick, and where it used the most, and the least while it always had work.
+/// The name of a partition, its budget in the last tick, and where it used the most in windows without a change, the least while it
+/// always had work, and the most in windows with a change.
 fn add_title(
     out: &mut String,
     row: &PartitionRow,
@@ -118,14 +120,27 @@ fn add_title(
     found: &Found,
 ) -> Result<(), NoMemory> {
     let name = text_of(&row.name);
-    write!(out, "{name} budget ")?;
+    write!(out, "{name} ")?;
     match last {
-        Some(last) => add_budget(out, last.budget, parts)?,
-        None => out.push_str("- %")?,
+        Some(last) => add_found(out, last, parts, sizes, found)?,
+        None => out.push_str(NOT_CREATED)?,
     }
+    close_text(out)
+}
+
+/// The budget in the last tick, and what is found.
+fn add_found(
+    out: &mut String,
+    last: &PartitionRow,
+    parts: u16,
+    sizes: Sizes,
+    found: &Found,
+) -> Result<(), NoMemory> {
+    out.push_str("budget ")?;
+    add_budget(out, last.budget, parts)?;
     add_peak(out, ", most ", found.most, sizes)?;
     add_peak(out, ", least with work ", found.least, sizes)?;
-    close_text(out)
+    add_peak(out, ", changed ", found.changed, sizes)
 }
 
 /// What was used in one sample, and where its tick ended.

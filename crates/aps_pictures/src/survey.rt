@@ -2,7 +2,7 @@
 ghost use Rattle.std.specs.Prelude.{◌≡◌, ℕ, ◌+◌, ◌-◌, ◌*◌, ◌<◌, ◌≤◌, length, IfOk, OnOk, if◌then◌else◌, slice_index, slice_index_or, Some, None};
 ghost use Rattle.aps_model.specs.Legal.{IsLegal};
 ghost use Rattle.aps_model.specs.Loaded.{finished_ticks};
-ghost use Rattle.aps_pictures.specs.Survey.{IsSurvey, bound_of, found_with, highest_of, less, more, no_found, peak_of, share_of, whole_of};
+ghost use Rattle.aps_pictures.specs.Survey.{IsSurvey, bound_of, found_with, highest_of, is_changed, less, more, no_found, peak_of, share_of, whole_of};
 ghost use Rattle.aps_pictures.specs.declared.scale.Sizes.{Sizes};
 ghost use Rattle.aps_samples.specs.Pass.{IsAt, scenario_of};
 ghost use Rattle.aps_model.specs.Limits.{last_tick, most_entries, most_partitions};
@@ -42,14 +42,16 @@ pub struct Peak {
     share: u128,
 }
 
-/// Of one partition: its scale, whether it has critical time, and the first of the full samples in which it used the most, and
-/// the least where it always had work.
+/// Of one partition: its scale, whether it has critical time, the first of the unchanged samples in which it used the most, the
+/// first of the full ones in which it used the least while it always had work, and the first of the full ones with a change in
+/// which it used the most.
 #[derive(Clone, Copy)]
 pub struct Found {
     pub scale: usize,
     pub critical: bool,
     pub most: Option<Peak>,
     pub least: Option<Peak>,
+    pub changed: Option<Peak>,
 }
 
 /// Of all samples that are shown: how many are unchanged, the last one that isn't full, what is found of each partition, and
@@ -175,6 +177,7 @@ impl Found {
             critical: false,
             most: None,
             least: None,
+            changed: None,
         }
     }
 
@@ -189,10 +192,18 @@ impl Found {
         Found {
             scale: self.scale.max(scale_of(highest, whole)),
             critical: self.critical || sample.usage.critical[p] > 0,
-            most: more(self.most, peak, sample.full),
+            most: more(self.most, peak, sample.unchanged),
             least: less(self.least, peak, sample.demand[p]),
+            changed: more(self.changed, peak, is_changed(sample)),
         }
     }
+}
+
+/// Whether the window is full, and a change lies in it.
+fn is_changed(sample: &Sample) -> bool
+    ensures { result ≡ is_changed sample.now }
+{
+    sample.full && !sample.unchanged
 }
 
 /// What the partition used in the sample, whose window has so much processor time.

@@ -5,11 +5,11 @@ ghost use Rattle.aps_model.specs.Limits.{most_entries, most_threads};
 ghost use Rattle.aps_svg.specs.Span.{lowest_top};
 
 use crate::legend::{add_hatched, add_partitions, add_sample, below_partitions};
-use crate::life::{add_life, add_ready, add_wait, stacked};
+use crate::life::{add_exit, add_gone, add_life, add_ready, add_receive, add_wait, stacked};
 use crate::scene::Scene;
 use crate::titles::{add_words, open_span_title, text_of};
 use aps_lives::{Life, lives};
-use aps_model::{History, NoMemory, Order, ThreadRow};
+use aps_model::{History, NoMemory, Order, Scenario, ThreadRow};
 use aps_samples::table::Ticks;
 use aps_svg::axis::{Frame, add_axis};
 use aps_svg::columns::Strip;
@@ -39,17 +39,20 @@ pub fn threads_text(
 {
     let scene = Scene::of(alloc, history, order, ticks)?;
     let lives = lives(alloc, history, order)?;
+    let scenario = history.scenario();
     draw(
         alloc,
-        history.scenario().threads(),
+        scenario,
+        scenario.threads(),
         &scene,
         lives.as_slice(),
     )
 }
 
-/// The picture of these threads, whose lives these are.
+/// The picture of these threads of a scenario, whose lives these are.
 fn draw(
     alloc: Global,
+    scenario: &Scenario,
     threads: &[ThreadRow],
     scene: &Scene,
     lives: &[Life],
@@ -57,7 +60,7 @@ fn draw(
     requires { length threads.now ≤ most_threads }
 {
     let mut out = String::new(alloc);
-    add_picture(alloc, &mut out, threads, scene, lives)?;
+    add_picture(alloc, &mut out, scenario, threads, scene, lives)?;
     Ok(out)
 }
 
@@ -65,6 +68,7 @@ fn draw(
 fn add_picture(
     alloc: Global,
     out: &mut String,
+    scenario: &Scenario,
     threads: &[ThreadRow],
     scene: &Scene,
     lives: &[Life],
@@ -78,7 +82,7 @@ fn add_picture(
     add_top(out, scene, exact)?;
     add_axis(out, frame_of(top, bottom), scene.span)?;
     if exact {
-        add_lives(out, scene, threads, lives, top)?;
+        add_lives(out, scenario, threads, scene, lives, top)?;
     } else {
         add_stacks(alloc, out, scene, threads, lives, top)?;
     }
@@ -130,16 +134,21 @@ fn add_top(out: &mut String, scene: &Scene, exact: bool) -> Result<(), NoMemory>
     add_words(out, 3940, y + 125, "critical time")?;
     add_ready(out, 5300, y + 50, 260)?;
     add_words(out, 5640, y + 125, "ready, others run")?;
-    add_manner(out, y, exact)
+    add_manner(out, y, exact)?;
+    add_gone(out, 12_900, y + 40)?;
+    add_words(out, 13_020, y + 125, "exits")
 }
 
-/// How waits are drawn, or that columns are.
+/// How waits are drawn, with the line between those for a server to take a message and those for its reply; or that columns are.
 fn add_manner(out: &mut String, y: u64, exact: bool) -> Result<(), NoMemory>
     requires { y ≤ lowest_top }
 {
     if exact {
-        add_wait(out, 7400, y + 50, 260)?;
-        add_words(out, 7740, y + 125, "waits for a server")
+        add_wait(out, 7400, y + 50, 130)?;
+        add_wait(out, 7530, y + 50, 130)?;
+        add_words(out, 7740, y + 125, "waits for a server: queue, service")?;
+        add_receive(out, 10_660, y + 75, 260)?;
+        add_words(out, 11_000, y + 125, "waits for a message")
     } else {
         add_words(
             out,
@@ -153,8 +162,9 @@ fn add_manner(out: &mut String, y: u64, exact: bool) -> Result<(), NoMemory>
 /// The lanes of all threads, segment by segment.
 fn add_lives(
     out: &mut String,
-    scene: &Scene,
+    scenario: &Scenario,
     threads: &[ThreadRow],
+    scene: &Scene,
     lives: &[Life],
     top: u64,
 ) -> Result<(), NoMemory>
@@ -165,7 +175,7 @@ fn add_lives(
         let y = top + x as u64 * LANE + 50;
         open_lane(out, x, thread, y)?;
         if let Some(life) = lives.get(x) {
-            add_life(out, &scene.span, life, y)?;
+            add_life(out, scenario, scene, &thread.name, life, y)?;
         }
         close_group(out)?;
     }
@@ -191,28 +201,25 @@ fn add_stacks(
         if let Some(life) = lives.get(x) {
             stacked(&mut columns, &scene.span, life);
         }
-        add_stack(out, &mut columns, x, thread, y)?;
+        open_lane(out, x, thread, y)?;
+        add_stack(out, &mut columns, y)?;
+        if let Some(life) = lives.get(x) {
+            add_exit(out, &scene.span, life, y)?;
+        }
+        close_group(out)?;
     }
     Ok(())
 }
 
-/// The lane of a thread, as these columns.
-fn add_stack(
-    out: &mut String,
-    columns: &mut Columns,
-    x: usize,
-    thread: &ThreadRow,
-    y: u64,
-) -> Result<(), NoMemory>
+/// These columns, from `y` on downwards.
+fn add_stack(out: &mut String, columns: &mut Columns, y: u64) -> Result<(), NoMemory>
     requires { y ≤ lowest_top }
 {
-    open_lane(out, x, thread, y)?;
     let strip = Strip {
         top: y,
         height: HEIGHT,
     };
-    columns.draw(out, strip)?;
-    close_group(out)
+    columns.draw(out, strip)
 }
 
 /// The beginning of a thread's lane: its name.

@@ -1,3 +1,4 @@
+//! Moments by the machine's clock.
 ghost use Rattle.std.specs.Prelude.{◌≤◌, IfSome};
 ghost use Rattle.aps_model.specs.Limits.{last_moment};
 

@@ -1,3 +1,4 @@
+//! Moments that are counted, the same in each run.
 ghost use Rattle.std.specs.Prelude.{◌≡◌, ℕ, ◌+◌, ◌*◌, ◌%◌, ◌≤◌, ◌<◌, ◌↔◌, IfSome, true};
 ghost use Rattle.aps_model.specs.Limits.{last_moment};
 

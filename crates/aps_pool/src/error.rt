@@ -1,3 +1,4 @@
+//! Why the pool doesn't work.
 use aps_scenario::ScenarioRefusal;
 use std::alloc::AllocError;
 use std::io;

@@ -1,3 +1,4 @@
+//! Where a worker waits for a slot.
 use crate::slot::{OfLive, Slot};
 use std::sync::{Condvar, Mutex, Wait};
 

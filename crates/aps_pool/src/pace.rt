@@ -1,3 +1,4 @@
+//! Where the moments of a pool come from.
 ghost use Rattle.std.specs.Prelude.{◌≤◌, IfSome};
 ghost use Rattle.aps_model.specs.Limits.{last_moment};
 

@@ -1,3 +1,4 @@
+//! What the workers of a pool share.
 use crate::mailbox::Mailbox;
 use crate::slot::{OfLive, Slot};
 use aps_model::ThreadId;

@@ -1,3 +1,4 @@
+//! A processor, with the right to step it.
 ghost use Rattle.std.specs.Prelude.{◌≡◌, ◌<◌, ◌≤◌, ◌++◌};
 ghost use Rattle.aps_live.specs.declared.event.LiveEvent.TheVariants.{Stay};
 ghost use Rattle.aps_live.specs.Seats.{IsSeatOf, IsSeatTurn, own_steps, taken};

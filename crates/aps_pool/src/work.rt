@@ -1,3 +1,4 @@
+//! The workers of a pool, and the pieces of work that they do.
 ghost use Rattle.std.specs.Prelude.{◌≡◌, ◌++◌};
 ghost use Rattle.aps_pool.specs.Pool.{IsAsked};
 

@@ -4,10 +4,10 @@ use Rattle.std.proofs.lemmas.List.{length-map}
 use Rattle.aps_model.specs.declared.shape.Free.{Free}
 use Rattle.aps_model.specs.declared.merit.PartFacts.{PartFacts}
 use Rattle.aps_model.specs.declared.merit.Contender.{Contender}
-use Rattle.aps_model.specs.Limits.{last_thread, most_threads}
+use Rattle.aps_model.specs.Limits.{last_thread}
 use Rattle.aps_model.specs.Pick.{greatest}
 use Rattle.aps_ready.specs.declared.entrant.Entrant.{Entrant}
-use Rattle.aps_ready.specs.Ready.{members, contender_of, seat_of, IsQueued}
+use Rattle.aps_ready.specs.Ready.{members, contender_of, seat_of, HasThreads, IsQueued}
 use Rattle.aps_ready.specs.Winner.{IsWinner}
 use Rattle.aps_ready.proofs.Queued.{seat_in}
 use Rattle.aps_ready.proofs.Winner.{best_is_greatest, none_is_greatest, place_by, thread_small}
@@ -38,7 +38,7 @@ pub record IsGreatestOf (free : Free) (parts : List PartFacts) (seats : List (Op
   pub inside : e.group < group_count → e.thread < length seats
   pub present : e.group < group_count → get_or seats e.thread None ≢ None
 
-pub greatest_by : (free : Free) (parts : List PartFacts) (row : List Entrant) (e : Entrant) (seats : List (Option Contender)) → length row ≤ most_threads
+pub greatest_by : (free : Free) (parts : List PartFacts) (row : List Entrant) (e : Entrant) (seats : List (Option Contender)) → HasThreads row
     → IsQueued row → map seat_of row ≡ seats → IsWinner free parts row e → IsGreatestOf free parts seats e
 greatest_by free parts row e seats few queued view is_winner = record {
   is = winner_is free parts row e queued is_winner ∙ ap (λ (l : List (Option Contender)). greatest free parts (members l)) view;

@@ -2,7 +2,7 @@ use Rattle.std.proofs.Common.{◌≡◌, ◌≢◌, ◌⊎◌, inl, inr, ℕ, ze
 use Rattle.std.proofs.lemmas.Bool.{cases_eq}
 use Rattle.std.proofs.lemmas.Bool.Decides.{nat_tests}
 use Rattle.std.proofs.lemmas.List.{get_or-replicate, length-replicate, get_or_past}
-use Rattle.aps_model.specs.Limits.{greatest_priority, most_threads}
+use Rattle.aps_model.specs.Limits.{greatest_priority, last_thread, most_threads}
 use Rattle.aps_levels.specs.declared.bits.Bits64.{Bits64}
 use Rattle.aps_levels.specs.Bits.{has}
 use Rattle.aps_levels.specs.Levels.{level_count}
@@ -11,7 +11,7 @@ use Rattle.aps_ready.specs.Entrant.{entrant_at, vacant}
 use Rattle.aps_ready.specs.Lists.{head_of, link, list_of, node_count, IsNode, IsLinked, AreRings, IsPlace, AreLists}
 use Rattle.aps_ready.specs.Ready.{IsQueued}
 use Rattle.aps_ready.specs.Table.{bits_at}
-use Rattle.aps_ready.proofs.Queued.{queued_set, queued_replicate}
+use Rattle.aps_ready.proofs.Queued.{queued_set, queued_replicate, threads_set}
 use Rattle.aps_ready.proofs.Rings.{within_row, list_of_thread, list_of_head, thread_node, node_still, joined, left_out}
 use Rattle.aps_ready.specs.Group.{group_count}
 
@@ -29,9 +29,9 @@ head_low l g l_below g_below = omega (arith, l_below, g_below)
 
 pub rings_entered : (row : List Entrant) (after before : List ℕ) (x place : ℕ) (e : Entrant) → AreRings row after before → x < length row
     → e.group < group_count → e.level ≤ greatest_priority → group_count ≤ (entrant_at row x).group → IsPlace row after (head_of e.level e.group) e.stamp place
-    → AreRings (set row x e) (set (set after place x) x (link after place)) (set (set before (link after place) x) x place)
-rings_entered row after before x place e rings within there level out is_place = record {
-  few = omega (arith, length-set row x e, rings.few);
+    → x ≤ last_thread → AreRings (set row x e) (set (set after place x) x (link after place)) (set (set before (link after place) x) x place)
+rings_entered row after before x place e rings within there level out is_place small = record {
+  few = threads_set row x e rings.few within (λ _. small);
   levels = λ y y_there. elim (cases_eq y x) [
     | inl same ↦ subst (λ (f : Entrant). f.level ≤ greatest_priority) (sym (ap (entrant_at new) same ∙ here)) level
     | inr ne ↦ subst (λ (f : Entrant). f.level ≤ greatest_priority) (sym (others y ne)) (rings.levels y (subst (λ (f : Entrant). f.group < group_count) (others y ne) y_there))
@@ -104,7 +104,7 @@ rings_entered row after before x place e rings within there level out is_place =
     after_new = set (set after place x) x next
 
     low : x < most_threads
-    low = omega (arith, within, rings.few)
+    low = omega (arith, small)
 
     here : entrant_at new x ≡ e
     here = get_or-set_same row x e vacant within
@@ -146,7 +146,7 @@ next_is_other row after before x rings there =
     (not_next, λ same. not_next (ap (link after) (sym same) ∙ (rings.back x node).returns))
   where
     low : x < most_threads
-    low = omega (arith, within_row row x there, rings.few)
+    low = omega (arith, rings.few x there)
 
     node : IsNode row x
     node = thread_node row x low there
@@ -158,7 +158,7 @@ next_is_other row after before x rings there =
 pub rings_left : (row : List Entrant) (after before : List ℕ) (x : ℕ) → AreRings row after before → (entrant_at row x).group < group_count
     → AreRings (set row x vacant) (set after (link before x) (link after x)) (set before (link after x) (link before x))
 rings_left row after before x rings there = record {
-  few = omega (arith, length-set row x vacant, rings.few);
+  few = threads_set row x vacant rings.few (within_row row x there) (λ g. absurd (omega (arith, g)));
   levels = λ y y_there.
       let ne : y ≢ x = not_gone y y_there in
       subst (λ (f : Entrant). f.level ≤ greatest_priority) (sym (others y ne)) (rings.levels y (subst (λ (f : Entrant). f.group < group_count) (others y ne) y_there));
@@ -235,7 +235,7 @@ rings_left row after before x rings there = record {
     within = within_row row x there
 
     low : x < most_threads
-    low = omega (arith, within, rings.few)
+    low = omega (arith, rings.few x there)
 
     node : IsNode row x
     node = thread_node row x low there
@@ -268,7 +268,7 @@ headed_by zero row after before x rings there small = absurd (omega (arith, smal
 headed_by (suc fuel) row after before x rings there small = by_side (headed_by fuel row after before last rings) (below_or_not last most_threads)
   where
     low : x < most_threads
-    low = omega (arith, within_row row x there, rings.few)
+    low = omega (arith, rings.few x there)
 
     node : IsNode row x
     node = thread_node row x low there
@@ -324,18 +324,18 @@ clash : (t : Bool) → t ≡ true → t ≡ false → ⊥
 clash t p q = cc
 
 pub lists_entered : (row : List Entrant) (after before : List ℕ) (at_level new_levels : List Bits64) (x place : ℕ) (e : Entrant)
-    → AreLists row after before at_level → x < length row → e.group < group_count → e.level ≤ greatest_priority → e.thread ≡ x → group_count ≤ (entrant_at row x).group
+    → AreLists row after before at_level → x < length row → x ≤ last_thread → e.group < group_count → e.level ≤ greatest_priority → e.thread ≡ x → group_count ≤ (entrant_at row x).group
     → ((y : ℕ) → (entrant_at row y).group < group_count → (entrant_at row y).stamp ≢ e.stamp)
     → IsPlace row after (head_of e.level e.group) e.stamp place
     → ((l g : ℕ) → l < level_count → has (bits_at new_levels l) g ≡ ((nat_eq l e.level && nat_eq g e.group) || has (bits_at at_level l) g))
     → AreLists (set row x e) (set (set after place x) x (link after place)) (set (set before (link after place) x) x place) new_levels
-lists_entered row after before at_level new_levels x place e lists within there level thread out fresh is_place at = record {
+lists_entered row after before at_level new_levels x place e lists within small there level thread out fresh is_place at = record {
   queued = queued_set row x e lists.queued within (λ _. record {
     level = level;
     thread = thread;
     stamp = λ y y_in ne y_there. fresh y y_there;
   });
-  rings = rings_entered row after before x place e lists.rings within there level out is_place;
+  rings = rings_entered row after before x place e lists.rings within there level out is_place small;
   used = λ y y_there. elim (cases_eq y x) [
     | inl same ↦
         subst (λ (f : Entrant). has (bits_at new_levels f.level) f.group ≡ true) (sym (ap (entrant_at new) same ∙ here))
@@ -380,7 +380,7 @@ lists_entered row after before at_level new_levels x place e lists within there 
     after_new = set (set after place x) x (link after place)
 
     low : x < most_threads
-    low = omega (arith, within, lists.rings.few)
+    low = omega (arith, small)
 
     here : entrant_at new x ≡ e
     here = get_or-set_same row x e vacant within
@@ -420,7 +420,7 @@ left_there row x y there y_there same =
 left_head : (row : List Entrant) (after before : List ℕ) (at_level : List Bits64) (x l g k h : ℕ) → IsGoing row after before at_level x l g
     → head_of k h ≡ link before x → head_of k h ≡ head_of l g
 left_head row after before at_level x l g k h going is =
-    let low : x < most_threads = omega (arith, within_row row x going.there, going.lists.rings.few) in
+    let low : x < most_threads = omega (arith, going.lists.rings.few x going.there) in
     let head : most_threads ≤ link before x = omega (arith, is) in
     is ∙ sym (list_of_head row (link before x) head) ∙ (going.lists.rings.back x (thread_node row x low going.there)).same
     ∙ list_of_thread row x low ∙ ap (λ (j : ℕ). head_of j (entrant_at row x).group) going.level ∙ ap (head_of l) going.group
@@ -477,7 +477,7 @@ lists_emptied row after before at_level new_levels x l g going none at = record 
     apart : (y : ℕ) → (entrant_at new y).group < group_count → (nat_eq (entrant_at new y).level l && nat_eq (entrant_at new y).group g) ≡ true → ⊥
     apart y y_there h =
         let parts = both (nat_eq (entrant_at new y).level l) (nat_eq (entrant_at new y).group g) h in
-        let low : y < most_threads = omega (arith, within_row new y y_there, rings.few) in
+        let low : y < most_threads = omega (arith, rings.few y y_there) in
         let list : list_of new y ≡ head_of l g =
         list_of_thread new y low ∙ ap (λ (j : ℕ). head_of j (entrant_at new y).group) (is_same (entrant_at new y).level l parts.0)
         ∙ ap (head_of l) (is_same (entrant_at new y).group g parts.1) in
@@ -500,13 +500,13 @@ lists_emptied row after before at_level new_levels x l g going none at = record 
 
 -- ---- nobody is in
 
-pub lists_empty : (threads : ℕ) (after before : List ℕ) (at_level : List Bits64) → threads ≤ most_threads → length after ≡ node_count → length before ≡ node_count
+pub lists_empty : (threads : ℕ) (after before : List ℕ) (at_level : List Bits64) → length after ≡ node_count → length before ≡ node_count
     → ((n : ℕ) → n < node_count → link after n ≡ n) → ((n : ℕ) → n < node_count → link before n ≡ n)
     → ((l g : ℕ) → has (bits_at at_level l) g ≡ false) → AreLists (replicate threads vacant) after before at_level
-lists_empty threads after before at_level few after_size before_size after_own before_own nowhere = record {
+lists_empty threads after before at_level after_size before_size after_own before_own nowhere = record {
   queued = queued_replicate threads;
   rings = record {
-    few = omega (arith, few, length-replicate threads vacant);
+    few = λ x there. absurd (none x there);
     levels = λ x there. absurd (none x there);
     after_size = after_size;
     before_size = before_size;

@@ -217,7 +217,7 @@ first_is row after before at_level l g lists l_below g_below level = record {
     -- whoever is of this group and level has a thread before it
     list_is : (x : ℕ) → x < length row → (entrant_at row x).group ≡ g → (entrant_at row x).level ≡ l → list_of row x ≡ head_of l g
     list_is x within group is =
-        list_of_thread row x (omega (arith, within, lists.rings.few)) ∙ ap (λ (k : ℕ). head_of k (entrant_at row x).group) is ∙ ap (head_of l) group
+        list_of_thread row x (omega (arith, lists.rings.few x (omega (arith, group, g_below)))) ∙ ap (λ (k : ℕ). head_of k (entrant_at row x).group) is ∙ ap (head_of l) group
 
     low : t < most_threads
     low = subst (λ (h : ℕ). link after h < most_threads) (list_is one.place one.within one.group (one.level ∙ level))

@@ -1,13 +1,13 @@
-use Rattle.std.proofs.Common.{◌≡◌, ◌≢◌, inl, inr, ℕ, zero, suc, ◌+◌, ◌-◌, ◌%◌, ◌<◌, ◌≤◌, Bool, true, false, cond, nat_lt, List, ◌∷◌, length, map, get_or, set, replicate, Option, Some, None, All, refl, sym, ◌∙◌, ap, subst, arith, length-set, get_or-set_same, get_or-set_other}
+use Rattle.std.proofs.Common.{◌≡◌, ◌≢◌, ◌⊎◌, inl, inr, ℕ, zero, suc, ◌+◌, ◌-◌, ◌%◌, ◌<◌, ◌≤◌, Bool, true, false, cond, nat_lt, List, ◌∷◌, length, map, get_or, set, replicate, Option, Some, None, All, refl, sym, ◌∙◌, ap, subst, arith, length-set, get_or-set_same, get_or-set_other}
 use Rattle.std.specs.Option.{option_map}
 use Rattle.std.proofs.lemmas.Bool.{cases_eq}
 use Rattle.std.proofs.lemmas.Bool.Decides.{nat_tests}
-use Rattle.std.proofs.lemmas.List.{map-set, get_or-map, get_or-replicate, length-replicate, length-map}
+use Rattle.std.proofs.lemmas.List.{map-set, get_or-map, get_or-replicate, get_or_past, length-replicate, length-map}
 use Rattle.aps_model.specs.declared.state.Facts.{Facts}
 use Rattle.aps_model.specs.declared.merit.Contender.{Contender}
-use Rattle.aps_model.specs.Limits.{greatest_priority, last_partition, most_partitions}
+use Rattle.aps_model.specs.Limits.{greatest_priority, last_partition, last_thread, most_partitions}
 use Rattle.aps_ready.specs.declared.entrant.Entrant.{Entrant}
-use Rattle.aps_ready.specs.Ready.{IsFree, contender_of, seat_of, with_facts, IsQueued}
+use Rattle.aps_ready.specs.Ready.{IsFree, contender_of, seat_of, with_facts, HasThreads, IsQueued}
 use Rattle.aps_ready.specs.Entrant.{entrant_at, entrant_of, group_of, vacant}
 use Rattle.aps_ready.specs.Group.{group_count}
 
@@ -44,6 +44,25 @@ queued_set row x e queued within welcome =
         ]
       ];
     }
+
+pub threads_set : (row : List Entrant) (x : ℕ) (e : Entrant) → HasThreads row → x < length row → (e.group < group_count → x ≤ last_thread)
+    → HasThreads (set row x e)
+threads_set row x e few within small y there = elim (cases_eq y x) [
+  | inl same ↦
+      let at : entrant_at (set row x e) y ≡ e = ap (entrant_at (set row x e)) same ∙ get_or-set_same row x e vacant within in
+      omega (arith, same, small (subst (λ (f : Entrant). f.group < group_count) at there))
+  | inr other ↦ few y (subst (λ (f : Entrant). f.group < group_count) (get_or-set_other row x y e vacant other) there)
+]
+
+pub threads_replicate : (n : ℕ) → HasThreads (replicate n vacant)
+threads_replicate n x there = elim (below_or_not x n) [
+  | inl low ↦ absurd (omega (arith, there, ap (λ (f : Entrant). f.group) (get_or-replicate n x vacant vacant low)))
+  | inr past ↦
+      absurd (omega (arith, there, ap (λ (f : Entrant). f.group) (get_or_past (replicate n vacant) x vacant (omega (arith, past, length-replicate n vacant)))))
+]
+  where
+    below_or_not : (a b : ℕ) → (a < b) ⊎ (b ≤ a)
+    below_or_not a b = search arith
 
 pub queued_replicate : (n : ℕ) → IsQueued (replicate n vacant)
 queued_replicate n =

@@ -9,14 +9,14 @@ use Rattle.aps_model.specs.Merit.{is_candidate, IsGreater}
 use Rattle.aps_model.specs.Budget.{part_at}
 use Rattle.aps_model.specs.Pick.{merit_among, candidates, greatest, IsGreatestCandidate}
 use Rattle.aps_model.proofs.GreatestLaws.{greatest-is, greatest-only, no_greatest, unbeaten-less}
-use Rattle.aps_model.specs.Limits.{greatest_priority, last_partition, last_thread, most_partitions, most_threads}
+use Rattle.aps_model.specs.Limits.{greatest_priority, last_partition, last_thread, most_partitions}
 use Rattle.aps_levels.specs.declared.bits.Bits64.{Bits64}
 use Rattle.aps_levels.specs.Bits.{has}
 use Rattle.aps_levels.specs.Levels.{level_count}
 use Rattle.aps_ready.specs.declared.entrant.Entrant.{Entrant}
 use Rattle.aps_ready.specs.declared.gates.Gates.{Gates}
 use Rattle.aps_ready.specs.Entrant.{entrant_at, goes_before}
-use Rattle.aps_ready.specs.Ready.{members, facts_of, contender_of, seat_of, IsQueued}
+use Rattle.aps_ready.specs.Ready.{members, facts_of, contender_of, seat_of, HasThreads, IsQueued}
 use Rattle.aps_ready.specs.Gates.{is_first, is_open, open_first, AreGates}
 use Rattle.aps_ready.specs.Firsts.{level_of, AreLeast, AreEmpty}
 use Rattle.aps_ready.specs.Likely.{AreOccupied, AreLikely, AreLikelySecond}
@@ -495,11 +495,11 @@ place_by row best x queued sits g is =
     is_some : (c : Contender) → Some c ≡ None → ⊥
     is_some c h = cc
 
-pub thread_small : (row : List Entrant) (best : Entrant) → length row ≤ most_threads → IsQueued row → Sits row best → best.group < group_count
+pub thread_small : (row : List Entrant) (best : Entrant) → HasThreads row → IsQueued row → Sits row best → best.group < group_count
     → best.thread ≤ last_thread
 thread_small row best few queued sits g =
     let there : (entrant_at row sits.place).group < group_count = subst (λ (e : Entrant). e.group < group_count) (sym sits.is) g in
-    omega (arith, sits.within, few, queued.threads sits.place sits.within there, ap (λ (e : Entrant). e.thread) sits.is)
+    omega (arith, few sits.place there, queued.threads sits.place sits.within there, ap (λ (e : Entrant). e.thread) sits.is)
 
 -- ---- the groups that are looked at aren't empty
 

@@ -4,7 +4,7 @@ use Rattle.aps_levels.specs.declared.bits.Bits64.{Bits64}
 use Rattle.aps_levels.specs.Bits.{has}
 use Rattle.aps_ready.specs.declared.entrant.Entrant.{Entrant}
 use Rattle.aps_ready.specs.Entrant.{entrant_at}
-use Rattle.aps_ready.specs.Ready.{IsQueued}
+use Rattle.aps_ready.specs.Ready.{HasThreads, IsQueued}
 use Rattle.aps_ready.specs.Table.{bits_at}
 use Rattle.aps_model.specs.Limits.{greatest_priority, most_threads}
 use Rattle.aps_levels.specs.Levels.{level_count}
@@ -47,7 +47,7 @@ AreRising row after = (n : ℕ) → IsNode row n → n < most_threads → link a
 
 -- each list is a ring: from its head through its threads, in order of their stamps, and back to its head
 pub record AreRings (row : List Entrant) (after before : List ℕ) : Type 0 where
-  pub few : length row ≤ most_threads
+  pub few : HasThreads row
   pub levels : (x : ℕ) → (entrant_at row x).group < group_count → (entrant_at row x).level ≤ greatest_priority
   pub after_size : length after ≡ node_count
   pub before_size : length before ≡ node_count

@@ -1,7 +1,7 @@
 use Rattle.std.specs.Prelude.{◌≡◌, ◌≢◌, ℕ, ◌-◌, ◌%◌, ◌<◌, ◌≤◌, nat_lt, nat_eq, if◌then◌else◌, List, [], ◌∷◌, length, slice_set, Option, Some, None}
 use Rattle.aps_model.specs.declared.state.Facts.{Facts}
 use Rattle.aps_model.specs.declared.merit.Contender.{Contender}
-use Rattle.aps_model.specs.Limits.{greatest_priority, last_partition, most_partitions}
+use Rattle.aps_model.specs.Limits.{greatest_priority, last_partition, last_thread, most_partitions}
 use Rattle.aps_ready.specs.declared.entrant.Entrant.{Entrant}
 use Rattle.aps_ready.specs.Entrant.{entrant_at, vacant}
 use Rattle.aps_ready.specs.Group.{group_count}
@@ -40,6 +40,10 @@ seat_of e = if nat_lt e.group group_count then Some (contender_of e) else None
 -- who is in and of a group
 abbrev pub entrant_in : ℕ → Entrant → Entrant
 entrant_in g e = if nat_eq e.group g then e else vacant
+
+-- only threads with a number of the machine's are in, however many places there are
+abbrev pub HasThreads : List Entrant → Type 0
+HasThreads row = (x : ℕ) → (entrant_at row x).group < group_count → x ≤ last_thread
 
 -- stamps differ, and whoever is in is in its own place
 pub record IsQueued (row : List Entrant) : Type 0 where

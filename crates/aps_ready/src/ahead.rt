@@ -11,7 +11,7 @@ use aps_levels::Bits64;
 
 /// What the greatest candidate is ahead by: its class, and its priority. Where it is of class 0 and free time goes by ratio, nothing
 /// is said of the priority here.
-#[derive(Clone, Copy, Debug, PartialEq, Eq)]
+#[derive(Clone, Copy, PartialEq, Eq)]
 pub struct Ahead {
     pub class: u8,
     pub priority: u8,

@@ -1,6 +1,6 @@
 //! Who is in, as it is kept.
 ghost use Rattle.std.specs.Prelude.{◌≡◌, ◌<◌, ◌≤◌};
-ghost use Rattle.aps_model.specs.Limits.{greatest_priority, last_partition};
+ghost use Rattle.aps_model.specs.Limits.{greatest_priority, last_partition, last_thread};
 ghost use Rattle.aps_model.specs.declared.state.Facts.{Facts};
 ghost use Rattle.aps_ready.specs.Entrant.{vacant, entrant_of};
 ghost use Rattle.aps_ready.specs.Ready.{seat_of};
@@ -10,7 +10,7 @@ use aps_model::{Contender, Facts, PartitionId, ThreadId};
 
 /// Who is in: a thread, its group, its level (the lower goes first), and its stamp, which decides between equal
 /// levels. It is sixteen bytes of plain numbers without a gap, so that one is copied and compared in a few instructions.
-#[derive(Clone, Copy, Debug, PartialEq, Eq)]
+#[derive(Clone, Copy, PartialEq, Eq)]
 pub struct Entrant {
     /// 255 less the priority, 256 where nobody is
     pub level: u16,
@@ -37,6 +37,7 @@ pub fn vacant() -> Entrant
 #[inline(always)]
 pub fn entrant_of(x: ThreadId, facts: Facts, stamp: u64) -> Entrant
     ensures same { result ≡ entrant_of x facts stamp }
+    ensures thread { x ≤ last_thread }
     ensures partition { facts.partition ≤ last_partition }
     ensures priority { facts.priority ≤ greatest_priority }
 {

@@ -14,7 +14,7 @@ use aps_model::{PartFacts, PartitionId};
 /// class 0, and the partitions with a budget above 0. A group is a partition's number, or 32 more for its critical
 /// threads. Keep one beside the partitions and set what changes, so that no look at the ready threads goes through all of
 /// them.
-#[derive(Clone, Copy, Debug, PartialEq, Eq)]
+#[derive(Clone, Copy, PartialEq, Eq)]
 pub struct Gates {
     pub(crate) first: Bits64,
     pub(crate) second: Bits64,

@@ -5,7 +5,7 @@ ghost use Rattle.aps_ready.specs.Entrant.{entrant_at, vacant};
 ghost use Rattle.aps_ready.specs.Firsts.{firsts_of, level_of, AreAt, AreEmpty, AreLeast};
 ghost use Rattle.aps_ready.specs.Leaders.{IsEarliest};
 ghost use Rattle.aps_ready.specs.Lists.{head_of, link, list_of, AreRings, IsNode, IsPlace};
-ghost use Rattle.aps_model.specs.Limits.{greatest_priority, most_threads};
+ghost use Rattle.aps_model.specs.Limits.{greatest_priority, last_thread};
 ghost use Rattle.aps_levels.specs.Levels.{level_count};
 ghost use Rattle.aps_ready.specs.Group.{group_count};
 
@@ -48,7 +48,6 @@ impl Model for Lists {
 impl Lists {
     /// Nobody is in.
     pub fn new(alloc: Global, threads: usize) -> Result<Lists, NoMemory>
-        requires { threads ≤ most_threads }
         ensures { IfOk result (λ lists. lists ≡ replicate threads vacant) }
     {
         let row = vec![in alloc; vacant(); threads]?;
@@ -92,6 +91,7 @@ impl Lists {
         requires group { one.group < group_count }
         requires level { one.level ≤ greatest_priority }
         requires inside { one.thread < length self.old }
+        requires few { one.thread ≤ last_thread }
         requires out { group_count ≤ (entrant_at self.old one.thread).group }
         requires stamp { (x : ℕ) → (entrant_at self.old x).group < group_count → (entrant_at self.old x).stamp ≢ one.stamp }
         ensures { self.new ≡ slice_set self.old one.thread one }

@@ -1,7 +1,7 @@
 //! The ready threads, and the greatest candidate among them.
 ghost use Rattle.std.specs.Prelude.{◌≡◌, ◌≢◌, ◌<◌, ◌≤◌, All, List, length, slice_set, slice_index_or, replicate, IfOk, IfSome, Some, None};
 ghost use Rattle.std.specs.Option.{option_map};
-ghost use Rattle.aps_model.specs.Limits.{last_thread, most_partitions, most_threads};
+ghost use Rattle.aps_model.specs.Limits.{last_thread, most_partitions};
 ghost use Rattle.aps_model.specs.Pick.{greatest, missing};
 ghost use Rattle.aps_model.specs.declared.merit.Contender.{Contender};
 ghost use Rattle.aps_model.specs.declared.merit.PartFacts.{PartFacts};
@@ -23,7 +23,7 @@ use std::alloc::Global;
 use std::marker::Model;
 
 /// What was drawn: the greatest candidate, which is out from then on, and the greatest of those that were left.
-#[derive(Clone, Copy, Debug, PartialEq, Eq)]
+#[derive(Clone, Copy, PartialEq, Eq)]
 pub struct Drawn {
     pub picked: Option<Contender>,
     pub left: Option<Contender>,
@@ -46,22 +46,21 @@ impl Drop for Ready {
 }
 
 impl Model for Ready {
-    ghost use Rattle.std.specs.Prelude.{◌≤◌, List, Option, length, map};
+    ghost use Rattle.std.specs.Prelude.{List, Option, map};
     ghost use Rattle.aps_model.specs.declared.merit.Contender.{Contender};
-    ghost use Rattle.aps_model.specs.Limits.{most_threads};
-    ghost use Rattle.aps_ready.specs.Ready.{seat_of, IsQueued};
+    ghost use Rattle.aps_ready.specs.Ready.{seat_of, HasThreads, IsQueued};
 
     ghost Value = { List (Option Contender) };
 
     ghost view = { λ r. map seat_of r.lists };
 
-    ghost invariant = { λ r. IsQueued r.lists × (length r.lists ≤ most_threads) };
+    ghost invariant = { λ r. IsQueued r.lists × HasThreads r.lists };
 }
 
 impl Ready {
-    /// Nobody is in. All room is taken here: 16 bytes for each thread, and 73,728 besides.
+    /// So many places, and nobody is in. All room is taken here: 16 bytes for each place, and 73,728 besides. Places behind
+    /// that of the last thread number stay empty.
     pub fn new(alloc: Global, threads: u16) -> Result<Ready, NoMemory>
-        requires { threads ≤ most_threads }
         ensures { IfOk result (λ ready. ready ≡ replicate threads None) }
     {
         let lists = Lists::new(alloc, threads as usize)?;
@@ -70,7 +69,8 @@ impl Ready {
 
     /// What is known of a thread, if it is in.
     pub fn at(&self, x: ThreadId) -> Option<Contender>
-        ensures { result ≡ slice_index_or self.now x None }
+        ensures known { result ≡ slice_index_or self.now x None }
+        ensures thread { IfSome result (λ c. c.thread ≡ x) }
     {
         let index = x.index();
         if index < self.lists.len() {

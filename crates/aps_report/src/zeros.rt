@@ -1,3 +1,4 @@
+//! Lists of zeros.
 ghost use Rattle.std.specs.Prelude.{◌≡◌, IfOk, replicate};
 
 use aps_model::NoMemory;

@@ -35,7 +35,7 @@ const MOST_NEED: u64 = MOST_CRITICAL;
 /// text, it has one tick, and the rest is as in a scenario where nothing is given. Every value is valid, which its type
 /// keeps: the shape has its ranges, there are at most 31 demands, each of at most 64,000,000,000 ns, and no two have
 /// one name, nor has any that of the root. Contracts see it as a record of plain lists.
-#[derive(Debug, Drop)]
+#[derive(Drop)]
 pub struct Demands {
     shape: Shape,
     demands: Vec<Demand>,

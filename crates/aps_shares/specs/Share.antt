@@ -84,6 +84,10 @@ shortfall_in turn p sample = record {
 abbrev pub is_shorter : Shortfall → Shortfall → Bool
 is_shorter a b = nat_lt b.ns a.ns
 
+-- the window is full, and a change lies in it
+abbrev pub is_changed : Sample → Bool
+is_changed sample = sample.full && not sample.unchanged
+
 -- the window is unchanged, and the partition always had a candidate in it
 abbrev pub is_asked : ℕ → Sample → Bool
 is_asked p sample = sample.unchanged && slice_index_or sample.demand p false
@@ -105,17 +109,18 @@ counts_with counts sample = record {
 }
 
 abbrev pub no_share : Share
-no_share = record { most = None; free = None; critical = None; beyond = None; demand = 0; had = 0; least = None; short = None }
+no_share = record { most = None; free = None; critical = None; beyond = None; demand = 0; had = 0; least = None; changed = None; short = None }
 
 -- all processors together have so much time in a tick
 abbrev pub share_with : ℕ → ℕ → Share → Sample → Share
 share_with turn p share sample = record {
-  most = with_one is_more share.most (used_in p sample) sample.full;
+  most = with_one is_more share.most (used_in p sample) sample.unchanged;
   free = with_one is_greater share.free (free_in p sample) sample.full;
   critical = with_one is_greater share.critical (critical_in p sample) sample.full;
   beyond = with_one is_greater share.beyond (beyond_in p sample) sample.unchanged;
   demand = counted share.demand (is_asked p sample);
   had = counted share.had (is_asked p sample && has_had p sample);
   least = with_one is_less share.least (used_in p sample) (is_asked p sample);
+  changed = with_one is_more share.changed (used_in p sample) (is_changed sample);
   short = with_one is_shorter share.short (shortfall_in turn p sample) (is_asked p sample && not (has_had p sample));
 }

@@ -53,7 +53,8 @@ full_lines share =
 
 abbrev pub asked_lines : Share → List ℕ
 asked_lines share =
-    demand_line share.demand share.had ++ (codes "least " ++ (used_text share.least ++ (codes "short " ++ shortfall_text share.short)))
+    demand_line share.demand share.had ++ (codes "least " ++ (used_text share.least ++ (codes "changed " ++ (used_text share.changed
+    ++ (codes "short " ++ shortfall_text share.short)))))
 
 abbrev pub spent_line : Option Spent → List ℕ
 spent_line spent = codes "overspent " ++ spent_text spent

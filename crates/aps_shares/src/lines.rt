@@ -58,13 +58,15 @@ fn add_full(out: &mut String, share: &Share) -> Result<(), NoMemory>
     add_amount(out, &share.beyond)
 }
 
-/// What is told of windows in which the partition always had work.
+/// What is told of windows in which the partition always had work, and of those with a change.
 fn add_asked(out: &mut String, share: &Share) -> Result<(), NoMemory>
     ensures { OnOk result (string_bytes out.new ≡ string_bytes out.old ++ spec.asked_lines share.now) }
 {
     add_demand(out, share.demand, share.had)?;
     out.push_str("least ")?;
     add_used(out, &share.least)?;
+    out.push_str("changed ")?;
+    add_used(out, &share.changed)?;
     out.push_str("short ")?;
     add_shortfall(out, &share.short)
 }

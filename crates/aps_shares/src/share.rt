@@ -41,10 +41,11 @@ pub struct Counts {
     pub steady: u64,
 }
 
-/// Of one partition: the first full windows in which it used most beyond its allowance, and had most free and most critical
-/// time; the first unchanged window in which it went furthest beyond all that it may take; in how many unchanged windows it
-/// always had work, and in how many of these it had had its whole share at some moment; the first of them in which it used
-/// least beyond its allowance; and of those in which it never had had its share, the first in which it fell short most.
+/// Of one partition: the first unchanged window in which it used most beyond its allowance; the first full windows in which it had
+/// most free and most critical time; the first unchanged window in which it went furthest beyond all that it may take; in how many
+/// unchanged windows it always had work, and in how many of these it had had its whole share at some moment; the first of them in
+/// which it used least beyond its allowance; the first full window with a change in which it used most beyond its allowance; and
+/// of those in which it never had had its share, the first in which it fell short most.
 #[derive(Clone, Copy)]
 pub struct Share {
     pub most: Option<Used>,
@@ -54,6 +55,7 @@ pub struct Share {
     pub demand: u64,
     pub had: u64,
     pub least: Option<Used>,
+    pub changed: Option<Used>,
     pub short: Option<Shortfall>,
 }
 
@@ -103,6 +105,7 @@ impl Share {
             demand: 0,
             had: 0,
             least: None,
+            changed: None,
             short: None,
         }
     }
@@ -116,16 +119,24 @@ impl Share {
     {
         let asked = both(sample.unchanged, sample.demand[p]);
         Share {
-            most: most_with(self.most, used_in(sample, p), sample.full),
+            most: most_with(self.most, used_in(sample, p), sample.unchanged),
             free: greatest_with(self.free, free_in(sample, p), sample.full),
             critical: greatest_with(self.critical, critical_in(sample, p), sample.full),
             beyond: greatest_with(self.beyond, beyond_in(sample, p), sample.unchanged),
             demand: counted(self.demand, asked),
             had: counted(self.had, both(asked, sample.had[p])),
             least: least_with(self.least, used_in(sample, p), asked),
+            changed: most_with(self.changed, used_in(sample, p), is_changed(sample)),
             short: short_with(self.short, sample, p, turn, but_not(asked, sample.had[p])),
         }
     }
+}
+
+/// Whether the window is full, and a change lies in it.
+fn is_changed(sample: &Sample) -> bool
+    ensures { result ≡ spec.is_changed sample.now }
+{
+    but_not(sample.full, sample.unchanged)
 }
 
 /// Whether both hold.

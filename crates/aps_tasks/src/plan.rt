@@ -2,7 +2,7 @@
 use aps_model::{Policy, Program};
 
 /// The policy of a thread, and its program.
-#[derive(Debug, Drop)]
+#[derive(Drop)]
 pub struct Plan {
     pub policy: Policy,
     pub program: Program,

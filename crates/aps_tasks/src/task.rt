@@ -6,7 +6,7 @@ use aps_model::{Nanos, State};
 
 /// A thread as it goes through its program: its state, its place there, what remains of its operation in ns (nothing,
 /// where that has no end), its stamp, and the ns that it has run since that stamp.
-#[derive(Clone, Copy, Debug, PartialEq, Eq)]
+#[derive(Clone, Copy, PartialEq, Eq)]
 pub struct Task {
     pub state: State,
     pub place: u16,

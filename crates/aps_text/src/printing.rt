@@ -1,3 +1,4 @@
+//! Printing a whole journal.
 ghost use Rattle.std.specs.Prelude.{◌≡◌, string_bytes, All, IfOk};
 ghost use Rattle.aps_model.specs.Journal.{journal_text, IsJournal};
 ghost use Rattle.aps_text.specs.InTime.{IsInTime};

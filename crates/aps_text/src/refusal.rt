@@ -1,3 +1,4 @@
+//! Why a text is no journal.
 ghost use Rattle.std.specs.Prelude.{◌≡◌};
 ghost use Rattle.aps_text.specs.declared.refusal.JournalRefusal.TheVariants.{NoMemory};
 

@@ -15,3 +15,4 @@ mod streams;
 mod text;
 mod view_words;
 mod words;
+mod wrong_words;

@@ -39,11 +39,10 @@ pub fn add_lane(
     close_group(out)
 }
 
-/// The lane of the processor with this number, as columns.
+/// The lane of the processor with this number, as columns. Marks are left out: they would cover it.
 pub fn add_stack_lane(
     out: &mut String,
     columns: &mut Columns,
-    history: &History,
     scene: &Scene,
     lane: &Lane,
     c: usize,
@@ -60,7 +59,6 @@ pub fn add_stack_lane(
         height: HEIGHT,
     };
     columns.draw(out, strip)?;
-    add_marks(out, history.entries(), &scene.span, CpuId::at(c), y)?;
     close_group(out)
 }
 

@@ -177,8 +177,17 @@ fn add_top(out: &mut String, scene: &Scene, exact: bool) -> Result<(), NoMemory>
     add_partitions(out, scene)?;
     let y = below_partitions(scene.rows.len());
     add_colours(out, y)?;
-    add_marks(out, y)?;
-    add_manner(out, scene, y, exact)
+    if exact {
+        add_marks(out, y)?;
+        add_manner(out, scene, y)
+    } else {
+        add_words(
+            out,
+            2990,
+            y + 125,
+            "each column: stacked shares of 1/600 of the time",
+        )
+    }
 }
 
 /// What critical and idle time are drawn as.
@@ -205,18 +214,10 @@ fn add_marks(out: &mut String, y: u64) -> Result<(), NoMemory>
     add_words(out, 7680, y + 125, "reply")
 }
 
-/// How bars tell who is billed, or that columns are drawn.
-fn add_manner(out: &mut String, scene: &Scene, y: u64, exact: bool) -> Result<(), NoMemory>
+/// How bars tell who is billed.
+fn add_manner(out: &mut String, scene: &Scene, y: u64) -> Result<(), NoMemory>
     requires { y ≤ lowest_top }
 {
-    if !exact {
-        return add_words(
-            out,
-            8500,
-            y + 125,
-            "each column: stacked shares of 1/600 of the time",
-        );
-    }
     let first = scene.rows.len().saturating_sub(1).min(1);
     add_sample(out, 8500, y, Fill::Partition(first))?;
     let foot = Area {
@@ -268,7 +269,7 @@ fn add_one(
     if plan.exact {
         add_lane(out, history, scene, lane, c, y)
     } else {
-        add_stack_lane(out, columns, history, scene, lane, c, y)
+        add_stack_lane(out, columns, scene, lane, c, y)
     }
 }
 

@@ -1,13 +1,13 @@
 -- Sleepers in buckets by their moment, and in one further list.
-use Rattle.std.specs.Prelude.{◌≡◌, ◌⊎◌, ℕ, ◌+◌, ◌-◌, ◌/◌, ◌%◌, ◌<◌, ◌≤◌, nat_eq, true, false, List, slice_index_or, Option, Some, None}
+use Rattle.std.specs.Prelude.{◌≡◌, ◌⊎◌, ℕ, ◌+◌, ◌/◌, ◌%◌, ◌<◌, ◌≤◌, nat_eq, true, false, List, slice_index_or, Option, Some, None}
 use Rattle.aps_model.specs.Limits.{last_thread}
 use Rattle.aps_levels.specs.declared.bits.Bits64.{Bits64}
 use Rattle.aps_timer.specs.Lines.{stands_in}
 use Rattle.aps_timer.specs.Sleepers.{SleepsUntil}
 
--- the bucket of a moment: 1,000,000 ns each, the last of which ends a whole ms
+-- the bucket of a moment: 1,000,000 ns each
 abbrev pub bucket_of : ℕ → ℕ
-bucket_of until = (until - 1) / 1000000
+bucket_of until = until / 1000000
 
 -- how many buckets there are
 abbrev pub bucket_count : ℕ

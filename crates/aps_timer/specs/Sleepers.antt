@@ -1,11 +1,15 @@
 -- The sleepers: a row with a place for each thread, which has the moment until which it sleeps.
-use Rattle.std.specs.Prelude.{◌≡◌, ◌≢◌, ℕ, ◌≤◌, nat_le, true, if◌then◌else◌, List, [], ◌∷◌, length, slice_index_or, slice_set, map, Option, Some, None}
+use Rattle.std.specs.Prelude.{◌≡◌, ◌≢◌, ℕ, ◌%◌, ◌≤◌, nat_le, true, if◌then◌else◌, List, [], ◌∷◌, length, slice_index_or, slice_set, map, Option, Some, None}
 use Rattle.std.specs.List.{fold, filter_map, range_with_len}
 use Rattle.aps_model.specs.TickWork.{insert_sleeper, is_earlier}
 
 -- thread x sleeps until this moment
 abbrev pub SleepsUntil : List (Option ℕ) → ℕ → ℕ → Type 0
 SleepsUntil row x until = slice_index_or row x None ≡ Some until
+
+-- who sleeps until a moment of whole ms sleeps until this one or an earlier one
+abbrev pub IsNoted : List (Option ℕ) → ℕ → Type 0
+IsNoted row whole = (x until : ℕ) → SleepsUntil row x until → until % 1000000 ≡ 0 → until ≤ whole
 
 -- thread x sleeps until a moment that has come, and before every other sleeper by moment, then by number
 pub record IsFirstDue (row : List (Option ℕ)) (now x : ℕ) : Type 0 where

@@ -1,8 +1,8 @@
 //! The threads that sleep, by their numbers and in buckets.
-ghost use Rattle.std.specs.Prelude.{◌≡◌, ℕ, ◌<◌, [], length, replicate, slice_index_or, slice_set, IfOk, IfSome, None};
-ghost use Rattle.aps_timer.specs.Sleepers.{IsFirstDue, SleepsUntil, all_due, later_due, next_due, without};
+ghost use Rattle.std.specs.Prelude.{◌≡◌, ℕ, ◌<◌, ◌≤◌, [], length, replicate, slice_index_or, slice_set, IfOk, IfSome, None};
+ghost use Rattle.aps_timer.specs.Sleepers.{IsFirstDue, IsNoted, SleepsUntil, all_due, later_due, next_due, without};
 
-use crate::buckets::Buckets;
+use crate::buckets::{Buckets, SPAN};
 use crate::lines::{add_of_word, moment_of, words_of};
 use crate::list::Due;
 use crate::sleeper::Sleeper;
@@ -16,6 +16,9 @@ use std::marker::Model;
 pub struct Asleep {
     row: Vec<Option<Nanos>>,
     buckets: Buckets,
+    /// nobody sleeps until a later moment of whole ms
+    whole: Nanos,
+    ghost noted: { IsNoted row.items whole },
 }
 
 impl Model for Asleep {
@@ -37,7 +40,11 @@ impl Asleep {
         let awake: Option<Nanos> = None;
         let row = vec![in alloc; awake; usize::from(threads)]?;
         let buckets = Buckets::new(alloc)?;
-        Ok(Asleep { row, buckets })
+        Ok(Asleep {
+            row,
+            buckets,
+            whole: 0,
+        })
     }
 
     /// The thread, which is one of the row and doesn't sleep, sleeps until a moment in ns, which may be an earlier one
@@ -48,6 +55,9 @@ impl Asleep {
         ensures row { self.new ≡ slice_set self.old x (Some until) }
         ensures due { (now : ℕ) → now < until → all_due self.new now ≡ all_due self.old now }
     {
+        if until % SPAN == 0 {
+            self.whole = self.whole.max(until);
+        }
         self.row[x.index()] = Some(until);
         self.buckets.put(x, until);
     }
@@ -95,9 +105,22 @@ impl Asleep {
         ensures { due.new ≡ all_due self.now now }
     {
         due.clear();
+        let last = self.last_due(now);
         for word in 0..words_of(self.row.len()) {
-            let bits = self.buckets.may_be_due(word, now);
+            let bits = self.buckets.may_be_due(word, last);
             add_of_word(&self.row, bits, word, now, due);
+        }
+    }
+
+    /// The moment before `now` where `now` begins a bucket and nobody sleeps until this very moment, and else `now`. Nobody
+    /// sleeps until a moment between the two, so that the bucket that begins there needn't be looked at.
+    fn last_due(&self, now: Nanos) -> Nanos
+        ensures { (x until : ℕ) → SleepsUntil self.now x until → until ≤ now → until ≤ result }
+    {
+        if now % SPAN == 0 && self.whole < now {
+            now - 1
+        } else {
+            now
         }
     }
 

@@ -14,7 +14,7 @@ use aps_model::{Nanos, NoMemory, ThreadId};
 use std::alloc::Global;
 
 /// How long a bucket is, in ns.
-const SPAN: u64 = 1_000_000;
+pub const SPAN: u64 = 1_000_000;
 
 /// How many buckets there are.
 const BUCKETS: u64 = 1024;
@@ -135,12 +135,12 @@ impl Buckets {
     }
 }
 
-/// The bucket of a moment: each ends with a moment of whole ms, so that at such a moment a whole bucket is due.
+/// The bucket of a moment.
 #[inline(always)]
 fn bucket_of(until: Nanos) -> u64
     ensures { result ≡ bucket_of until }
 {
-    until.saturating_sub(1) / SPAN
+    until / SPAN
 }
 
 /// The line of the bucket of a moment.

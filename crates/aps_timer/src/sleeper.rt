@@ -7,7 +7,7 @@ use aps_model::{Nanos, ThreadId};
 use std::marker::Model;
 
 /// A thread that sleeps, and the moment until which it does. Contracts see the two as a pair, the moment first.
-#[derive(Clone, Copy, Debug, PartialEq, Eq)]
+#[derive(Clone, Copy, PartialEq, Eq)]
 pub struct Sleeper {
     pub until: Nanos,
     pub thread: ThreadId,

@@ -1,5 +1,5 @@
 -- What comes of a reading has its cause in the command and in the reading.
-use Rattle.std.proofs.Common.{◌≡◌, ℕ, List, [], Option, Some, Ok, sym, ap, subst, ◌∙◌}
+use Rattle.std.proofs.Common.{◌≡◌, ℕ, List, [], Option, Some, Ok, inl, sym, ap, subst, ◌∙◌}
 use Rattle.std.specs.Io.KnownBytes.{Consumes}
 use Rattle.aps_core.specs.Run.{Run, Setup}
 use Rattle.aps_model.specs.declared.entry.End.{End}
@@ -27,7 +27,7 @@ lacking refused input (Generated text) to_read same h = absurd h
 lacking refused input (Upgraded text) to_read same h = absurd h
 lacking refused input (Checked verdict) to_read same h = absurd h
 lacking refused input (Admitted answer) to_read same h = absurd h
-lacking refused input NoMemory to_read same h = tt
+lacking refused input NoMemory to_read same h = inl to_read
 
 -- the same over a source
 pub lacking_in : (refused : List ℕ → Option InputRefusal) (asked : Option Command) (intake : Intake) (outcome : Outcome) → IsToRead asked

@@ -1,3 +1,4 @@
+pub mod Unread
 pub mod Said
 pub mod Caused
 pub mod Due

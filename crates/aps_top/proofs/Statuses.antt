@@ -23,6 +23,7 @@ use Rattle.aps_top.specs.Asked.{RunAsked, IsToRead, run_asked}
 use Rattle.aps_top.specs.Outcome.{report_text, status_of, text_of, history_of}
 use Rattle.aps_top.specs.Status.{code, or_write_fault, status_of_end, status_of_verdict, status_of_admission}
 use Rattle.aps_top.specs.Due.{IsDueStatus}
+use Rattle.aps_top.proofs.Unread.{read_if_asked}
 use Rattle.aps_top.specs.Cause.{Input, input_of, HasCause, RanAsRead, CheckedAsRead, AdmittedAsRead, IsOutcome}
 use Rattle.aps_top.specs.Printing.{LacksMemory, Output, Says, WritesNothing, WritesPrefix, WritesWhole}
 use Rattle.aps_top.specs.Reading.{Intake, most_of, refusal_of}
@@ -419,6 +420,7 @@ answers input output o ended cause tells =
       complete = λ reaches unread unwritten.
           or_wanting output ended (complete input output o ended cause told reaches unread unwritten);
       wanting = λ seven. lack_told output o ended.status told seven;
+      unread = read_if_asked input o cause;
     }
 
 pub answered : (asked : Option Command) (intake : Intake) (output : Output) (o : Outcome) (ended : Ended)

@@ -34,7 +34,7 @@ use Rattle.aps_top.specs.CheckInput.{IsCheck}
 use Rattle.aps_top.specs.Due.{IsDueStatus}
 use Rattle.aps_top.specs.Outcome.{history_of, report_text}
 use Rattle.aps_top.specs.Reading.{Intake, most_of}
-use Rattle.aps_top.specs.Cause.{Input, input_of, HasCause, RanAsRead}
+use Rattle.aps_top.specs.Cause.{Input, input_of, HasCause, IsReadIfAsked, RanAsRead}
 use Rattle.aps_top.specs.Printing.{LacksMemory, Output, Says, WritesWhole}
 use Rattle.aps_model.specs.Limits.{most_scenario_bytes}
 
@@ -123,6 +123,8 @@ pub record Answers (input : Input) (output : Output) (ended : Ended) : Type 0 wh
       → OrWanting output ended Done
   -- under status 7 nothing was written, unless the sink itself wanted memory in this call
   pub wanting : ended.status ≡ code NoMemory → LacksMemory output
+  -- for `gen` and for words that are no command no byte of the source was taken, under any status
+  pub unread : IsReadIfAsked input
 
 -- the answer of a call that was asked for this command, over this source and this sink
 pub record IsAnswer (asked : Option Command) (intake : Intake) (output : Output) (ended : Ended) : Type 0 where

@@ -1,5 +1,5 @@
 -- Why a call has its outcome.
-use Rattle.std.specs.Prelude.{◌≡◌, ℕ, ◌+◌, ◌≤◌, List, [], length, Option, Some, None, Ok, ⊤, string_bytes}
+use Rattle.std.specs.Prelude.{◌≡◌, ℕ, ◌+◌, ◌≤◌, ◌⊎◌, List, [], length, Option, Some, None, Ok, string_bytes}
 use Rattle.std.specs.Io.KnownBytes.{Consumes}
 use Rattle.aps_io.specs.Causes.{Rose}
 use Rattle.aps_admit.specs.declared.admission.Admission.{Admission}
@@ -38,6 +38,10 @@ input_of asked intake bytes = record { asked = asked; reading = reading_in intak
 -- the input was read to its end, and isn't longer than the command takes
 abbrev pub IsWhole : Input → Type 0
 IsWhole input = IsReadWhole (most_of input.asked) input.reading
+
+-- an input is to be read, or no byte of the source was taken
+abbrev pub IsReadIfAsked : Input → Type 0
+IsReadIfAsked input = IsToRead input.asked ⊎ (input.reading.bytes ≡ [])
 
 -- the history is that of the run that was asked for, of the scenario that the bytes are
 pub record RanAsRead (input : Input) (report : Report) (end : End) (h : History) : Type 0 where
@@ -98,7 +102,7 @@ HasCause input (Generated text) = GeneratedAsAsked input (string_bytes text)
 HasCause input (Upgraded text) = UpgradedAsRead input (string_bytes text)
 HasCause input (Checked verdict) = CheckedAsRead input verdict
 HasCause input (Admitted answer) = AdmittedAsRead input answer
-HasCause input NoMemory = ⊤
+HasCause input NoMemory = IsReadIfAsked input
 
 -- the outcome of a call that was asked for this command, over this source: the bytes that it read are a cause of it
 abbrev pub IsOutcome : Option Command → Intake → Outcome → Type 0

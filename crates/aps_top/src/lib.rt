@@ -4,7 +4,6 @@
 
 mod answer;
 pub mod hint;
-pub mod kept;
 mod outcome;
 mod printing;
 mod reading;

@@ -13,7 +13,7 @@ use std::alloc::Global;
 use std::fmt::Write;
 
 /// Why an input is refused.
-#[derive(Clone, Copy, Debug, PartialEq, Eq)]
+#[derive(Clone, Copy, PartialEq, Eq)]
 pub enum InputRefusal {
     /// The text of a scenario, or of demands, is none: what is wrong with the first part that breaks a rule, and the path
     /// of that part.

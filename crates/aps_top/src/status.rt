@@ -7,7 +7,7 @@ use aps_check::Verdict;
 use aps_model::End;
 
 /// How the program ended.
-#[derive(Clone, Copy, Debug, PartialEq, Eq)]
+#[derive(Clone, Copy, PartialEq, Eq)]
 pub enum Status {
     /// The whole text was written.
     Done,

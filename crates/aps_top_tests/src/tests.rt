@@ -5,10 +5,13 @@ mod failing;
 mod meet_gate;
 mod seats;
 mod threads;
+mod turns;
 mod two_processors;
 mod two_seats;
 mod upgrade;
 mod verdict;
+mod waiting;
+mod writes;
 
 /// `System` and `A` with half of the time each, and a thread in each that runs forever.
 const TWO_EQUAL: &str = r#"version = 1

@@ -7,7 +7,7 @@ ghost use Rattle.aps_traces.specs.Track.{IsOwner, track_of};
 use aps_model::{CpuId, PartitionId, ThreadId};
 
 /// Who has a track.
-#[derive(Clone, Copy, Debug, PartialEq, Eq)]
+#[derive(Clone, Copy, PartialEq, Eq)]
 pub enum Owner {
     Processors,
     Processor(CpuId),

@@ -18,7 +18,7 @@ const FIRST_PROCESSOR: usize = 2001;
 const FIRST_THREAD: usize = 1;
 
 /// A process and a thread of it, as numbers; thread 0 is none of its threads.
-#[derive(Clone, Copy, Debug, PartialEq, Eq)]
+#[derive(Clone, Copy, PartialEq, Eq)]
 pub struct Track {
     pub process: usize,
     pub thread: usize,

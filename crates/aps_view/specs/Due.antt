@@ -22,11 +22,11 @@ use Rattle.aps_view_words.specs.declared.asked.Asked.{Asked}
 use Rattle.aps_view_words.specs.declared.asked.Report.{Report}
 use Rattle.aps_view_words.specs.declared.asked.Trace.{Trace}
 use Rattle.aps_view.specs.declared.refusal.InputRefusal.{InputRefusal}
-use Rattle.aps_view.specs.declared.refusal.InputRefusal.TheVariants.{Text, BadJournal, UnknownThread}
+use Rattle.aps_view.specs.declared.refusal.InputRefusal.TheVariants.{Text, BadJournal}
 use Rattle.aps_view.specs.declared.status.Status.{Status}
 use Rattle.aps_view.specs.declared.status.Status.TheVariants.{Done, WordsRefused, InputRefused, NoMemory, TooLong, JournalBreaks}
 use Rattle.aps_view.specs.Printing.{Told, Told.at_once, Told.in_pieces}
-use Rattle.aps_view.specs.Refusal.{refusal_text}
+use Rattle.aps_view.specs.Refusal.{refusal_of, refusal_text}
 use Rattle.aps_view.specs.Report.{IsReport, trace_of}
 use Rattle.aps_view.specs.Status.{code, status_of_end}
 use Rattle.aps_view.specs.Traced.{trace_told}
@@ -46,16 +46,16 @@ too_long = record { status = TooLong; text = at_once (codes "aps: input too long
 abbrev pub refused : InputRefusal → Due
 refused refusal = record { status = InputRefused; text = at_once (refusal_text refusal) }
 
--- the text of a report under this status; without one it was asked about a thread that the scenario hasn't
-abbrev pub reported : Status → Option (List ℕ) → Due
-reported status (Some text) = record { status = status; text = at_once text }
-reported status None = refused UnknownThread
+-- the text of a report under this status; without one the report is refused
+abbrev pub reported : Report → Status → Option (List ℕ) → Due
+reported report status (Some text) = record { status = status; text = at_once text }
+reported report status None = refused (refusal_of report)
 
 -- what is due where a report of a history was asked for, under this status
 abbrev pub IsReportedBy : Option Trace → Report → Scenario → List Entry → Status → Due → Type 0
 IsReportedBy (Some trace) report scenario h status due = due ≡ record { status = status; text = trace_told trace scenario h }
 IsReportedBy None report scenario h status due =
-    (text : Option (List ℕ)) × IsReport report scenario h text × (due ≡ reported status text)
+    (text : Option (List ℕ)) × IsReport report scenario h text × (due ≡ reported report status text)
 
 abbrev pub IsReported : Report → Scenario → List Entry → Status → Due → Type 0
 IsReported report scenario h status due = IsReportedBy (trace_of report) report scenario h status due

@@ -1,7 +1,8 @@
 -- The reports of a history.
-use Rattle.std.specs.Prelude.{◌≡◌, ℕ, List, Option, Some, None, IsSome, option_map}
+use Rattle.std.specs.Prelude.{◌≡◌, ℕ, ◌*◌, ◌&&◌, List, Bool, true, false, nat_le, nat_lt, Option, Some, None, IsSome, option_map}
 use Rattle.aps_model.specs.declared.entry.Entry.{Entry}
 use Rattle.aps_model.specs.Scenario.{Scenario}
+use Rattle.aps_laws.specs.Moments.{moment}
 use Rattle.aps_explain.specs.Text.{explain_text}
 use Rattle.aps_latency.specs.Text.{latency_text}
 use Rattle.aps_lives.specs.Text.{cycles_text}
@@ -27,13 +28,22 @@ abbrev pub trace_of : Report → Option TraceAsked
 trace_of (Trace trace) = Some trace
 trace_of report = None
 
--- the text is this report of a history, or nothing where the scenario has no thread of the name that it is asked about; of a
--- picture it is said that there is a text, and not how it is drawn
+-- a picture of these ticks would begin behind the end of a history, or at it; one that begins with tick 0 never does
+abbrev pub is_behind : Scenario → List Entry → Ticks → Bool
+is_behind scenario h ticks = nat_lt 0 ticks.from && nat_le (moment h) (ticks.from * scenario.shape.tick)
+
+-- there is a picture but where it would begin behind the end; it isn't said how it is drawn
+abbrev pub IsDrawn : Bool → Option (List ℕ) → Type 0
+IsDrawn true text = text ≡ None
+IsDrawn false text = IsSome text
+
+-- the text is this report of a history, or nothing where the scenario has no thread of the name that it is asked about, or where a
+-- picture would begin behind the end
 abbrev pub IsReport : Report → Scenario → List Entry → Option (List ℕ) → Type 0
 IsReport Cycles scenario h text = text ≡ Some (cycles_text scenario h)
 IsReport (Csv ticks) scenario h text = text ≡ Some (csv_text scenario h (told ticks))
 IsReport Shares scenario h text = text ≡ Some (shares_text scenario h)
 IsReport Latency scenario h text = text ≡ Some (latency_text scenario h)
 IsReport (Explain thread at) scenario h text = text ≡ explained scenario h thread at
-IsReport (Picture picture ticks) scenario h text = IsSome text
+IsReport (Picture picture ticks) scenario h text = IsDrawn (is_behind scenario h ticks) text
 IsReport (Trace trace) scenario h text = text ≡ None

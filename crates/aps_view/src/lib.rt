@@ -4,6 +4,7 @@
 
 pub mod calm;
 mod drawing;
+pub mod hint;
 mod naming;
 mod outcome;
 mod printing;

@@ -2,18 +2,19 @@
 ghost use Rattle.std.specs.Prelude.{◌≡◌, ◌++◌, codes, string_bytes, vec_items, IfOk, OnOk};
 ghost use Rattle.aps_view.specs.declared.refusal.InputRefusal.TheVariants.{Text, BadJournal};
 ghost use Rattle.aps_view.specs.Printing.{Prints, output_of};
-ghost use Rattle.aps_view.specs.Refusal.{refusal_text, refusal_words};
+ghost use Rattle.aps_view.specs.Refusal.{refusal_of, refusal_text, refusal_words};
 
 use crate::printing::print;
 use crate::status::Status;
 use aps_io::Sink;
 use aps_model::NoMemory;
 use aps_scenario::{Kind, PathText};
+use aps_view_words::Report;
 use std::alloc::Global;
 use std::fmt::Write;
 
 /// Why an input is refused.
-#[derive(Clone, Copy, Debug, PartialEq, Eq)]
+#[derive(Clone, Copy, PartialEq, Eq)]
 pub enum InputRefusal {
     /// The text of a scenario is none: what is wrong with the first part that breaks a rule, and the path of that part.
     Text { kind: Kind, path: PathText },
@@ -22,6 +23,8 @@ pub enum InputRefusal {
     BadJournal { line: u32, column: u32 },
     /// The scenario has no thread of the name that the words give.
     UnknownThread,
+    /// The picture would begin behind the end of the history, or at it.
+    BehindEnd,
 }
 
 /// Writes the line that says why the input is refused, and gives the status for that.
@@ -45,6 +48,24 @@ pub fn print_refusal<K: Sink>(alloc: Global, refusal: &InputRefusal, sink: &mut 
                 Status::InputRefused,
             )
         }
+        InputRefusal::BehindEnd => {
+            print(
+                sink,
+                b"aps: scenario refused: out-of-range --from\n",
+                Status::InputRefused,
+            )
+        }
+    }
+}
+
+/// Why there is no text of this report: a picture would begin behind the end, and any other report is asked about a thread that
+/// isn't there.
+pub fn refusal_of(report: Report) -> InputRefusal
+    ensures { result ≡ refusal_of report }
+{
+    match report {
+        Report::Picture { .. } => InputRefusal::BehindEnd,
+        _ => InputRefusal::UnknownThread,
     }
 }
 

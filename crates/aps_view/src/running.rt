@@ -45,7 +45,7 @@ fn ran_for_latency(alloc: Global, core: Core) -> Result<Outcome, NoMemory>
     // the check wants to see here that the entries are no more than there is room for
     let _entries = history.entries();
     let text = latency_text_of(alloc, history, followed)?;
-    Ok(of_text(ended_as(&core), Some(text)))
+    Ok(of_text(Report::Latency, ended_as(&core), Some(text)))
 }
 
 /// The same for `shares`, by a core that begins.
@@ -61,7 +61,7 @@ fn ran_for_shares(alloc: Global, core: Core) -> Result<Outcome, NoMemory>
     // the check wants to see here that the entries are no more than there is room for
     let _entries = history.entries();
     let text = shares_text_with(alloc, history, core.order(), &spending.spent)?;
-    Ok(of_text(ended_as(&core), Some(text)))
+    Ok(of_text(Report::Shares, ended_as(&core), Some(text)))
 }
 
 /// The same for another report, which is made once the run has ended, by a core that begins.

@@ -5,7 +5,7 @@ ghost use Rattle.aps_view.specs.Status.{code, or_write_fault, status_of_end};
 use aps_model::End;
 
 /// How the program ended. The numbers are those of `apsim`.
-#[derive(Clone, Copy, Debug, PartialEq, Eq)]
+#[derive(Clone, Copy, PartialEq, Eq)]
 pub enum Status {
     /// The whole text was written.
     Done,

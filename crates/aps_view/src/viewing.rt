@@ -9,7 +9,7 @@ ghost use Rattle.aps_view.specs.Report.{IsReport};
 ghost use Rattle.aps_model.specs.Limits.{most_entries};
 
 use crate::outcome::Outcome;
-use crate::refusal::InputRefusal;
+use crate::refusal::refusal_of;
 use crate::report::{report_of, trace_of};
 use crate::status::Status;
 use crate::traced::Traced;
@@ -41,19 +41,21 @@ fn told_as_text(
 ) -> Result<Outcome, NoMemory>
     requires few { core.setup.limit ≤ most_entries }
     ensures { IfOk result (λ outcome. (text : Option (List ℕ)) × IsReport report core.setup.scenario core.entries text
-        × (told_by outcome ≡ reported status text)) }
+        × (told_by outcome ≡ reported report status text)) }
 {
+    // the check wants a copy for each call
+    let same = report;
     let text = report_of(alloc, report, &core)?;
-    Ok(of_text(status, text))
+    Ok(of_text(same, status, text))
 }
 
-/// What comes of a history with this report, under this status.
-pub fn of_text(status: Status, text: Option<String>) -> Outcome
-    ensures { told_by result ≡ reported status (option_map string_bytes text) }
+/// What comes of a history with this text of the report, under this status.
+pub fn of_text(report: Report, status: Status, text: Option<String>) -> Outcome
+    ensures { told_by result ≡ reported report status (option_map string_bytes text) }
 {
     match text {
         Some(text) => Outcome::Reported { status, text },
-        None => Outcome::InputRefused(InputRefusal::UnknownThread),
+        None => Outcome::InputRefused(refusal_of(report)),
     }
 }
 

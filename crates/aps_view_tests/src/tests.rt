@@ -1,6 +1,8 @@
-//! Whole calls of the program in memory: what they write, and the statuses.
+//! Whole calls of the program in memory: what they write, the statuses, and what a person is told.
+use aps_hints::Given;
 use aps_io::{CalmSink, CalmSource};
 use aps_view::calm::calm_top;
+use aps_view::hint::input_hint;
 use std::alloc::{AllocError, Global};
 use std::test::Fail;
 
@@ -36,12 +38,18 @@ ticks = 3
 thread = [{name = "a", program = ["run forever"]}]
 "#;
 
-/// The status of a call with these words over these texts, one after the other, and the sink with what it writes.
-fn called(alloc: Global, words: &[&str], texts: &[&str]) -> Result<(u8, CalmSink), AllocError> {
+/// These words, as a list that is owned.
+fn owned(alloc: Global, words: &[&str]) -> Result<Vec<String>, AllocError> {
     let mut owned = Vec::new(alloc);
     for word in words {
         owned.push(word.to_string(alloc)?)?;
     }
+    Ok(owned)
+}
+
+/// The status of a call with these words over these texts, one after the other, and the sink with what it writes.
+fn called(alloc: Global, words: &[&str], texts: &[&str]) -> Result<(u8, CalmSink), AllocError> {
+    let owned = owned(alloc, words)?;
     let mut input = Vec::new(alloc);
     for text in texts {
         input.extend_from_slice(text.as_bytes())?;
@@ -119,6 +127,22 @@ fn what_cannot_be_viewed_is_told(rt: HostRuntime) -> Result<(), Fail> {
 }
 
 #[test]
+fn a_picture_behind_the_end_is_refused(rt: HostRuntime) -> Result<(), Fail> {
+    for picture in ["timeline", "threads", "usage"] {
+        let (status, sink) = called(rt.alloc(), &[picture, "--from=3"], &[SLEEPER])?;
+        assert_eq!(rt; status, 2);
+        assert_eq!(rt;
+            sink.written(),
+            b"aps: scenario refused: out-of-range --from\n".as_slice()
+        );
+        let (status, sink) = called(rt.alloc(), &[picture, "--from=2"], &[SLEEPER])?;
+        assert_eq!(rt; status, 0);
+        assert!(rt; sink.written().starts_with(b"<svg"));
+    }
+    Ok(())
+}
+
+#[test]
 fn a_thread_that_is_not_there_is_refused(rt: HostRuntime) -> Result<(), Fail> {
     let words = ["explain", "--thread=zed", "--at=0"];
     let (status, sink) = called(rt.alloc(), &words, &[SLEEPER])?;
@@ -127,5 +151,45 @@ fn a_thread_that_is_not_there_is_refused(rt: HostRuntime) -> Result<(), Fail> {
         sink.written(),
         b"aps: scenario refused: unknown-name --thread\n".as_slice()
     );
+    Ok(())
+}
+
+/// What a person is told of this input, where a call with these words refused it.
+fn hinted(alloc: Global, words: &[&str], input: &str) -> Result<Vec<u8>, AllocError> {
+    let words = owned(alloc, words)?;
+    let given = Given {
+        bytes: input.as_bytes(),
+        is_whole: true,
+    };
+    let mut told = Vec::new(alloc);
+    if let Some(line) = input_hint(alloc, &words, given)? {
+        told.extend_from_slice(line.as_bytes())?;
+    }
+    Ok(told)
+}
+
+#[test]
+fn a_refused_input_is_told(rt: HostRuntime) -> Result<(), Fail> {
+    let cases: [(&[&str], &str, &str); 3] = [
+        (
+            &["explain", "--thread=x", "--at=0"],
+            SLEEPER,
+            "--thread: \"x\" names nothing; known are \"a\"",
+        ),
+        (
+            &["explain", "--at", "0", "--thread", "b c"],
+            SLEEPER,
+            "--thread: \"b c\" names nothing; known are \"a\"",
+        ),
+        (
+            &["cycles"],
+            "version = 1\ncpus = 17\n",
+            "cpus (line 2, column 1): 17 is out of range; wanted is a number from 1 to 16",
+        ),
+    ];
+    for (words, input, line) in cases {
+        let told = hinted(rt.alloc(), words, input)?;
+        assert_eq!(rt; told.as_slice(), line.as_bytes());
+    }
     Ok(())
 }

@@ -17,14 +17,14 @@ use clap::ArgMatches;
 use std::alloc::Global;
 
 /// From a tick, 0 to 1,000,000, to a later one, up to 1,000,000; or to the end, where there is none.
-#[derive(Clone, Copy, Debug, PartialEq, Eq)]
+#[derive(Clone, Copy, PartialEq, Eq)]
 pub struct Ticks {
     pub from: u32,
     pub to: Option<u32>,
 }
 
 /// A picture in SVG.
-#[derive(Clone, Copy, Debug, PartialEq, Eq)]
+#[derive(Clone, Copy, PartialEq, Eq)]
 pub enum Picture {
     /// A lane for each processor.
     Timeline,
@@ -35,7 +35,7 @@ pub enum Picture {
 }
 
 /// A file for a viewer of traces.
-#[derive(Clone, Copy, Debug, PartialEq, Eq)]
+#[derive(Clone, Copy, PartialEq, Eq)]
 pub enum Trace {
     /// Signals as a value change dump.
     Vcd,
@@ -46,7 +46,7 @@ pub enum Trace {
 }
 
 /// What is written of a history.
-#[derive(Clone, Copy, Debug, PartialEq, Eq)]
+#[derive(Clone, Copy, PartialEq, Eq)]
 pub enum Report {
     /// The cycles of each thread that have ended.
     Cycles,
@@ -66,7 +66,7 @@ pub enum Report {
 }
 
 /// What the program is asked for: a report of a history of up to `limit` entries, 1 to 4,000,000.
-#[derive(Clone, Copy, Debug, PartialEq, Eq)]
+#[derive(Clone, Copy, PartialEq, Eq)]
 pub struct Asked {
     pub report: Report,
     pub limit: u32,

@@ -12,7 +12,7 @@ use clap::ArgMatches;
 use std::alloc::{AllocError, Global};
 
 /// What is written of a run.
-#[derive(Clone, Copy, Debug, PartialEq, Eq)]
+#[derive(Clone, Copy, PartialEq, Eq)]
 pub enum Report {
     Summary,
     Windows,
@@ -20,7 +20,7 @@ pub enum Report {
 }
 
 /// What the program is asked for.
-#[derive(Clone, Copy, Debug, PartialEq, Eq)]
+#[derive(Clone, Copy, PartialEq, Eq)]
 pub enum Command {
     /// Runs a scenario in fixed order on the calling thread, up to `limit` entries, 1 to 4,000,000.
     Solo {

@@ -2,9 +2,9 @@
 #![tactic(auto)]
 
 use aps_cpu::{ClockGate, Gate};
+use aps_hints::{Given, KeptSource, WatchedSink, tell_write_fault};
 use aps_io::{Sink, Source, StdSink, StdSource, words_of};
-use aps_top::hint::{Given, tell_person};
-use aps_top::kept::KeptSource;
+use aps_top::hint::tell_person;
 use aps_top::status::Status;
 use aps_top::top::top;
 use std::alloc::Global;
@@ -20,15 +20,16 @@ fn main(rt: HostRuntime) -> ExitCode {
     // what it gives is kept for a hint on standard error, where it is refused
     let mut source = KeptSource::new(alloc, StdSource::new(rt.stdin()));
     // standard output takes each piece at once, so that no fault comes after the last answer
-    let mut sink = StdSink::new(rt.stdout());
+    let mut sink = WatchedSink::new(StdSink::new(rt.stdout()));
     let gate = ClockGate::new(&rt);
     let status = status_of(&rt, alloc, &words, &mut source, &mut sink, &gate);
     let given = Given {
         bytes: source.kept(),
         is_whole: !source.is_full(),
     };
-    // a hint for a person; nothing depends on it
+    // hints for a person; nothing depends on them
     let _ = tell_person(&rt, alloc, &words, status, given);
+    let _ = tell_write_fault(&rt, &sink);
     ExitCode::from(status)
 }
 

@@ -1,3 +1,4 @@
+//! What the machine is asked: how partitions stand, and which of them have a candidate.
 ghost use Rattle.std.specs.Prelude.{◌≡◌, ℕ, ◌<◌, ◌≤◌, length, slice_index_or, IfOk, IfSome, IfNone, IsTrue, false, nat_eq, ◌&&◌, ◌||◌};
 ghost use Rattle.aps_model.specs.Limits.{most_partitions};
 ghost use Rattle.aps_model.specs.Pick.{contender_of, contenders, is_ready};

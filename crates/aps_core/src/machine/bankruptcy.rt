@@ -1,3 +1,4 @@
+//! The test of bankruptcy after a bill, and what its policy does.
 ghost use Rattle.std.specs.Prelude.{◌≡◌, ◌≤◌, ◌++◌, ◌∷◌, [], ◌/◌, length};
 ghost use Rattle.aps_model.specs.Bill.{bankrupt, cancel};
 ghost use Rattle.aps_model.specs.Limits.{most_ticks};

@@ -1,3 +1,4 @@
+//! The beginning of a step, and its bill.
 ghost use Rattle.std.specs.Prelude.{◌≡◌, ℕ, ◌<◌, ◌≤◌, length, None};
 ghost use Rattle.aps_model.specs.Bill.{bill_of};
 ghost use Rattle.aps_model.specs.Limits.{last_moment};

@@ -1,3 +1,4 @@
+//! The timed commands of a tick.
 ghost use Rattle.std.specs.Prelude.{◌≡◌, ◌≢◌, ℕ, ◌<◌, ◌≤◌, length, false};
 ghost use Rattle.std.specs.Option.{option_map};
 ghost use Rattle.aps_model.specs.Limits.{most_commands, most_ticks};

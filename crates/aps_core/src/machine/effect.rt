@@ -1,3 +1,4 @@
+//! The effect of an operation that is over.
 ghost use Rattle.std.specs.Prelude.{◌≡◌, ◌<◌, ◌≤◌, ◌^◌, length};
 ghost use Rattle.aps_model.specs.Effect.{effect, joined};
 ghost use Rattle.aps_model.specs.Limits.{last_moment};

@@ -1,3 +1,4 @@
+//! The flag: which processor has to step again at once, after a pick.
 ghost use Rattle.std.specs.Prelude.{◌≡◌, ◌<◌, ◌≤◌, if◌then◌else◌, length, IfSome, Some};
 ghost use Rattle.aps_model.specs.Flag.{flag_for, with_flag};
 ghost use Rattle.aps_model.specs.Budget.{part_at};
@@ -24,7 +25,7 @@ const PAST_ALL: u16 = 16000;
 
 /// Of the other processors that aren't due yet the one of least rank, and how high that stands. Where there is none, the
 /// processor is any, and the height is past all.
-#[derive(Clone, Copy, Debug, PartialEq, Eq)]
+#[derive(Clone, Copy, PartialEq, Eq)]
 struct Lowest {
     cpu: CpuId,
     height: u16,

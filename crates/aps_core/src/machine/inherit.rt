@@ -1,3 +1,4 @@
+//! The values that threads inherit, as the machine keeps them.
 ghost use Rattle.std.specs.Prelude.{◌≡◌};
 ghost use Rattle.aps_inherit.specs.Order.{after_in, first_of};
 ghost use Rattle.aps_inherit.specs.Serving.{AreChains, servers};

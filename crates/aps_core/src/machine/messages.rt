@@ -1,3 +1,4 @@
+//! Send, receive and reply.
 ghost use Rattle.std.specs.Prelude.{◌≡◌, ◌<◌, ◌≤◌, length};
 ghost use Rattle.aps_model.specs.Inherit.{client_of};
 ghost use Rattle.aps_model.specs.Limits.{last_moment};

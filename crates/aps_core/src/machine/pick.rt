@@ -1,3 +1,4 @@
+//! The pick: a processor keeps the greatest candidate.
 ghost use Rattle.std.specs.Prelude.{◌≡◌, ◌<◌, length};
 ghost use Rattle.aps_model.specs.Step.{chosen};
 

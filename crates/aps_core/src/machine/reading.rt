@@ -1,3 +1,4 @@
+//! Threads and processors as they are now.
 ghost use Rattle.std.specs.Prelude.{◌≡◌};
 ghost use Rattle.aps_model.specs.SchedulerState.{cpu_at, idle, thread_at};
 

@@ -1,4 +1,5 @@
-ghost use Rattle.std.specs.Prelude.{◌≡◌, ◌≢◌, ℕ, length, IfOk, Some, None, true, false};
+//! Which threads belong into the queues of ready threads, and putting one of them there.
+ghost use Rattle.std.specs.Prelude.{◌≡◌, ℕ, length, slice_set, IfOk, Some, None};
 ghost use Rattle.aps_core.specs.Seats.{seat_at, seats_of, who_at, IsRight, IsSeated};
 ghost use Rattle.aps_laws.specs.Stamps.{IsStamped};
 
@@ -48,7 +49,7 @@ impl Machine {
         }
     }
 
-    /// The thread isn't in, unless it is as it should be.
+    /// The thread isn't in, unless it is as it should be. One that stays ready with its stamp is as it should be.
     #[inline(always)]
     pub fn leave(&self, ready: &mut Ready, x: ThreadId)
         ensures own { IsSeated self.now ready.new x }
@@ -61,27 +62,20 @@ impl Machine {
         }
     }
 
-    /// The thread, which is in with these values, isn't in, unless it is as it should be.
+    /// The thread, which is in with these values, isn't in, unless it is as it should be. Where its inherited values alone
+    /// changed it is given these.
     fn leave_seat(&self, ready: &mut Ready, x: ThreadId, seat: &Contender)
-        requires { who_at ready.old x ≡ Some seat.now }
+        requires seat { who_at ready.old x ≡ Some seat.now }
+        requires thread { seat.now.thread ≡ x }
         ensures own { IsSeated self.now ready.new x }
         ensures seated { (y : ℕ) → IsSeated self.now ready.old y → IsSeated self.now ready.new y }
         ensures right { (y : ℕ) → IsRight self.now ready.old y → IsRight self.now ready.new y }
         ensures count { length ready.new ≡ length ready.old }
     {
-        if !self.is_seated(seat, x) {
-            ready.take(x);
-        }
-    }
-
-    /// Whether the thread is ready, and is known so.
-    fn is_seated(&self, seat: &Contender, x: ThreadId) -> bool
-        ensures yes { result ≡ true → Some seat.now ≡ seat_at self.now x }
-        ensures no { result ≡ false → Some seat.now ≢ seat_at self.now x }
-    {
         match self.seat_at(x) {
-            Some(now) => now == *seat,
-            None => false,
+            Some(now) if now == *seat => {}
+            Some(now) if now.stamp == seat.stamp => change_seat(ready, seat, &now),
+            _ => ready.take(x),
         }
     }
 
@@ -117,4 +111,14 @@ impl Machine {
             ready.put(x, seat.facts, seat.stamp);
         }
     }
+}
+
+/// The thread, which is in with these values, is in with others, and with the stamp that it has.
+fn change_seat(ready: &mut Ready, seat: &Contender, now: &Contender)
+    requires seat { who_at ready.old now.now.thread ≡ Some seat.now }
+    requires thread { seat.now.thread ≡ now.now.thread }
+    requires stamp { seat.now.stamp ≡ now.now.stamp }
+    ensures { ready.new ≡ slice_set ready.old now.now.thread (Some now.now) }
+{
+    ready.change(now.thread, now.facts);
 }

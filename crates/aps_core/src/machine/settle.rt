@@ -1,3 +1,4 @@
+//! The end of an operation, and the return of a thread that can still run.
 ghost use Rattle.std.specs.Prelude.{◌≡◌, ◌<◌, ◌≤◌, ◌^◌, length, IfSome};
 ghost use Rattle.aps_model.specs.Limits.{last_moment};
 ghost use Rattle.aps_model.specs.SchedulerState.{thread_at};

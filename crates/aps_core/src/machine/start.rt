@@ -1,3 +1,4 @@
+//! The machine at the start of a run.
 ghost use Rattle.std.specs.Prelude.{◌≡◌, replicate, IfOk};
 ghost use Rattle.aps_model.specs.Opening.{opening};
 ghost use Rattle.aps_model.specs.SchedulerState.{idle};

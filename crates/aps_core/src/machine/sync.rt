@@ -1,3 +1,4 @@
+//! Bringing the queues up to date after a step changed threads.
 ghost use Rattle.std.specs.Prelude.{◌≡◌, ◌≢◌, ℕ, length, Some, None, true, false};
 ghost use Rattle.aps_model.specs.Inherit.{client_of};
 ghost use Rattle.aps_core.specs.Seats.{seats_of, who_at, IsRight, IsSeated};

@@ -1,3 +1,4 @@
+//! The sleepers that wake at a boundary.
 ghost use Rattle.std.specs.Prelude.{◌≡◌, ℕ, ◌/◌, ◌%◌, ◌<◌, ◌≤◌, [], length, slice_index_or, IfOk, vec_capacity, None, true, false};
 ghost use Rattle.std.specs.Prelude.{nat_eq};
 ghost use Rattle.aps_model.specs.Limits.{last_moment, most_threads};

@@ -1,3 +1,4 @@
+//! One partition of many, by its number.
 ghost use Rattle.std.specs.Prelude.{◌≡◌};
 ghost use Rattle.aps_model.specs.Budget.{part_at};
 

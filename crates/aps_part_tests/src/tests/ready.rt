@@ -141,6 +141,13 @@ fn nobody_is_in_a_queue_without_threads(rt: HostRuntime) {
 }
 
 #[test]
+fn a_queue_may_have_more_places_than_there_are_threads(rt: HostRuntime) {
+    let parts = both(part(IN_BUDGET, 0, 0), part(IN_BUDGET, 0, 50));
+    let ready = Ready::new(rt.alloc(), u16::MAX).expect(&rt, "memory");
+    assert!(rt; best(&ready, &parts, Free::Priority) == None);
+}
+
+#[test]
 fn gates_are_set_one_at_a_time(rt: HostRuntime) {
     let parts = both(part(OVER, 60, 50), open_part(OVER, 60, 50));
     let mut gates = Gates::of(&parts);

@@ -1,6 +1,7 @@
 //! Runs of the sources and sinks: whole, with a fault in mid-stream, and without an end.
 ghost use Rattle.std.specs.Prelude.{◌≤◌, None};
 
+use aps_hints::WatchedSink;
 use aps_io::{
     CalmSink, CalmSource, MemSink, MemSource, ReadAnswer, ReadRefusal, Sink, Source, StdSink,
     StdSource, WriteAnswer, WriteRefusal, read_all, write_all,
@@ -89,6 +90,16 @@ fn a_write_fails_between_two_texts(rt: HostRuntime) {
     assert!(rt; write(&mut sink, b"two") == Err(WriteRefusal::WriteFault));
     assert!(rt; write(&mut sink, b"three") == Ok(()));
     assert!(rt; sink.written() == b"> onethree".as_slice());
+}
+
+#[test]
+fn a_watched_sink_knows_that_a_write_failed(rt: HostRuntime) {
+    let mut sink = WatchedSink::new(failing_sink(&rt, rt.alloc()));
+    assert!(rt; write(&mut sink, b"one") == Ok(()));
+    assert!(rt; !sink.has_failed());
+    assert!(rt; write(&mut sink, b"two") == Err(WriteRefusal::WriteFault));
+    assert!(rt; write(&mut sink, b"three") == Ok(()));
+    assert!(rt; sink.has_failed());
 }
 
 #[test]

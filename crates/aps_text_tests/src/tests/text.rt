@@ -1,3 +1,4 @@
+//! Journals, printed and read.
 use aps_model::{CpuId, Done, Entry, ThreadId};
 use aps_text::{JournalRefusal, cpu_of_line, journal_at, print_journal, read_journal};
 use std::alloc::Global;

@@ -37,12 +37,17 @@ pub fn end_of<S: Source, K: Sink>(
     (ended.status, entries_of(&ended.history))
 }
 
-/// What `solo` writes of this input as its journal.
-pub fn journal_of(rt: &impl Abort, alloc: Global, input: &str) -> CalmSink {
-    let words = words_of(rt, alloc, &["solo", "--report=journal"]);
-    let mut source = source_of(rt, alloc, input.as_bytes());
+/// What a call with these words writes over this input, under status 0.
+pub fn text_of(rt: &impl Abort, alloc: Global, words: &[&str], input: &[u8]) -> CalmSink {
+    let words = words_of(rt, alloc, words);
+    let mut source = source_of(rt, alloc, input);
     let mut sink = CalmSink::new(Vec::new(alloc));
     let end = end_of(alloc, &words, &mut source, &mut sink);
     assert_eq!(rt; end.0, 0);
     sink
+}
+
+/// What `solo` writes of this input as its journal.
+pub fn journal_of(rt: &impl Abort, alloc: Global, input: &[u8]) -> CalmSink {
+    text_of(rt, alloc, &["solo", "--report=journal"], input)
 }

@@ -9,6 +9,21 @@ use std::process::Abort;
 use std::sync::Wait;
 use std::thread::Threads;
 
+const TWO_EQUAL_SUMMARY: &str = "aps summary 1
+end horizon
+shape cpus 1 tick 1000000 window 10 ticks 20
+entries 21
+partition 0 System budget 50 billed 10000000 critical 0
+partition 1 A budget 50 billed 10000000 critical 0
+idle 0
+thread 0 s ran 10000000
+thread 1 a ran 10000000
+loaded 0
+over 0 partition 0 window 0
+short 0 partition 0 window 0
+overcritical 0 partition 0 window 0
+";
+
 const TWO_PROCESSORS_SUMMARY: &str = "aps summary 1
 end horizon
 shape cpus 2 tick 1000000 window 10 ticks 10
@@ -66,8 +81,19 @@ fn two_threads_meet(rt: HostRuntime) {
 #[test]
 fn where_one_run_is_possible_threads_make_it(rt: HostRuntime) {
     for (input, order) in [(TWO_EQUAL, "free"), (TWO_PROCESSORS, "fixed")] {
-        let alone = journal_of(&rt, rt.alloc(), input);
+        let alone = journal_of(&rt, rt.alloc(), input.as_bytes());
         let words = ["run", "--report=journal", "--order", order];
         check(&rt, rt.alloc(), &words, input, &OpenGate, alone.written());
     }
+}
+
+#[test]
+fn summaries_of_threads(rt: HostRuntime) {
+    let (one, two) = (
+        TWO_EQUAL_SUMMARY.as_bytes(),
+        TWO_PROCESSORS_SUMMARY.as_bytes(),
+    );
+    check(&rt, rt.alloc(), &["run"], TWO_EQUAL, &OpenGate, one);
+    let fixed = ["run", "--order", "fixed"];
+    check(&rt, rt.alloc(), &fixed, TWO_PROCESSORS, &OpenGate, two);
 }

@@ -46,6 +46,27 @@ impl TwoSeats {
         self.dispatch.turn(rt, &mut self.one, CpuId::at(1))
     }
 
+    /// Each processor has a driver at hand.
+    pub fn come_to_hand(&self) {
+        self.dispatch.set_at_hand(&self.zero, true);
+        self.dispatch.set_at_hand(&self.one, true);
+    }
+
+    /// Waits for the turn of processor 1.
+    pub fn await_turn_of_one<R: Wait>(&self, rt: &R) {
+        self.dispatch.await_turn(rt, &self.one);
+    }
+
+    /// Waits while another driver takes turns in vain, as processor 0.
+    pub fn await_vain_of_zero<R: Wait>(&self, rt: &R) {
+        self.dispatch.await_vain(rt, &self.zero);
+    }
+
+    /// Waits while another driver takes turns in vain, as processor 1.
+    pub fn await_vain_of_one<R: Wait>(&self, rt: &R) {
+        self.dispatch.await_vain(rt, &self.one);
+    }
+
     /// Drives processor 1 alone, which wasn't driven yet.
     pub fn drive_one<R: Abort + Wait, G: Gate>(&mut self, rt: &R, gate: &G) -> Driven {
         assert!(rt; self.one.waited() == 0);

@@ -7,7 +7,7 @@ use lib.Chars.{codes}
 use Rattle.aps_explain.specs.declared.because.Because.{Because}
 use Rattle.aps_explain.specs.Because.{because}
 use Rattle.aps_explain.specs.Past.{state_in}
-use Rattle.aps_explain.specs.Text.{again_line, because_line, head_by, part_line, since, state_text, values_line}
+use Rattle.aps_explain.specs.Text.{again_line, because_line, head_by, part_line, since, since_last, state_text, values_line}
 use Rattle.aps_explain.proofs.Wording.{added_last, added_more}
 use Rattle.aps_explain.proofs.text.add_thread.Goals as goal
 
@@ -21,7 +21,8 @@ returns c =
     let thread = c.thread-thread.result in
     let facts = c.facts_of-facts.result in
     let cause = c.in_ok-because.because in
-    let moment = c.since.result in
+    let last = c.since_last-last.result in
+    let moment = c.since-begin.result in
     let t1 = string_bytes c.add_head.new.out in
     let t2 = string_bytes c.add_values.new.out in
     let t3 = string_bytes c.add_values-2.new.out in
@@ -49,5 +50,7 @@ returns c =
     added_last start t6 (head ++ own ++ counts ++ part ++ again ++ does) (because_line past cause) six
     ∙ ap (λ t. told t facts cause moment) c.thread-thread.ensures.same ∙ ap (λ f. told now f cause moment) c.facts_of-facts.ensures
     ∙ ap (λ b. told now counted b moment) c.in_ok-because.ensures
-    ∙ ap (told now counted (because past x)) (c.since.ensures ∙ ap (λ l. since l at) c.segments.ensures) in
+    ∙ ap (told now counted (because past x)) (c.since-begin.ensures ∙ ap (λ l. since l last at) c.segments-segments.ensures
+    ∙ ap (λ n. since life n at) (c.since_last-last.ensures ∙ ap (λ l. since_last past l thread.state) c.segments-segments.ensures
+    ∙ ap (λ (t : ThreadNow). since_last past life t.state) c.thread-thread.ensures.same)) in
     subst (λ (l : List ℕ). OnOk c.add_because.result (string_bytes c.add_because.new.out ≡ l)) same c.add_because.ensures

@@ -1,5 +1,5 @@
-//! A run of one processor, on a scenario whose first thread has the lower priority, and calls with the answers that they
-//! have to give.
+//! Runs of one processor, on scenarios with a thread in each of two partitions, and calls with the answers that they have to
+//! give.
 ghost use Rattle.std.specs.Prelude.{◌≡◌, ◌<◌, ◌≤◌, length};
 ghost use Rattle.aps_live.specs.LiveHistory.{NamesThread};
 ghost use Rattle.aps_live.specs.Seats.{HasAllCpus, IsSeatOf};
@@ -12,13 +12,26 @@ use std::alloc::Global;
 use std::process::Abort;
 use std::sync::Wait;
 
-const ONE_PROCESSOR: &str = r#"version = 1
+/// The thread of `System` has the lower priority.
+pub const LOWER_FIRST: &str = r#"version = 1
 cpus = 1
 window = 10
 ticks = 20
 partition = [{name = "A", budget = 50}]
 thread = [
   {name = "s", priority = 5, program = ["run forever"]},
+  {name = "a", partition = "A", program = ["run forever"]},
+]
+"#;
+
+/// Both threads have the same priority.
+pub const EQUALS: &str = r#"version = 1
+cpus = 1
+window = 10
+ticks = 20
+partition = [{name = "A", budget = 50}]
+thread = [
+  {name = "s", program = ["run forever"]},
   {name = "a", partition = "A", program = ["run forever"]},
 ]
 "#;
@@ -96,7 +109,7 @@ pub fn at(now: Nanos, told: Told, turn: LiveTurn) -> Call
     Call { now, told, turn }
 }
 
-/// A run of the scenario, with the seat of its processor.
+/// A run of such a scenario, with the seat of its processor.
 #[derive(Drop)]
 pub struct OneProcessor {
     live: Live,
@@ -107,12 +120,12 @@ pub struct OneProcessor {
 }
 
 impl OneProcessor {
-    /// A run with room for so many entries.
-    pub fn open(rt: &impl Abort, alloc: Global, limit: u32) -> OneProcessor
+    /// The run of this scenario with room for so many entries.
+    pub fn open(rt: &impl Abort, alloc: Global, text: &str, limit: u32) -> OneProcessor
         requires some { 1 ≤ limit }
         requires few { limit ≤ most_entries }
     {
-        let scenario = scenario_of(alloc, ONE_PROCESSOR.as_bytes()).expect(rt, "a scenario");
+        let scenario = scenario_of(alloc, text.as_bytes()).expect(rt, "a scenario");
         assert!(rt; scenario.threads().len() >= 2);
         let (live, seat) = Live::open(alloc, scenario, limit).expect(rt, "memory");
         OneProcessor { live, seat }

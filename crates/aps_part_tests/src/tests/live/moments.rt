@@ -1,11 +1,11 @@
 //! Moments: before the one seen, at the limit, on the boundaries of ticks, and far apart.
-use super::calls::{OneProcessor, Told, Who, at, took};
+use super::calls::{LOWER_FIRST, OneProcessor, Told, Who, at, took};
 use aps_live::LiveTurn;
 
 /// A moment before the one seen changes nothing: neither the history, nor who waits. A's wake is told again.
 #[test]
 fn a_moment_gone_by_changes_nothing(rt: HostRuntime) {
-    let mut run = OneProcessor::open(&rt, rt.alloc(), 10);
+    let mut run = OneProcessor::open(&rt, rt.alloc(), LOWER_FIRST, 10);
     let calls = [
         at(
             1_000_000,
@@ -45,7 +45,7 @@ fn a_moment_gone_by_changes_nothing(rt: HostRuntime) {
 /// At the limit a moment before the one seen is told first.
 #[test]
 fn a_full_history_tells_moments_gone_by_first(rt: HostRuntime) {
-    let mut run = OneProcessor::open(&rt, rt.alloc(), 1);
+    let mut run = OneProcessor::open(&rt, rt.alloc(), LOWER_FIRST, 1);
     let calls = [
         at(
             5,
@@ -65,7 +65,7 @@ fn a_full_history_tells_moments_gone_by_first(rt: HostRuntime) {
 /// used. At 10,000,000 it is ticks 1 to 10, with 4,000,000 of it; and `System` has used 5,000,000.
 #[test]
 fn a_tick_is_left_behind_at_its_boundary(rt: HostRuntime) {
-    let mut run = OneProcessor::open(&rt, rt.alloc(), 10);
+    let mut run = OneProcessor::open(&rt, rt.alloc(), LOWER_FIRST, 10);
     let calls = [
         at(
             0,
@@ -100,7 +100,7 @@ fn a_tick_is_left_behind_at_its_boundary(rt: HostRuntime) {
 /// used 5,000,000.
 #[test]
 fn an_interval_outlasts_the_window(rt: HostRuntime) {
-    let mut run = OneProcessor::open(&rt, rt.alloc(), 10);
+    let mut run = OneProcessor::open(&rt, rt.alloc(), LOWER_FIRST, 10);
     let calls = [
         at(
             0,
@@ -129,7 +129,7 @@ fn an_interval_outlasts_the_window(rt: HostRuntime) {
 /// The last moment that may be told, after an interval of 10,000,000 ticks, 9 of which count.
 #[test]
 fn the_last_moment_is_taken(rt: HostRuntime) {
-    let mut run = OneProcessor::open(&rt, rt.alloc(), 10);
+    let mut run = OneProcessor::open(&rt, rt.alloc(), LOWER_FIRST, 10);
     let calls = [
         at(
             0,

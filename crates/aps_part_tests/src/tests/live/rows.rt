@@ -1,5 +1,5 @@
 //! Two runs call by call, and the histories that they leave.
-use super::calls::{OneProcessor, Told, Who, at, took};
+use super::calls::{EQUALS, LOWER_FIRST, OneProcessor, Told, Who, at, took};
 use aps_live::{LiveEvent, LiveTurn};
 use aps_model::ThreadId;
 
@@ -7,7 +7,7 @@ use aps_model::ThreadId;
 /// 6,500,000, isn't.
 #[test]
 fn a_long_interval_is_billed_where_it_lies(rt: HostRuntime) {
-    let mut run = OneProcessor::open(&rt, rt.alloc(), 4);
+    let mut run = OneProcessor::open(&rt, rt.alloc(), LOWER_FIRST, 4);
     let calls = [
         at(
             0,
@@ -50,10 +50,11 @@ fn a_long_interval_is_billed_where_it_lies(rt: HostRuntime) {
     assert!(rt; history.events() == events.as_slice());
 }
 
+/// At 2,500,000 `A` is picked because it has used nothing: both threads have one priority, and `System` has used 2,500,000 ns.
 /// `A` ran 6,500,000 ns of ticks 0 to 9, more than its 5,000,000, since nobody asked in between.
 #[test]
 fn nobody_is_stopped_between_two_calls(rt: HostRuntime) {
-    let mut run = OneProcessor::open(&rt, rt.alloc(), 10);
+    let mut run = OneProcessor::open(&rt, rt.alloc(), EQUALS, 10);
     let calls = [
         at(
             0,

@@ -15,3 +15,7 @@ returns-in-Ok-journal_line g c =
 pub returns-in-UnknownThread : goal.returns-in-UnknownThread
 returns-in-UnknownThread g c =
     said_as _ _ _ _ _ _ (sym (ap refusal_text c.in-UnknownThread.is)) refl c.print-in-UnknownThread.ensures.prints
+
+pub returns-in-BehindEnd : goal.returns-in-BehindEnd
+returns-in-BehindEnd g c =
+    said_as _ _ _ _ _ _ (sym (ap refusal_text c.in-BehindEnd.is)) refl c.print-in-BehindEnd.ensures.prints

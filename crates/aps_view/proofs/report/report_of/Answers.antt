@@ -40,8 +40,8 @@ shares_text-requires-clause-few c =
     let room : h.room.entries ≡ c.args.core.now.setup.limit = ap (λ (k : History). k.room.entries) c.history-history.ensures.same in
     omega (arith, fit, room, c.requires.few)
 
-pub drawn-requires-clause-few : goal.drawn-requires-clause-few
-drawn-requires-clause-few c =
+pub pictured-requires-clause-few : goal.pictured-requires-clause-few
+pictured-requires-clause-few c =
     let h = c.history-history.result.now in
     let fit : length h.entries ≤ h.room.entries = c.entries-entries.ensures.keeps.entries_fit in
     let room : h.room.entries ≡ c.args.core.now.setup.limit = ap (λ (k : History). k.room.entries) c.history-history.ensures.same in

@@ -20,4 +20,4 @@ returns c =
     let told = ap (λ t. Some t) (c.in_ok-text.ensures ∙ ap (λ (h : History). latency_text h.scenario h.entries) c.history-history.ensures.same) in
     run_due Latency c.args.core.setup after _
     (ended_run c.args.core.setup after c.in_ok-followed.ensures.setup c.requires.fixed c.history-history.ensures.valid c.history-history.ensures.legal c.history-history.ensures.no_sooner c.in_ok-followed.ensures.ended)
-    (text, told, c.of_text.ensures ∙ ap (λ (status : Status). reported status text) c.ended_as.ensures)
+    (text, told, c.of_text.ensures ∙ ap (λ (status : Status). reported Latency status text) c.ended_as.ensures)

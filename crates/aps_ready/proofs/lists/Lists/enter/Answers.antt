@@ -21,7 +21,7 @@ invariant_of-self c =
     subst (λ (after : List ℕ). AreLists new after c.link.new.before.items c.enter.new.self) (sym c.link.ensures.after)
     (subst (λ (before : List ℕ). AreLists new (set (set s.after.items p x) x (link s.after.items p)) before c.enter.new.self) (sym c.link.ensures.before)
     (lists_entered s.row.items s.after.items s.before.items s.table c.enter.new.self x p one c.self.invariant
-    (omega (arith, c.requires.inside, ap length view)) c.requires.group c.requires.level refl
+    (omega (arith, c.requires.inside, ap length view)) c.requires.few c.requires.group c.requires.level refl
     (subst (λ (row : List Entrant). group_count ≤ (entrant_at row x).group) (sym view) c.requires.out)
     (subst (λ (row : List Entrant). (y : ℕ) → (entrant_at row y).group < group_count → (entrant_at row y).stamp ≢ one.stamp) (sym view) c.requires.stamp)
     place c.enter.ensures))

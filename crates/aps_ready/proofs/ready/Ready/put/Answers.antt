@@ -1,8 +1,8 @@
-use Rattle.std.proofs.Common.{◌≡◌, ◌<◌, ◌≤◌, ◌∙◌, length, ap, sym, subst, refl, arith, length-set}
+use Rattle.std.proofs.Common.{◌≡◌, ◌<◌, ◌≤◌, ◌∙◌, length, ap, sym, subst, refl, arith}
 use Rattle.aps_ready.specs.declared.entrant.Entrant.{Entrant}
 use Rattle.aps_ready.specs.Entrant.{entrant_at}
-use Rattle.aps_ready.specs.Ready.{seat_of, IsQueued}
-use Rattle.aps_ready.proofs.Queued.{seats_set, seen, seen_at, queued_set, free_stamp, place_in_row, in_group, is_out}
+use Rattle.aps_ready.specs.Ready.{seat_of, HasThreads, IsQueued}
+use Rattle.aps_ready.proofs.Queued.{seats_set, seen, seen_at, queued_set, threads_set, free_stamp, place_in_row, in_group, is_out}
 use Rattle.aps_ready.proofs.Rings.{within_row}
 use Rattle.aps_ready.proofs.ready.Ready.put.Goals as goal
 use Rattle.aps_ready.specs.Group.{group_count}
@@ -19,6 +19,7 @@ enter-requires c =
       group = omega (arith, ap (λ (f : Entrant). f.group) is, in_group c.args.facts c.entrant_of.ensures.partition);
       level = omega (arith, ap (λ (f : Entrant). f.level) is);
       inside = place_in_row row c.args.self.now c.args.x e.thread c.self.view_is c.requires.inside x;
+      few = omega (arith, x, c.entrant_of.ensures.thread);
       out = out;
       stamp = λ y there same.
           free_stamp row c.args.self.now c.args.stamp y c.self.view_is c.requires.stamp (within_row row y there) there
@@ -38,7 +39,8 @@ invariant_of-self c =
         stamp = λ y below ne h same.
             free_stamp row c.args.self.now c.args.stamp y c.self.view_is c.requires.stamp below h (same ∙ ap (λ (f : Entrant). f.stamp) is);
       })),
-      omega (arith, ap length c.enter.ensures, length-set row e.thread e, c.self.invariant.1),
+      subst HasThreads (sym c.enter.ensures)
+          (threads_set row e.thread e c.self.invariant.1 within (λ _. omega (arith, x, c.entrant_of.ensures.thread))),
     )
 
 pub returns : goal.returns

@@ -1,7 +1,7 @@
-use Rattle.std.proofs.Common.{◌<◌, ◌∙◌, None, length, ap, sym, subst, refl, arith, length-set}
+use Rattle.std.proofs.Common.{◌<◌, ◌∙◌, None, length, sym, subst, refl, arith}
 use Rattle.aps_ready.specs.Entrant.{entrant_at, vacant}
-use Rattle.aps_ready.specs.Ready.{IsQueued}
-use Rattle.aps_ready.proofs.Queued.{seats_set, seen_at, queued_set, place_in_row, is_in}
+use Rattle.aps_ready.specs.Ready.{HasThreads, IsQueued}
+use Rattle.aps_ready.proofs.Queued.{seats_set, seen_at, queued_set, threads_set, place_in_row, is_in}
 use Rattle.aps_ready.proofs.ready.Ready.take.Goals as goal
 
 pub leave-requires : goal.leave-requires
@@ -20,7 +20,7 @@ invariant_of-self c =
     let i = c.index.result in
     let within : i < length row = place_in_row row c.args.self.now c.args.x i c.self.view_is c.requires.inside c.index.ensures.same in (
       subst IsQueued (sym c.leave.ensures) (queued_set row i vacant c.self.invariant.0 within (λ g. absurd (omega (arith, g)))),
-      omega (arith, ap length c.leave.ensures, length-set row i vacant, c.self.invariant.1),
+      subst HasThreads (sym c.leave.ensures) (threads_set row i vacant c.self.invariant.1 within (λ g. absurd (omega (arith, g)))),
     )
 
 pub returns : goal.returns

@@ -13,7 +13,7 @@ add_of_word-requires-clause-bits c k until below asleep due =
     let sleeps : SleepsUntil row x until = subst (λ (r : List (Option ℕ)). SleepsUntil r x until) c.deref.ensures.value asleep in
     let here : has c.may_be_due-bits.result (x % 64) ≡ true =
     c.may_be_due-bits.ensures x until (omega (arith, below))
-    (placed row buckets.lines.items buckets.begin buckets.further x until c.self.invariant sleeps) due in
+    (placed row buckets.lines.items buckets.begin buckets.further x until c.self.invariant sleeps) (c.last_due-last.ensures x until (subst (λ (r : List (Option ℕ)). SleepsUntil r x until) c.self.view_is sleeps) due) in
     subst (λ (i : ℕ). has c.may_be_due-bits.result i ≡ true) (omega (arith, below)) here
 
 pub returns : goal.returns
