@@ -1,13 +1,15 @@
 #!/usr/bin/env python3
 """Tries the wrong bodies that the gate leaves out: `tools/more_edits/NAME/*.edit`, of the form of `crates/NAME/must-fail`.
 
-    tools/more_edits.py          says of each edit of the repository, the gate's too, whether it can still be applied (a second)
+    tools/more_edits.py          says of each edit of the repository, the gate's too, whether it can still be applied, and
+                                 which of those that docs/CONTRIBUTING.md names the gate lacks (a second)
     tools/more_edits.py NAME..   has the prover try those of these crates that the gate leaves out; `all` stands for every crate
 
 They are tried in a copy of the checkout, which begins with what checks of this machine kept. The exit status is 0 where every
-edit can be applied, or was refused, and 1 where not.
+edit can be applied and no named one is missing, or all were refused, and 1 where not.
 """
 import os
+import re
 import shutil
 import subprocess
 import sys
@@ -44,6 +46,15 @@ def fault_of(edit, crate):
     return None if pairs else "it changes nothing"
 
 
+def named_edits():
+    """The edits that docs/CONTRIBUTING.md names as always in the gate."""
+    with open(os.path.join(ROOT, "docs", "CONTRIBUTING.md"), encoding="utf-8") as text:
+        part = text.read().partition("## Wrong bodies that are always in the gate")[2].partition("\n## ")[0]
+    rows = [line for line in part.split("\n") if line.startswith("| ")]
+    names = [name for row in rows for name in re.findall(r"`(\w+/\w+)`", row)]
+    return [os.path.join(ROOT, "crates", crate, "must-fail", f"{edit}.edit") for crate, edit in (name.split("/") for name in names)]
+
+
 def look():
     edits = [
         (edit, crate)
@@ -52,6 +63,7 @@ def look():
         for edit in edits_in(folder)
     ]
     faults = [(edit, why) for edit, crate in edits if (why := fault_of(edit, crate))]
+    faults += [(edit, "docs/CONTRIBUTING.md names it, and the gate lacks it") for edit in named_edits() if not os.path.isfile(edit)]
     for edit, why in faults:
         print(f"{os.path.relpath(edit, ROOT)}: {why}")
     outside = sum(edit.startswith(MORE) for edit, _ in edits)
@@ -61,7 +73,7 @@ def look():
 
 def copy_to(room, names):
     """A copy of the checkout whose must-fail folders hold these crates' further edits alone."""
-    left_out = shutil.ignore_patterns("out", ".git", ".start", "must-fail")
+    left_out = shutil.ignore_patterns("out", ".git", "must-fail")
     shutil.copytree(ROOT, room, ignore=left_out, dirs_exist_ok=True)
     for name in names:
         shutil.copytree(os.path.join(MORE, name), os.path.join(room, "crates", name, "must-fail"))
