@@ -4,7 +4,7 @@
     tools/compare_views.py APSVIEW OTHER.py SOLO FOLDER REPORT.. [--limit N]
 
 OTHER.py has `main(words)`, which gives the text of a report from the words of its own command line: the report, its options, the
-scenario's file and its journal's. SOLO is a command that writes a scenario's journal (`crates/apsim/out/apsim solo --report
+scenario's file and its journal's. SOLO is a command that writes a scenario's journal (`out/apsim solo --report
 journal`). FOLDER holds scenarios, *.toml. Of `explain` two moments of a thread are asked, chosen by the file's name. Each
 difference is printed with its file, and the exit status is 1 where there was one. It is no part of the gate.
 """

@@ -3,8 +3,9 @@
 
     tools/guide.py [FILE.md]
 
-A command stands behind `$ ` in a block; the lines below it have to come in this order and, but where `..` stands, one
-behind the other. It is no part of the gate. It runs in the checkout's top folder, with ./apsim and ./apsview.
+A command is a line behind `$ ` in a block. It goes on in the next line where it ends with a backslash. The lines below it
+have to come in this order and, but where `..` is, one behind the other. .ci/run runs it behind rt ci, in the checkout's top
+folder, with ./apsim and ./apsview.
 """
 import os
 import subprocess
@@ -21,6 +22,8 @@ def commands(text):
             inside = not inside
         elif inside and line.startswith("$ "):
             found.append((line[2:], []))
+        elif inside and found and found[-1][0].endswith("\\") and not found[-1][1]:
+            found[-1] = (found[-1][0] + "\n" + line, [])
         elif inside and found:
             found[-1][1].append(line)
     return found

@@ -4,7 +4,7 @@
     tools/hostile.py PROGRAM            tries all, prints a line for each, fails where one takes more
     tools/hostile.py PROGRAM --keep DIR leaves the inputs in DIR
 
-It is no part of the gate. PROGRAM is the built program, as crates/apsim/out/apsim.
+It is no part of the gate. PROGRAM is the built program, as out/apsim.
 """
 import os
 import resource

@@ -1,20 +1,26 @@
 #!/usr/bin/env python3
-"""Runs the program with its first, second, .. allocation refused, until a run has none that could be refused.
+"""Runs a program with its first, second, .. allocation refused, until a run has none that could be refused.
 
-    tools/refuse_memory.py PROGRAM [--most N]
+    tools/refuse_memory.py APSIM [APSVIEW] [--most N]
 
 Each run has to end with its usual status and text, or with status 7 and a prefix of the usual text. A line for each
-command tells how many allocations were refused, one in each run; the exit status is 1 where a run ended otherwise.
-It is no part of the gate. PROGRAM is the built program, as crates/apsim/out/apsim; `cc` builds a small library that
-refuses one call of malloc or realloc.
+command says how many allocations were refused, one in each run. The exit status is 1 where a run ended otherwise.
+It is no part of the gate. APSIM and APSVIEW are the built programs, as out/apsim; `cc` builds a small library
+that refuses one call of malloc or realloc.
 """
+import argparse
 import os
 import subprocess
 import sys
 import tempfile
+import tomllib
+from pathlib import Path
+from typing import Iterator, NamedTuple
 
+ROOT = Path(__file__).resolve().parent.parent
 NO_MEMORY = 7
 MOST_SECONDS = 120
+SEPARATOR = b"--- journal\n"
 
 LIBRARY = r"""
 #define _GNU_SOURCE
@@ -52,71 +58,126 @@ void *realloc(void *old, size_t size) {
 """
 
 
-def commands(root):
-    """Each command's words and its input."""
-    def text(*path):
-        with open(os.path.join(root, *path), "rb") as file:
-            return file.read()
-    tree = text("crates", "aps_worked", "data", "tree_commands.toml")
-    two = text("crates", "aps_worked", "data", "two_processors.toml")
-    demands = text("scenarios", "demands", "two-needs.toml")
-    reports = [(["solo", "--report", report], tree) for report in ("summary", "windows", "journal")]
-    return reports + [
-        (["run", "--order", "fixed", "--report", "journal"], two),
-        (["gen", "--seed", "7", "--cpus", "2", "--partitions", "3", "--ticks", "5"], b""),
-        (["upgrade"], tree),
-        (["check", "--order", "fixed"], None),
-        (["admit"], demands),
-    ]
+class Command(NamedTuple):
+    """A program with its words and its input."""
+
+    program: str
+    words: list[str]
+    data: bytes
+
+    def name(self) -> str:
+        return " ".join([os.path.basename(self.program), *self.words])
 
 
-def run(program, words, data, refused, library):
-    """The status, the text, and whether a call was refused."""
+class Ending(NamedTuple):
+    """How a run ended: its status, its text, and whether an allocation was refused."""
+
+    status: int
+    text: bytes
+    was_refused: bool
+
+
+def worked(name: str) -> bytes:
+    return (ROOT / "crates" / "aps_worked" / "data" / name).read_bytes()
+
+
+def with_journal(apsim: str, scenario: bytes) -> bytes:
+    """The scenario with the journal of its run behind it."""
+    made = subprocess.run([apsim, "solo", "--report", "journal"], input=scenario, stdout=subprocess.PIPE, check=True)
+    return scenario + SEPARATOR + made.stdout
+
+
+def commands_of_apsim(apsim: str) -> Iterator[Command]:
+    tree = worked("tree_commands.toml")
+    for report in ("summary", "windows", "journal"):
+        yield Command(apsim, ["solo", "--report", report], tree)
+    yield Command(apsim, ["run", "--order", "fixed", "--report", "journal"], worked("two_processors.toml"))
+    yield Command(apsim, ["gen", "--seed", "7", "--cpus", "2", "--partitions", "3", "--ticks", "5"], b"")
+    yield Command(apsim, ["upgrade"], tree)
+    yield Command(apsim, ["check", "--order", "fixed"], with_journal(apsim, tree))
+    yield Command(apsim, ["admit"], (ROOT / "scenarios" / "demands" / "two-needs.toml").read_bytes())
+
+
+def commands_of_apsview(apsim: str, apsview: str) -> Iterator[Command]:
+    """Each report of a scenario with a server, and two of a journal."""
+    server = (ROOT / "scenarios" / "shared-server.toml").read_bytes()
+    reports = ["shares", "latency", "csv", "cycles", "timeline", "threads", "usage", "vcd", "gtkw", "trace"]
+    for report in reports:
+        yield Command(apsview, [report], server)
+    yield Command(apsview, ["explain", "--thread", thread_of(server), "--at", "1500000"], server)
+    for report in ("shares", "latency"):
+        yield Command(apsview, [report], with_journal(apsim, server))
+
+
+def thread_of(scenario: bytes) -> str:
+    """The name of the scenario's first thread."""
+    return tomllib.loads(scenario.decode())["thread"][0]["name"]
+
+
+def run(command: Command, refused: int, library: str) -> Ending:
     told, tells = os.pipe()
     environment = {"LD_PRELOAD": library, "REFUSED": str(refused), "TOLD": str(tells)}
-    ended = subprocess.run([program] + words, input=data, stdout=subprocess.PIPE, stderr=subprocess.DEVNULL,
-                           env=environment, pass_fds=[tells], timeout=MOST_SECONDS)
+    ended = subprocess.run(
+        [command.program, *command.words],
+        input=command.data,
+        stdout=subprocess.PIPE,
+        stderr=subprocess.DEVNULL,
+        env=environment,
+        pass_fds=[tells],
+        timeout=MOST_SECONDS,
+    )
     os.close(tells)
     was_refused = os.read(told, 1) == b"r"
     os.close(told)
-    return ended.returncode, ended.stdout, was_refused
+    return Ending(ended.returncode, ended.stdout, was_refused)
 
 
-def is_right(got, usual):
+def is_right(got: Ending, usual: Ending) -> bool:
     if got[:2] == usual[:2]:
         return True
-    return got[0] == NO_MEMORY and usual[1].startswith(got[1])
+    return got.status == NO_MEMORY and usual.text.startswith(got.text)
 
 
-def main():
-    program = os.path.abspath(sys.argv[1])
-    most = int(sys.argv[sys.argv.index("--most") + 1]) if "--most" in sys.argv else 10**9
-    root = os.path.dirname(os.path.dirname(os.path.abspath(__file__)))
-    wrong = 0
+def try_command(command: Command, most: int, library: str) -> tuple[int, int]:
+    """How many allocations were refused, one in each run, and how many runs ended wrongly."""
+    usual = run(command, -1, library)
+    refused = without = wrong = 0
+    for n in range(1, most + 1):
+        got = run(command, n, library)
+        if not got.was_refused:
+            break
+        refused += 1
+        without += got.status != NO_MEMORY
+        if not is_right(got, usual):
+            wrong += 1
+            print(f"{command.name()}: allocation {n} refused: status {got.status}, {len(got.text)} bytes")
+    print(f"{command.name()}: status {usual.status}; {refused} refused in turn, {without} with the usual answer", flush=True)
+    return refused, wrong
+
+
+def build_library(folder: str) -> str:
+    source, library = os.path.join(folder, "refuse.c"), os.path.join(folder, "refuse.so")
+    Path(source).write_text(LIBRARY, encoding="utf-8")
+    subprocess.run(["cc", "-O2", "-shared", "-fPIC", "-o", library, source, "-ldl"], check=True)
+    return library
+
+
+def main() -> int:
+    words = argparse.ArgumentParser(description=__doc__, formatter_class=argparse.RawDescriptionHelpFormatter)
+    words.add_argument("apsim", type=os.path.abspath)
+    words.add_argument("apsview", nargs="?", type=os.path.abspath)
+    words.add_argument("--most", type=int, default=10**9, help="how many allocations of each command at most")
+    given = words.parse_args()
+    commands = list(commands_of_apsim(given.apsim))
+    if given.apsview:
+        commands += commands_of_apsview(given.apsim, given.apsview)
     with tempfile.TemporaryDirectory() as folder:
-        source, library = os.path.join(folder, "refuse.c"), os.path.join(folder, "refuse.so")
-        with open(source, "w") as file:
-            file.write(LIBRARY)
-        subprocess.run(["cc", "-O2", "-shared", "-fPIC", "-o", library, source, "-ldl"], check=True)
-        for words, data in commands(root):
-            if data is None:
-                scenario = commands(root)[0][1]
-                journal = run(program, ["solo", "--report", "journal"], scenario, 0, "")[1]
-                data = scenario + b"--- journal\n" + journal
-            usual = run(program, words, data, -1, library)
-            refused = without = 0
-            for n in range(1, most + 1):
-                got = run(program, words, data, n, library)
-                if not got[2]:
-                    break
-                refused += 1
-                without += got[0] != NO_MEMORY
-                if not is_right(got, usual):
-                    wrong += 1
-                    print(f"{' '.join(words)}: allocation {n} refused: status {got[0]}, {len(got[1])} bytes")
-            print(f"{' '.join(words)}: status {usual[0]}; {refused} allocations refused in turn, {without} with the usual answer")
-    print(f"{wrong} wrong")
+        library = build_library(folder)
+        ended = [try_command(command, given.most, library) for command in commands]
+    wrong = sum(faults for _, faults in ended)
+    print(f"{sum(refused for refused, _ in ended)} refused, {wrong} wrong")
     return 1 if wrong else 0
 
 
-sys.exit(main())
+if __name__ == "__main__":
+    sys.exit(main())
