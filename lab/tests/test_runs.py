@@ -23,12 +23,21 @@ from lab.tests.client import STAND_IN, Lab, programs_in
 MIB = 1 << 20
 
 
+def state_and_parent(pid: int) -> tuple[str, int]:
+    """A process's state and its parent; of one that is gone, the state of one that isn't reaped yet and no parent.
+
+    A process may go between any two looks, also between the opening and the reading of its file.
+    """
+    try:
+        words = Path(f"/proc/{pid}/stat").read_text().rsplit(")", 1)[1].split()
+    except OSError:
+        return "Z", 0
+    return words[0], int(words[1])
+
+
 def alive(pid: int) -> bool:
     """Whether a process still runs. One that is ended and not reaped doesn't."""
-    try:
-        return Path(f"/proc/{pid}/stat").read_text().rsplit(")", 1)[1].split()[0] != "Z"
-    except OSError:
-        return False
+    return state_and_parent(pid)[0] != "Z"
 
 
 class LimitsOfChildren(unittest.TestCase):
@@ -280,11 +289,10 @@ def within(seconds: float, is_so: Callable[[], bool]) -> bool:
 def children_of_lab() -> list[int]:
     """The stand-ins that run now, by this process's children."""
     found = []
-    for entry in Path("/proc").iterdir():
-        if entry.name.isdigit() and alive(int(entry.name)):
-            words = (entry / "stat").read_text().rsplit(")", 1)[1].split()
-            if int(words[1]) == os.getpid():
-                found.append(int(entry.name))
+    for pid in [int(entry.name) for entry in Path("/proc").iterdir() if entry.name.isdigit()]:
+        state, parent = state_and_parent(pid)
+        if state != "Z" and parent == os.getpid():
+            found.append(pid)
     return found
 
 
