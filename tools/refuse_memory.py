@@ -78,7 +78,7 @@ class Ending(NamedTuple):
 
 
 def worked(name: str) -> bytes:
-    return (ROOT / "crates" / "aps_worked" / "data" / name).read_bytes()
+    return (ROOT / "crates" / "worked" / "data" / name).read_bytes()
 
 
 def with_journal(apsim: str, scenario: bytes) -> bytes:

@@ -1,7 +1,7 @@
 #!/usr/bin/env python3
 """Writes a worked scenario as a theorem: the definitions compute to the journal and the reports beside it.
 
-    tools/row.py crates/aps_worked/data/NAME.toml > crates/aps_rows/proofs/Rows/Name.antt
+    tools/row.py crates/worked/data/NAME.toml > crates/worked_proofs/proofs/Rows/Name.antt
 
 Beside NAME.toml stand the texts that the definitions have to give: NAME.journal, and where they are there
 NAME.summary and NAME.windows. With --upgraded the scenario in parts per thousand must give the same entries too.
@@ -210,7 +210,7 @@ def imports(body, upgraded, reports):
         out.append(f"use Rattle.aps_model.specs.declared.{module}.{name}.TheVariants.{{{', '.join(sorted(by_kind[kind]))}}}")
     out += ["use Rattle.aps_model.specs.Scenario.{Scenario}", "use Rattle.aps_model.specs.Legal.{fixed_run}"]
     out += ["use Rattle.aps_model.specs.Upgrade.{upgraded}"] if upgraded else []
-    out += ["use Rattle.aps_rows.proofs.Line.{" + ", ".join(["line"] + reports) + "}"]
+    out += ["use Rattle.worked_proofs.proofs.Line.{" + ", ".join(["line"] + reports) + "}"]
     return "\n".join(out) + "\n\n"
 
 

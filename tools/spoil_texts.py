@@ -3,7 +3,7 @@
 
     tools/spoil_texts.py PROGRAM FROM TO [--jobs N] [--other MODULE.py] [--keep FOLDER]
 
-The inputs FROM to TO - 1 are made from the files in scenarios/ and crates/aps_worked/data/, each spoiled once to four times by byte
+The inputs FROM to TO - 1 are made from the files in scenarios/ and crates/worked/data/, each spoiled once to four times by byte
 (turned, left out, put in, doubled, cut) or by key (a line left out, doubled, moved; a number, a word or a key changed).
 An input depends on its number alone. --other names another implementation, a Python file with a function
 `answer(words, read)` that gives the status and the pieces of the text: both have to be the same. Where the other refuses a text as
@@ -183,7 +183,7 @@ def main():
     program, low, high = os.path.abspath(sys.argv[1]), int(sys.argv[2]), int(sys.argv[3])
     jobs, path, keep = int(option("--jobs", "1")), option("--other", None), option("--keep", None)
     root = os.path.dirname(os.path.dirname(os.path.abspath(__file__)))
-    names = sorted(glob.glob(os.path.join(root, "scenarios", "*.toml")) + glob.glob(os.path.join(root, "crates", "aps_worked", "data", "*.toml")))
+    names = sorted(glob.glob(os.path.join(root, "scenarios", "*.toml")) + glob.glob(os.path.join(root, "crates", "worked", "data", "*.toml")))
     texts = [open(name, "rb").read() for name in names]
     if keep:
         os.makedirs(keep, exist_ok=True)

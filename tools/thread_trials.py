@@ -7,9 +7,9 @@
 `runs` makes N random scenarios (20,000) of 2 to 16 processors, and PROGRAM, a command as one argument, runs each in fixed
 or free order, turn about. A run has to end within so many seconds (20). In fixed order it has to write what `solo` writes,
 in free order a journal that PROGRAM's `check` finds legal. `repeat` makes the command N times (500), and each time it has to
-end with status 0 within so many seconds (60). For the test in which two threads meet, `rt test` in crates/aps_top_tests builds
+end with status 0 within so many seconds (60). For the test in which two threads meet, `rt test` in crates/test_calls builds
 the program of the tests; COMMAND is then "KIT/bin/rattle-test --seconds 60 --filter two_threads_meet PROGRAM", where KIT
-is the toolchain's folder and PROGRAM crates/aps_top_tests/out/aps_top_tests_tests.
+is the toolchain's folder and PROGRAM crates/test_calls/out/test_calls_tests.
 Beside all this so many loops are busy (as many as the machine has cores; for `repeat` eight). A line tells of each fault,
 with the seed of its scenario, and the last one how many there were and how long the slowest took. The exit status is 1 where there
 was a fault. It is no part of the gate.

@@ -1,9 +1,9 @@
 #!/usr/bin/env python3
-"""Writes what the crate aps_viewed is run on, and what it has to write: crates/aps_viewed/stdin and stdout.
+"""Writes what the crate worked_views is run on, and what it has to write: crates/worked_views/stdin and stdout.
 
     tools/viewed.py
 
-Each text NAME.REPORT of crates/aps_viewed/data/ is that report of the scenario NAME.toml beside it; others are those of FURTHER, and
+Each text NAME.REPORT of crates/worked_views/data/ is that report of the scenario NAME.toml beside it; others are those of FURTHER, and
 the pictures of tools/pictures.py. A run that a reboot ended has status 3, a refusal 2. The texts themselves come from an independent implementation of the
 reports: they are not made by this tool.
 """

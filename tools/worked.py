@@ -1,16 +1,16 @@
 #!/usr/bin/env python3
-"""Writes what the crate aps_worked is run on, and what it has to write: crates/aps_worked/stdin and stdout.
+"""Writes what the crate worked is run on, and what it has to write: crates/worked/stdin and stdout.
 
     tools/worked.py
 
-Each scenario NAME.toml of crates/aps_worked/data/ is run with each report whose text NAME.REPORT lies beside it. The status is
+Each scenario NAME.toml of crates/worked/data/ is run with each report whose text NAME.REPORT lies beside it. The status is
 that of the end that the summary names, and the history has as many entries as it says. Behind these stand the calls of
-crates/aps_worked/calls.txt, each with its end. Where the texts come from is up to whoever writes them down: they are not made by
+crates/worked/calls.txt, each with its end. Where the texts come from is up to whoever writes them down: they are not made by
 this tool, nor by the program.
 """
 import pathlib
 
-CRATE = pathlib.Path("crates/aps_worked")
+CRATE = pathlib.Path("crates/worked")
 DATA = CRATE / "data"
 REPORTS = ["journal", "summary", "windows"]
 STATUS_OF_END = {"horizon": 0, "reboot": 3, "limit": 6}

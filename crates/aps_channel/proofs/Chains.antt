@@ -1,8 +1,8 @@
 -- What writes to links leave of a chain.
 use Rattle.std.proofs.Common.{◌≡◌, ◌≢◌, ℕ, zero, suc, ◌+◌, ◌<◌, ◌≤◌, List, [], ◌∷◌, ◌++◌, length, refl, sym, ◌∙◌, ap, subst, Bool, true, false, cond, nat_eq, Option, Some, None, is_some, arith, inl, inr}
 use Rattle.std.proofs.lemmas.Bool.{cases_eq}
-use Rattle.aps_laws.specs.Waits.{one_if, times}
-use Rattle.aps_laws.proofs.WaitFacts.{test_eq, test_ne}
+use Rattle.laws_runs.specs.Waits.{one_if, times}
+use Rattle.laws_runs.proofs.WaitFacts.{test_eq, test_ne}
 use Rattle.aps_channel.specs.declared.links.Link.{Link}
 use Rattle.aps_channel.specs.Lines.{first_of, without}
 use Rattle.aps_channel.specs.Links.{IsLinked, end_removed, is_at, last_or, link_at, walk}

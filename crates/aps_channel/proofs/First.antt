@@ -4,8 +4,8 @@ use Rattle.std.specs.List.{filter, fold}
 use Rattle.std.specs.Option.{option_map, unwrap_or}
 use Rattle.std.proofs.lemmas.Bool.{cases_eq, cases_lt}
 use Rattle.std.proofs.lemmas.Bool.Decides.{nat_tests}
-use Rattle.aps_laws.specs.Waits.{one_if, times}
-use Rattle.aps_laws.proofs.WaitFacts.{test_eq, test_ne}
+use Rattle.laws_runs.specs.Waits.{one_if, times}
+use Rattle.laws_runs.proofs.WaitFacts.{test_eq, test_ne}
 use Rattle.aps_model.specs.Inherit.{top_of}
 use Rattle.aps_model.specs.Limits.{greatest_priority}
 use Rattle.aps_model.specs.Messages.{first_message, higher}

@@ -5,9 +5,9 @@ use Rattle.std.specs.Option.{option_map}
 use Rattle.std.proofs.Math.ListN.{length-set}
 use Rattle.std.proofs.lemmas.List.{get_or-replicate, get_or-set_same, get_or-set_other, get_or_past, length-replicate, set-get_or}
 use Rattle.std.proofs.lemmas.Bool.{cases_eq, cases_lt}
-use Rattle.aps_laws.specs.Waits.{one_if, times, times_sent}
-use Rattle.aps_laws.proofs.WaitFacts.{test_eq, test_ne}
-use Rattle.aps_laws.proofs.WaitMoves.{client_added, client_without, times-append}
+use Rattle.laws_runs.specs.Waits.{one_if, times, times_sent}
+use Rattle.laws_runs.proofs.WaitFacts.{test_eq, test_ne}
+use Rattle.laws_runs.proofs.WaitMoves.{client_added, client_without, times-append}
 use Rattle.aps_model.specs.Inherit.{client_of, without_server}
 use Rattle.aps_model.specs.Limits.{most_threads}
 use Rattle.aps_model.specs.Messages.{higher, without_sender}

@@ -4,9 +4,9 @@ use Rattle.std.proofs.lemmas.List.{get_or-set_same, get_or-set_other}
 use Rattle.std.proofs.lemmas.List.Sums.{sum_by-cons}
 use Rattle.std.proofs.lemmas.Bool.{cases_eq}
 use Rattle.slab.specs.Slab.{HasRoomFor, Updates, get}
-use Rattle.aps_laws.specs.Waits.{one_if, times, times_sent}
-use Rattle.aps_laws.proofs.WaitFacts.{test_eq, test_ne}
-use Rattle.aps_laws.proofs.WaitMoves.{times-append}
+use Rattle.laws_runs.specs.Waits.{one_if, times, times_sent}
+use Rattle.laws_runs.proofs.WaitFacts.{test_eq, test_ne}
+use Rattle.laws_runs.proofs.WaitMoves.{times-append}
 use Rattle.aps_channel.specs.declared.waiting.MessageRecord.{MessageRecord}
 use Rattle.aps_channel.specs.Lines.{IsInNone, Lines, line_at, with_line, without}
 use Rattle.aps_channel.specs.Queues.{Records, message_in, message_of, sender_at}

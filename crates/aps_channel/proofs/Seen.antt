@@ -4,7 +4,7 @@ use Rattle.std.specs.List.{filter}
 use Rattle.std.specs.Option.{option_map}
 use Rattle.std.proofs.lemmas.List.{get_or-map, get_or-replicate, get_or-set_same, get_or_past, length-replicate, same_lists}
 use Rattle.std.proofs.lemmas.Bool.{cases_lt}
-use Rattle.aps_laws.specs.Waits.{times, times_sent}
+use Rattle.laws_runs.specs.Waits.{times, times_sent}
 use Rattle.aps_levels.specs.declared.levels.Levels.{Levels}
 use Rattle.aps_levels.specs.Bits.{IsLeast}
 use Rattle.aps_levels.specs.Levels.{has_level, level_count}

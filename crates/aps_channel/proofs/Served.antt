@@ -3,9 +3,9 @@ use Rattle.std.proofs.Common.{◌≡◌, ◌≢◌, ℕ, ◌+◌, ◌<◌, ◌�
 use Rattle.std.proofs.Math.ListN.{length-set}
 use Rattle.std.proofs.lemmas.List.{get_or-replicate, get_or-set_same, get_or-set_other, get_or_past, get_or_read, length-replicate, reverse-append}
 use Rattle.std.proofs.lemmas.Bool.{cases_eq, cases_lt, false≢true}
-use Rattle.aps_laws.specs.Waits.{one_if, times}
-use Rattle.aps_laws.proofs.WaitFacts.{test_eq, test_ne}
-use Rattle.aps_laws.proofs.WaitMoves.{times-append}
+use Rattle.laws_runs.specs.Waits.{one_if, times}
+use Rattle.laws_runs.proofs.WaitFacts.{test_eq, test_ne}
+use Rattle.laws_runs.proofs.WaitMoves.{times-append}
 use Rattle.aps_model.specs.Inherit.{client_of, without_server}
 use Rattle.aps_model.specs.Limits.{last_thread}
 use Rattle.aps_model.specs.SchedulerState.{Triple}

@@ -3,7 +3,7 @@ use Rattle.std.proofs.Common.{◌≡◌, ◌≢◌, ℕ, ◌<◌, List, [], ◌�
 use Rattle.std.proofs.Math.ListN.{length-set}
 use Rattle.std.proofs.lemmas.List.{get_or-set_same, get_or-set_other}
 use Rattle.std.proofs.lemmas.Bool.{cases_eq}
-use Rattle.aps_laws.proofs.WaitFacts.{test_eq, test_ne}
+use Rattle.laws_runs.proofs.WaitFacts.{test_eq, test_ne}
 use Rattle.aps_channel.specs.declared.links.Link.{Link}
 use Rattle.aps_channel.specs.Links.{is_at, link_at, links_pushed, links_removed, no_link, with_after, with_before}
 use Rattle.aps_channel.proofs.Chains.{IsPushed, IsUnlinked, unlinked}

@@ -1,6 +1,6 @@
 -- Who waits at each channel and who serves whom, as contracts see it.
 use Rattle.std.specs.Prelude.{◌≡◌, ◌⊎◌, ℕ, ◌≤◌, List, [], ◌∷◌, ◌++◌, Option, Some, None, slice_index_or, slice_set}
-use Rattle.aps_laws.specs.Waits.{times, times_paired, times_sent}
+use Rattle.laws_runs.specs.Waits.{times, times_paired, times_sent}
 use Rattle.aps_model.specs.Inherit.{client_of, without_server}
 use Rattle.aps_model.specs.Messages.{without_sender}
 use Rattle.aps_model.specs.SchedulerState.{ChannelNow, Message, Triple, no_channel}

@@ -1,6 +1,6 @@
 -- The channels, by the messages, the receivers and the triples that make them up.
 use Rattle.std.specs.Prelude.{◌≡◌, ◌⊎◌, ℕ, ◌≤◌, List, [], ◌∷◌, length, None}
-use Rattle.aps_laws.specs.Waits.{times}
+use Rattle.laws_runs.specs.Waits.{times}
 use Rattle.aps_model.specs.Inherit.{client_of}
 use Rattle.aps_model.specs.Limits.{most_threads}
 use Rattle.aps_model.specs.SchedulerState.{ChannelNow, Message}

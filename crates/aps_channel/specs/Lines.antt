@@ -1,6 +1,6 @@
 -- Lines of numbers, as contracts see them.
 use Rattle.std.specs.Prelude.{◌≡◌, ◌≢◌, ◌≤◌, ℕ, ◌<◌, List, [], ◌∷◌, nat_eq, if◌then◌else◌, slice_index_or, slice_set, Option, Some, None}
-use Rattle.aps_laws.specs.Waits.{times}
+use Rattle.laws_runs.specs.Waits.{times}
 
 -- the lines, of numbers below this one
 pub record Lines : Type 0 where

@@ -1,6 +1,6 @@
 -- Lines of numbers as links from each to the next and back.
 use Rattle.std.specs.Prelude.{◌≡◌, ◌≢◌, ℕ, zero, suc, ◌<◌, ◌≤◌, Bool, true, false, nat_eq, if◌then◌else◌, List, [], ◌∷◌, length, map, slice_index_or, slice_set, Option, Some, None}
-use Rattle.aps_laws.specs.Waits.{times}
+use Rattle.laws_runs.specs.Waits.{times}
 use Rattle.aps_channel.specs.Lines.{first_of, line_at}
 use Rattle.aps_channel.specs.declared.links.Link.{Link}
 use Rattle.aps_channel.specs.declared.links.Ends.{Ends}

@@ -1,7 +1,7 @@
 -- How the records of waiting messages are kept: in a slab, each under a key that stands in the line of its channel.
 use Rattle.std.specs.Prelude.{◌≡◌, ℕ, ◌<◌, ◌≤◌, Bool, true, List, is_some}
 use Rattle.slab.specs.Slab.{get}
-use Rattle.aps_laws.specs.Waits.{times}
+use Rattle.laws_runs.specs.Waits.{times}
 use Rattle.aps_levels.specs.declared.levels.Levels.{Levels}
 use Rattle.aps_channel.specs.Lines.{Lines, line_at}
 use Rattle.aps_channel.specs.Queues.{AreQueues, Records, sender_at}

@@ -1,7 +1,7 @@
 -- Who serves whom, as contracts see it and as it is kept.
 use Rattle.std.specs.Prelude.{◌≡◌, ℕ, ◌≤◌, List, [], length, map, reverse, is_some, slice_index_or, Option, Some, None}
 use Rattle.aps_model.specs.Limits.{last_thread}
-use Rattle.aps_laws.specs.Waits.{one_if, times}
+use Rattle.laws_runs.specs.Waits.{one_if, times}
 use Rattle.aps_model.specs.SchedulerState.{Triple}
 use Rattle.aps_channel.specs.Lines.{Lines, line_at}
 use Rattle.aps_channel.specs.declared.serving.Held.{Held}

@@ -1,7 +1,7 @@
 -- The messages that wait, as contracts see them.
 use Rattle.std.specs.Prelude.{ℕ, List, [], ◌∷◌, Option, Some, None, slice_index_or, slice_set}
 use Rattle.std.specs.Option.{option_map}
-use Rattle.aps_laws.specs.Waits.{times_sent}
+use Rattle.laws_runs.specs.Waits.{times_sent}
 use Rattle.aps_model.specs.Messages.{first_message, without_sender}
 use Rattle.aps_model.specs.SchedulerState.{Message}
 

@@ -1,6 +1,6 @@
 //! Lines of numbers: who stands behind whom.
 ghost use Rattle.std.specs.Prelude.{◌≡◌, ◌<◌, ◌≤◌, ◌++◌, [], ◌∷◌, length, replicate, IfOk, IfSome};
-ghost use Rattle.aps_laws.specs.Waits.{times};
+ghost use Rattle.laws_runs.specs.Waits.{times};
 ghost use Rattle.aps_channel.specs.Lines.{AreApart, IsInNone, line_at, with_line, without, first_of};
 
 use crate::links::{Ends, Link, close_gap, link_behind};

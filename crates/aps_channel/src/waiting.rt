@@ -1,6 +1,6 @@
 //! The messages that wait at channels.
 ghost use Rattle.std.specs.Prelude.{◌≡◌, ◌≢◌, ℕ, ◌<◌, ◌++◌, ◌&&◌, [], ◌∷◌, length, min, replicate, IfOk};
-ghost use Rattle.aps_laws.specs.Waits.{times_sent};
+ghost use Rattle.laws_runs.specs.Waits.{times_sent};
 ghost use Rattle.aps_levels.specs.Levels.{has_level, level_count};
 ghost use Rattle.aps_model.specs.Inherit.{top_of};
 ghost use Rattle.aps_model.specs.Limits.{most_threads};

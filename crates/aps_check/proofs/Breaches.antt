@@ -5,8 +5,8 @@ use Rattle.aps_model.specs.declared.entry.End.{End}
 use Rattle.aps_model.specs.declared.entry.Entry.{Entry}
 use Rattle.aps_model.specs.Legal.{IsLegal}
 use Rattle.aps_model.specs.Valid.{IsScenario}
-use Rattle.aps_laws.specs.Runs.{EndsNoSooner}
-use Rattle.aps_laws.proofs.Counts.{counts_law}
+use Rattle.laws_runs.specs.Runs.{EndsNoSooner}
+use Rattle.laws_runs.proofs.Counts.{counts_law}
 use Rattle.aps_core.specs.Run.{Run, end_of_run}
 use Rattle.aps_core.specs.Turn.{with_entry}
 use Rattle.aps_check.specs.declared.judging.Breach.{Breach}

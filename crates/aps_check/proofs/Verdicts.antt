@@ -4,7 +4,7 @@ use Rattle.std.specs.Prelude.{IsSome}
 use Rattle.std.proofs.lemmas.Bool.{false≢true}
 use Rattle.aps_model.specs.declared.entry.End.{End}
 use Rattle.aps_model.specs.declared.entry.Entry.{Entry}
-use Rattle.aps_laws.proofs.Prefixes.{goes_on}
+use Rattle.laws_runs.proofs.Prefixes.{goes_on}
 use Rattle.aps_core.specs.Run.{Setup}
 use Rattle.aps_check.specs.declared.verdict.Rule.{Rule}
 use Rattle.aps_check.specs.declared.verdict.Rule.TheVariants.{Turn, After}

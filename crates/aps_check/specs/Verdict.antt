@@ -6,7 +6,7 @@ use Rattle.aps_model.specs.After.{end_of, state_after}
 use Rattle.aps_model.specs.Due.{HasTurn}
 use Rattle.aps_model.specs.Legal.{IsLegal}
 use Rattle.aps_model.specs.Step.{step}
-use Rattle.aps_laws.specs.Runs.{EndsNoSooner}
+use Rattle.laws_runs.specs.Runs.{EndsNoSooner}
 use Rattle.aps_core.specs.Run.{Setup}
 use Rattle.aps_check.specs.declared.verdict.Rule.{Rule}
 use Rattle.aps_check.specs.declared.verdict.Rule.TheVariants.{Turn, After}

@@ -3,7 +3,7 @@ ghost use Rattle.std.specs.Prelude.{◌≡◌, ℕ, List, Some};
 ghost use Rattle.aps_model.specs.declared.entry.End.{End};
 ghost use Rattle.aps_model.specs.declared.entry.Entry.{Entry};
 ghost use Rattle.aps_model.specs.Legal.{IsLegal};
-ghost use Rattle.aps_laws.specs.Runs.{EndsNoSooner};
+ghost use Rattle.laws_runs.specs.Runs.{EndsNoSooner};
 ghost use Rattle.aps_core.specs.Run.{Setup};
 ghost use Rattle.aps_check.specs.declared.verdict.Verdict.{Verdict};
 ghost use Rattle.aps_check.specs.declared.verdict.Verdict.TheVariants.{Legal};

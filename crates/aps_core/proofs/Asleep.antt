@@ -12,8 +12,8 @@ use Rattle.aps_model.specs.Operation.{go_on}
 use Rattle.aps_model.specs.Scenario.{Scenario}
 use Rattle.aps_model.specs.SchedulerState.{SchedulerState, no_thread, with_thread, thread_at}
 use Rattle.aps_model.specs.TickWork.{waking}
-use Rattle.aps_laws.proofs.Walk.{go_on_other}
-use Rattle.aps_laws.proofs.WaitFacts.{test_eq, test_ne}
+use Rattle.laws_runs.proofs.Walk.{go_on_other}
+use Rattle.laws_runs.proofs.WaitFacts.{test_eq, test_ne}
 use Rattle.aps_timer.specs.Sleepers.{all_due, without_all}
 use Rattle.aps_timer.specs.Waking.{sleeps_until}
 use Rattle.aps_timer.proofs.Wakes.{wakes}

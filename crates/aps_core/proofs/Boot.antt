@@ -15,8 +15,8 @@ use Rattle.aps_model.specs.Scenario.{Scenario}
 use Rattle.aps_model.specs.SchedulerState.{ChannelNow, SchedulerState, Triple, idle, no_channel}
 use Rattle.aps_model.specs.Valid.{IsScenario}
 use Rattle.aps_model.proofs.AfterLaws.{after_none, legal_none}
-use Rattle.aps_laws.specs.Stamps.{IsStamped}
-use Rattle.aps_laws.proofs.ThreadLaws.{stamps_law}
+use Rattle.laws_runs.specs.Stamps.{IsStamped}
+use Rattle.laws_runs.proofs.ThreadLaws.{stamps_law}
 use Rattle.aps_core.specs.Room.{changes_of_a_run}
 use Rattle.aps_tasks.specs.Start.{start_table}
 use Rattle.aps_tasks.specs.Table.{Table}

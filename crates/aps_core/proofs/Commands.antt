@@ -26,7 +26,7 @@ use Rattle.aps_model.specs.SchedulerState.{SchedulerState, no_thread, thread_at}
 use Rattle.aps_model.specs.Shape.{IsShape}
 use Rattle.aps_model.specs.TickWork.{changes_with, commands_of, do_command, thread_named, view_of, with_mark}
 use Rattle.aps_model.specs.Valid.{IsCall, IsCommand, IsScenario, IsWindow}
-use Rattle.aps_laws.proofs.Performed.{performed_by}
+use Rattle.laws_runs.proofs.Performed.{performed_by}
 use Rattle.aps_ctl.specs.Pending.{all_at, given, next_at, without_next}
 use Rattle.aps_ctl.proofs.InTurn.{next_first, next_left, none_next}
 use Rattle.aps_core.specs.Calls.{AreInRange, IsInRange, all_done, command_at}

@@ -8,9 +8,9 @@ use Rattle.aps_model.specs.declared.state.State.TheVariants.{Running, Receiving,
 use Rattle.aps_model.specs.Inherit.{Inheritance, IsFree, client_of, facts_of, inheritance_of, top_of, without_server}
 use Rattle.aps_model.specs.Messages.{first_message, without_sender}
 use Rattle.aps_model.specs.SchedulerState.{ChannelNow, Message, SchedulerState, Triple, channel_at, no_channel}
-use Rattle.aps_laws.specs.Waits.{IsWaiting, is_receiving, is_replying, is_sending, one_if, state_at, times_paired}
-use Rattle.aps_laws.proofs.WaitFacts.{first_receives, first_sends, test_eq, test_ne}
-use Rattle.aps_laws.proofs.WaitMoves.{free_from}
+use Rattle.laws_runs.specs.Waits.{IsWaiting, is_receiving, is_replying, is_sending, one_if, state_at, times_paired}
+use Rattle.laws_runs.proofs.WaitFacts.{first_receives, first_sends, test_eq, test_ne}
+use Rattle.laws_runs.proofs.WaitMoves.{free_from}
 use Rattle.aps_channel.specs.Channels as calls
 use Rattle.aps_channel.specs.Channels.{Channels, IsIdle, received, received_from, replied, sent, with_channel, with_triple}
 use Rattle.aps_channel.specs.declared.outcome.Received.TheVariants as took

@@ -24,7 +24,7 @@ use Rattle.aps_model.specs.Scenario.{Scenario}
 use Rattle.aps_model.specs.SchedulerState.{SchedulerState, row_at}
 use Rattle.aps_model.specs.Shape.{IsShape}
 use Rattle.aps_model.specs.Usage.{billed_by, names, overlap, used, window_critical, window_used}
-use Rattle.aps_laws.specs.Moments.{moment}
+use Rattle.laws_runs.specs.Moments.{moment}
 use Rattle.aps_window.specs.Bills.{Bill, bills_critical, bills_used}
 use Rattle.aps_window.specs.Entries.{AreInOneTick, IsInOneTick, bill_to, bills_of, with_billed, with_entry}
 use Rattle.aps_window.specs.declared.slot.Slot.{Slot}

@@ -7,12 +7,12 @@ use Rattle.aps_model.specs.History.{History}
 use Rattle.aps_model.specs.Limits.{most_cpus}
 use Rattle.aps_model.specs.SchedulerState.{SchedulerState}
 use Rattle.aps_model.specs.Step.{Step, step}
-use Rattle.aps_laws.specs.Sound.{IsSound}
-use Rattle.aps_laws.specs.Untouched.{IsStepOf}
-use Rattle.aps_laws.proofs.Channels.{names_channels}
-use Rattle.aps_laws.proofs.Counts.{counts_law}
-use Rattle.aps_laws.proofs.MomentLaws.{first_is_due, flag_due}
-use Rattle.aps_laws.proofs.Sound.{sound, sound_step_of}
+use Rattle.laws_runs.specs.Sound.{IsSound}
+use Rattle.laws_runs.specs.Untouched.{IsStepOf}
+use Rattle.laws_runs.proofs.Channels.{names_channels}
+use Rattle.laws_runs.proofs.Counts.{counts_law}
+use Rattle.laws_runs.proofs.MomentLaws.{first_is_due, flag_due}
+use Rattle.laws_runs.proofs.Sound.{sound, sound_step_of}
 use Rattle.aps_core.specs.Core.{IsCore}
 use Rattle.aps_core.specs.NextDues.{AreDues, dues_after}
 use Rattle.aps_core.specs.Run.{Run, end_of_run, state_of}

@@ -21,9 +21,9 @@ use Rattle.aps_model.specs.Scenario.{Scenario, op_at, thread_row}
 use Rattle.aps_model.specs.SchedulerState.{Message, SchedulerState, channel_at, thread_at, with_channel, with_cpu, with_state, with_thread}
 use Rattle.aps_model.specs.Step.{billed, enter_next, finish_op, give_back, settled, tested}
 use Rattle.aps_model.specs.TickWork.{wake_all, waking}
-use Rattle.aps_laws.specs.Servers.{IsNobodysClient}
-use Rattle.aps_laws.proofs.Mid.{tested_by}
-use Rattle.aps_laws.proofs.ThreadFacts.{go_on_by}
+use Rattle.laws_runs.specs.Servers.{IsNobodysClient}
+use Rattle.laws_runs.proofs.Mid.{tested_by}
+use Rattle.laws_runs.proofs.ThreadFacts.{go_on_by}
 use Rattle.aps_core.specs.Touched.{is_alone}
 use Rattle.aps_core.proofs.Seats.{facts_stay}
 use Rattle.aps_core.proofs.SeatsStay.{follow_own, tops_stay}

@@ -8,8 +8,8 @@ use Rattle.aps_model.specs.Due.{first_due}
 use Rattle.aps_model.specs.Legal.{fixed_run, fixed_steps}
 use Rattle.aps_model.specs.Step.{step}
 use Rattle.aps_model.proofs.AfterLaws.{after_none}
-use Rattle.aps_laws.specs.Runs.{finished}
-use Rattle.aps_laws.proofs.FixedRun.{finish_steps, finish_stops}
+use Rattle.laws_runs.specs.Runs.{finished}
+use Rattle.laws_runs.proofs.FixedRun.{finish_steps, finish_stops}
 use Rattle.aps_core.specs.Core.{IsUnderWay}
 use Rattle.aps_core.specs.Run.{IsLater, Run, end_of_run, finished_run, state_of}
 use Rattle.aps_core.specs.Turn.{with_entry}

@@ -26,7 +26,7 @@ use Rattle.aps_model.specs.SchedulerState.{SchedulerState, cpu_at}
 use Rattle.aps_model.specs.Step.{chosen}
 use Rattle.aps_model.proofs.Ranges.{fold_more}
 use Rattle.aps_model.proofs.GreatestLaws.{IsUnbeaten, beats, greatest-is, greatest-unbeaten}
-use Rattle.aps_laws.proofs.PickSays.{chosen_shape}
+use Rattle.laws_runs.proofs.PickSays.{chosen_shape}
 use Rattle.aps_ready.specs.Ready.{members, without}
 use Rattle.aps_ready.specs.declared.ahead.Ahead.{Ahead}
 use Rattle.aps_ready.specs.Ahead.{IsAhead, IsAheadOf}

@@ -20,14 +20,14 @@ use Rattle.aps_model.specs.Shape.{horizon}
 use Rattle.aps_model.specs.Step.{Step, step}
 use Rattle.aps_model.specs.Valid.{IsScenario}
 use Rattle.aps_model.proofs.AfterLaws.{IsLegal-append, after-append, after_none, legal_none}
-use Rattle.aps_laws.proofs.ChangeLaws.{only_grow, room}
-use Rattle.aps_laws.proofs.Counts.{counts_law}
-use Rattle.aps_laws.proofs.EnoughThreads.{enough_law}
-use Rattle.aps_laws.proofs.ReplyLaws.{few_answered}
-use Rattle.aps_laws.proofs.RowLaws.{in_order, in_range, rows_stay}
-use Rattle.aps_laws.proofs.Turns.{any_turn, one_turn}
-use Rattle.aps_laws.proofs.WaitFacts.{test_eq, test_ne}
-use Rattle.aps_laws.specs.Runs.{EndsNoSooner}
+use Rattle.laws_runs.proofs.ChangeLaws.{only_grow, room}
+use Rattle.laws_runs.proofs.Counts.{counts_law}
+use Rattle.laws_runs.proofs.EnoughThreads.{enough_law}
+use Rattle.laws_runs.proofs.ReplyLaws.{few_answered}
+use Rattle.laws_runs.proofs.RowLaws.{in_order, in_range, rows_stay}
+use Rattle.laws_runs.proofs.Turns.{any_turn, one_turn}
+use Rattle.laws_runs.proofs.WaitFacts.{test_eq, test_ne}
+use Rattle.laws_runs.specs.Runs.{EndsNoSooner}
 use Rattle.aps_core.specs.Core.{IsCore, IsSetup, IsUnderWay}
 use Rattle.aps_core.specs.CanRecord.{CanRecord, HasTold}
 use Rattle.aps_core.specs.Kept.{IsKept}
@@ -37,7 +37,7 @@ use Rattle.aps_core.specs.Turn.{HasTurnIn, IsFed, with_entry}
 use Rattle.aps_core.specs.Ready.{IsReady}
 use Rattle.aps_core.proofs.Ready.{ready}
 use Rattle.aps_core.proofs.Turns.{IsDueNow, due_now}
-use Rattle.aps_laws.proofs.FixedRun.{nothing_before}
+use Rattle.laws_runs.proofs.FixedRun.{nothing_before}
 
 -- ---- the end
 

@@ -8,7 +8,7 @@ use Rattle.aps_model.specs.declared.entry.Entry.{Entry}
 use Rattle.aps_model.specs.Due.{last_to}
 use Rattle.aps_model.specs.History.{IsEntry}
 use Rattle.aps_model.specs.Limits.{last_moment, most_cpus}
-use Rattle.aps_laws.proofs.MomentLaws.{last_other, last_own}
+use Rattle.laws_runs.proofs.MomentLaws.{last_other, last_own}
 use Rattle.aps_core.specs.LastEnds.{AreEnds}
 
 pub ends_more : (row : List (Option ℕ)) (h : List Entry) (e : Entry) (place : ℕ) → length row ≡ most_cpus → place ≡ e.cpu → place < most_cpus → AreEnds h row

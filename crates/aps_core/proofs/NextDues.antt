@@ -19,14 +19,14 @@ use Rattle.aps_model.specs.Scenario.{Scenario}
 use Rattle.aps_model.specs.SchedulerState.{SchedulerState, cpu_at, no_thread, thread_at}
 use Rattle.aps_model.specs.Shape.{horizon}
 use Rattle.aps_model.specs.Step.{Step, chosen, pick, settled, step}
-use Rattle.aps_laws.specs.Bears.{NamesChannels}
-use Rattle.aps_laws.specs.Sizes.{IsSameSizes}
-use Rattle.aps_laws.specs.Untouched.{IsKept, IsStepOf}
-use Rattle.aps_laws.specs.Waits.{IsPlain}
-use Rattle.aps_laws.proofs.Mid.{back_mid, test_mid}
-use Rattle.aps_laws.proofs.MomentLaws.{last_other}
-use Rattle.aps_laws.proofs.Picked.{cpu_other, cpu_same, flag_other}
-use Rattle.aps_laws.proofs.StepOf.{bill_at, due_like, due_same, left_kept, mid_count, mid_cpu, step_by, tested_at}
+use Rattle.laws_runs.specs.Bears.{NamesChannels}
+use Rattle.laws_runs.specs.Sizes.{IsSameSizes}
+use Rattle.laws_runs.specs.Untouched.{IsKept, IsStepOf}
+use Rattle.laws_runs.specs.Waits.{IsPlain}
+use Rattle.laws_runs.proofs.Mid.{back_mid, test_mid}
+use Rattle.laws_runs.proofs.MomentLaws.{last_other}
+use Rattle.laws_runs.proofs.Picked.{cpu_other, cpu_same, flag_other}
+use Rattle.laws_runs.proofs.StepOf.{bill_at, due_like, due_same, left_kept, mid_count, mid_cpu, step_by, tested_at}
 use Rattle.aps_core.specs.NextDues.{AreDues, AreOthersDues, dues_after, dues_flagged}
 
 -- ---- where a processor has chosen, the others are due as before

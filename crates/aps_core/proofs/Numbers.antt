@@ -16,7 +16,7 @@ use Rattle.aps_model.specs.Scenario.{Scenario, op_at}
 use Rattle.aps_model.specs.SchedulerState.{Message, SchedulerState, channel_at, no_thread, thread_at, with_state, with_thread}
 use Rattle.aps_model.specs.Step.{finish_op}
 use Rattle.aps_core.specs.Room.{HasRoomToWake}
-use Rattle.aps_laws.proofs.StampCounts.{entered_stamps}
+use Rattle.laws_runs.proofs.StampCounts.{entered_stamps}
 
 -- the places of these threads are at most so far
 abbrev Places : ℕ → List ThreadNow → Type 0

@@ -12,8 +12,8 @@ use Rattle.aps_model.specs.Shape.{horizon}
 use Rattle.aps_model.specs.TickWork.{do_command, do_commands, has_tick_work}
 use Rattle.aps_model.specs.Valid.{IsScenario}
 use Rattle.aps_ctl.specs.Pending.{all_at}
-use Rattle.aps_laws.specs.Boundaries.{is_met}
-use Rattle.aps_laws.proofs.WaitFacts.{test_eq}
+use Rattle.laws_runs.specs.Boundaries.{is_met}
+use Rattle.laws_runs.proofs.WaitFacts.{test_eq}
 use Rattle.aps_core.specs.Calls.{AreInRange, all_done}
 use Rattle.aps_core.specs.Pending.{IsPending}
 use Rattle.aps_core.proofs.Commands.{in_range}

@@ -14,7 +14,7 @@ use Rattle.aps_model.specs.Inherit.{facts_of}
 use Rattle.aps_model.specs.Pick.{contender_of, contenders, greatest}
 use Rattle.aps_model.specs.SchedulerState.{SchedulerState, cpu_at, thread_at}
 use Rattle.aps_model.specs.Step.{chosen}
-use Rattle.aps_laws.proofs.Picked.{cpu_same, flag_running, greatest_ready}
+use Rattle.laws_runs.proofs.Picked.{cpu_same, flag_running, greatest_ready}
 use Rattle.aps_ready.specs.Ready.{members}
 use Rattle.aps_core.specs.Seats.{seats_of}
 use Rattle.aps_core.specs.declared.posts.Post.{Post}

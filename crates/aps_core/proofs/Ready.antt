@@ -21,23 +21,23 @@ use Rattle.aps_model.specs.Usage.{used}
 use Rattle.aps_model.specs.SchedulerState.{SchedulerState, cpu_at, no_thread, row_at, thread_at}
 use Rattle.aps_model.specs.Valid.{IsScenario}
 use Rattle.aps_model.proofs.AfterLaws.{after-append}
-use Rattle.aps_laws.specs.Between.{IsWellFormed, after_bill, after_tick, before_pick, bill_in}
-use Rattle.aps_laws.specs.ThreadFits.{Each, IsThreadFit}
-use Rattle.aps_laws.specs.Waits.{state_at}
-use Rattle.aps_laws.proofs.BetweenLaw.{between}
-use Rattle.aps_laws.proofs.ChangeLaws.{few_changes}
-use Rattle.aps_laws.proofs.Counts.{counts_law}
-use Rattle.aps_laws.proofs.Mid.{tested_by}
-use Rattle.aps_laws.proofs.Programs.{row_fits}
-use Rattle.aps_laws.proofs.ReplyLaws.{few_answered}
-use Rattle.aps_laws.proofs.Servers.{runs_free}
-use Rattle.aps_laws.proofs.SmallNumbers.{usage_in_hand}
-use Rattle.aps_laws.proofs.Sound.{next_law, sound}
-use Rattle.aps_laws.proofs.Channels.{names_channels}
+use Rattle.laws_runs.specs.Between.{IsWellFormed, after_bill, after_tick, before_pick, bill_in}
+use Rattle.laws_runs.specs.ThreadFits.{Each, IsThreadFit}
+use Rattle.laws_runs.specs.Waits.{state_at}
+use Rattle.laws_runs.proofs.BetweenLaw.{between}
+use Rattle.laws_runs.proofs.ChangeLaws.{few_changes}
+use Rattle.laws_runs.proofs.Counts.{counts_law}
+use Rattle.laws_runs.proofs.Mid.{tested_by}
+use Rattle.laws_runs.proofs.Programs.{row_fits}
+use Rattle.laws_runs.proofs.ReplyLaws.{few_answered}
+use Rattle.laws_runs.proofs.Servers.{runs_free}
+use Rattle.laws_runs.proofs.SmallNumbers.{usage_in_hand}
+use Rattle.laws_runs.proofs.Sound.{next_law, sound}
+use Rattle.laws_runs.proofs.Channels.{names_channels}
 use Rattle.aps_core.proofs.NextDues.{cpu_before, due_before}
-use Rattle.aps_laws.proofs.StampCounts.{few_stamps}
-use Rattle.aps_laws.proofs.StepOf.{horizon_same}
-use Rattle.aps_laws.proofs.ThreadFit.{fits_law}
+use Rattle.laws_runs.proofs.StampCounts.{few_stamps}
+use Rattle.laws_runs.proofs.StepOf.{horizon_same}
+use Rattle.laws_runs.proofs.ThreadFit.{fits_law}
 use Rattle.aps_core.specs.Kept.{IsKept}
 use Rattle.aps_core.specs.Ready.{IsReady}
 use Rattle.aps_core.specs.Room.{CanFinish, changes_of_a_run, last_place, stamps_within}

@@ -3,10 +3,10 @@ use Rattle.std.proofs.Common.{◌<◌, All}
 use Rattle.aps_model.specs.declared.entry.Entry.{Entry}
 use Rattle.aps_model.specs.Bound.{KeepsWindowBound, KeepsCriticalBound}
 use Rattle.aps_model.specs.Tiled.{IsTiled, IsBilledAsInherited}
-use Rattle.aps_laws.specs.Choices.{EachPickIsGreatest}
-use Rattle.aps_laws.proofs.ChoiceLaws.{picks_law}
-use Rattle.aps_laws.proofs.Words.{billed_as_inherited, tiled}
-use Rattle.aps_bound_laws.proofs.BoundLaws.{window_bound, critical_bound}
+use Rattle.laws_runs.specs.Choices.{EachPickIsGreatest}
+use Rattle.laws_runs.proofs.ChoiceLaws.{picks_law}
+use Rattle.laws_runs.proofs.Words.{billed_as_inherited, tiled}
+use Rattle.laws_bounds.proofs.BoundLaws.{window_bound, critical_bound}
 use Rattle.aps_core.specs.Core.{IsUnderWay}
 use Rattle.aps_core.specs.Run.{Run}
 use Rattle.aps_core.proofs.Turns.{cpus_exist}

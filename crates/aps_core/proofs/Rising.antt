@@ -10,11 +10,11 @@ use Rattle.aps_model.specs.declared.entry.Order.{Order}
 use Rattle.aps_model.specs.Legal.{IsLegal}
 use Rattle.aps_model.specs.Scenario.{Scenario}
 use Rattle.aps_model.specs.Valid.{IsScenario}
-use Rattle.aps_laws.specs.Moments.{moment}
-use Rattle.aps_laws.proofs.BoundaryLaws.{latest}
-use Rattle.aps_laws.proofs.Sound.{next_law}
-use Rattle.aps_laws.proofs.WaitFacts.{test_ne}
-use Rattle.aps_laws.proofs.Words.{prefix_legal, up_to}
+use Rattle.laws_runs.specs.Moments.{moment}
+use Rattle.laws_runs.proofs.BoundaryLaws.{latest}
+use Rattle.laws_runs.proofs.Sound.{next_law}
+use Rattle.laws_runs.proofs.WaitFacts.{test_ne}
+use Rattle.laws_runs.proofs.Words.{prefix_legal, up_to}
 use Rattle.aps_core.specs.Rising.{IsRising}
 
 -- each of these has ended by a moment

@@ -14,8 +14,8 @@ use Rattle.aps_model.specs.Inherit.{facts_of, inherited, inheritance_of}
 use Rattle.aps_model.specs.Pick.{contender_of, contenders, is_ready}
 use Rattle.aps_model.specs.SchedulerState.{SchedulerState, no_facts, no_thread, thread_at, with_thread}
 use Rattle.aps_model.specs.Step.{chosen}
-use Rattle.aps_laws.proofs.Chains.{own_at}
-use Rattle.aps_laws.proofs.ThreadFacts.{set_same, set_other}
+use Rattle.laws_runs.proofs.Chains.{own_at}
+use Rattle.laws_runs.proofs.ThreadFacts.{set_same, set_other}
 use Rattle.aps_ready.specs.Ready.{members, without}
 use Rattle.aps_core.specs.Seats.{seat_at, seats_of, who_at}
 

@@ -26,12 +26,12 @@ use Rattle.aps_model.specs.Scenario.{Scenario, op_at, thread_row}
 use Rattle.aps_model.specs.SchedulerState.{ChannelNow, Message, SchedulerState, Triple, channel_at, cpu_at, no_channel, no_facts, thread_at, with_channel, with_cpu, with_state, with_thread, with_triple}
 use Rattle.aps_model.specs.Step.{billed, enter_next, finish_op, give_back, settled, tested}
 use Rattle.aps_model.specs.TickWork.{wake_all, waking}
-use Rattle.aps_laws.specs.Servers.{IsNobodysClient}
-use Rattle.aps_laws.proofs.Chains.{own_at}
-use Rattle.aps_laws.proofs.Mid.{tested_by}
-use Rattle.aps_laws.proofs.Servers.{changes_only}
-use Rattle.aps_laws.proofs.ThreadFacts.{go_on_by, set_other}
-use Rattle.aps_laws.proofs.WaitFacts.{test_eq, test_ne}
+use Rattle.laws_runs.specs.Servers.{IsNobodysClient}
+use Rattle.laws_runs.proofs.Chains.{own_at}
+use Rattle.laws_runs.proofs.Mid.{tested_by}
+use Rattle.laws_runs.proofs.Servers.{changes_only}
+use Rattle.laws_runs.proofs.ThreadFacts.{go_on_by, set_other}
+use Rattle.laws_runs.proofs.WaitFacts.{test_eq, test_ne}
 use Rattle.aps_core.specs.Seats.{seat_at}
 use Rattle.aps_core.specs.Sleepers.{numbers_of}
 use Rattle.aps_core.specs.Touched.{IsTouched, is_at_channel, is_exit, peer_of, woke}

@@ -26,11 +26,11 @@ use Rattle.aps_model.specs.SchedulerState.{Message, SchedulerState, channel_at, 
 use Rattle.aps_model.specs.Step.{billed, chosen, enter_next, finish_op, give_back, pick, settled, tested}
 use Rattle.aps_model.specs.TickWork.{do_command}
 use Rattle.aps_ctl.specs.Pending.{all_at}
-use Rattle.aps_laws.proofs.Commands.{command_by}
-use Rattle.aps_laws.proofs.Mid.{tested_by}
-use Rattle.aps_laws.proofs.Picked.{greatest_ready}
-use Rattle.aps_laws.proofs.ThreadFacts.{set_other}
-use Rattle.aps_laws.proofs.Walk.{command_each, go_on_other}
+use Rattle.laws_runs.proofs.Commands.{command_by}
+use Rattle.laws_runs.proofs.Mid.{tested_by}
+use Rattle.laws_runs.proofs.Picked.{greatest_ready}
+use Rattle.laws_runs.proofs.ThreadFacts.{set_other}
+use Rattle.laws_runs.proofs.Walk.{command_each, go_on_other}
 use Rattle.aps_timer.specs.Waking.{sleeps_until}
 use Rattle.aps_core.specs.Calls.{all_done}
 use Rattle.aps_core.specs.Sleepers.{IsTimed, sleepers_of}

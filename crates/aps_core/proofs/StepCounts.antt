@@ -17,8 +17,8 @@ use Rattle.aps_model.specs.Shape.{IsShape}
 use Rattle.aps_model.specs.Step.{Step, billed, pick, settled, tested}
 use Rattle.aps_model.specs.TickWork.{tick_work}
 use Rattle.aps_model.specs.Usage.{used}
-use Rattle.aps_laws.specs.Between.{bill_in}
-use Rattle.aps_laws.specs.Moments.{moment}
+use Rattle.laws_runs.specs.Between.{bill_in}
+use Rattle.laws_runs.specs.Moments.{moment}
 use Rattle.aps_window.specs.Entries.{IsInOneTick}
 use Rattle.aps_window.specs.Window.{Window, advanced}
 use Rattle.aps_core.specs.Counts.{CanBill, Counts}

@@ -13,8 +13,8 @@ use Rattle.aps_model.specs.SchedulerState.{SchedulerState, cpu_at, with_cpu}
 use Rattle.aps_model.specs.Shape.{horizon}
 use Rattle.aps_model.specs.Step.{Step, begun, billed, pick, settled, step, tested, unless_rebooted}
 use Rattle.aps_model.specs.TickWork.{tick_work}
-use Rattle.aps_laws.proofs.WaitFacts.{test_eq, test_ne}
-use Rattle.aps_laws.specs.Between.{after_bill, after_tick, before_pick, bill_in}
+use Rattle.laws_runs.proofs.WaitFacts.{test_eq, test_ne}
+use Rattle.laws_runs.specs.Between.{after_bill, after_tick, before_pick, bill_in}
 use Rattle.aps_core.specs.Room.{CanFinish}
 
 -- what the parts of a step before the operation leave, with the test of bankruptcy

@@ -5,7 +5,7 @@ use Rattle.std.proofs.lemmas.Bool.{cases_lt}
 use Rattle.std.proofs.lemmas.List.{append-nil, drop_all, length-append, length-take-le, take_more}
 use Rattle.aps_model.specs.declared.partition.PartitionRow.{PartitionRow}
 use Rattle.aps_model.specs.Partition.{rows_with}
-use Rattle.aps_laws.proofs.WaitFacts.{test_eq, test_ne}
+use Rattle.laws_runs.proofs.WaitFacts.{test_eq, test_ne}
 
 -- the next row of these in place of the old one, or after the last
 pub rows_more : (old rows : List PartitionRow) (p : ℕ) (d : PartitionRow) → p < length rows → rows_with (take p rows ++ drop p old) p (get_or rows p d) ≡ take (p + 1) rows ++ drop (p + 1) old

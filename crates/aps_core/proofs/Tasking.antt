@@ -17,7 +17,7 @@ use Rattle.aps_model.specs.Operation.{enter, go_on, is_slice_over, place_after, 
 use Rattle.aps_model.specs.Scenario.{Scenario, op_at, thread_row}
 use Rattle.aps_model.specs.SchedulerState.{SchedulerState, no_thread, thread_at, with_own as put_own, with_state, with_thread}
 use Rattle.aps_model.specs.Step.{enter_next, give_back}
-use Rattle.aps_laws.proofs.ThreadFacts.{set_same}
+use Rattle.laws_runs.proofs.ThreadFacts.{set_same}
 use Rattle.aps_inherit.specs.Own.{own_of, with_own}
 use Rattle.aps_tasks.specs.declared.task.Task.{Task}
 use Rattle.aps_tasks.specs.Table.{Table, entering, put_back, put_entered, put_given, put_on, put_ready, put_spent, put_stamped, put_state, put_task, task_in}

@@ -8,7 +8,7 @@ use Rattle.aps_model.specs.declared.entry.Entry.{Entry}
 use Rattle.aps_model.specs.Shape.{horizon}
 use Rattle.aps_model.specs.SchedulerState.{SchedulerState}
 use Rattle.aps_model.specs.TickWork.{has_tick_work}
-use Rattle.aps_laws.specs.Moments.{moment}
+use Rattle.laws_runs.specs.Moments.{moment}
 
 either : (a : Bool) → (a || true) ≡ true
 either true = refl

@@ -13,12 +13,12 @@ use Rattle.aps_model.specs.SchedulerState.{SchedulerState}
 use Rattle.aps_model.specs.Shape.{horizon}
 use Rattle.aps_model.specs.Step.{step}
 use Rattle.aps_model.specs.Valid.{IsScenario}
-use Rattle.aps_laws.specs.Runs.{GoesOn}
-use Rattle.aps_laws.proofs.BoundaryLaws.{entries_fit}
-use Rattle.aps_laws.proofs.Counts.{counts_law}
-use Rattle.aps_laws.proofs.Prefixes.{legal_more}
-use Rattle.aps_laws.proofs.SmallNumbers.{moments_small}
-use Rattle.aps_laws.proofs.Sound.{next_law, sound, sound_step_of}
+use Rattle.laws_runs.specs.Runs.{GoesOn}
+use Rattle.laws_runs.proofs.BoundaryLaws.{entries_fit}
+use Rattle.laws_runs.proofs.Counts.{counts_law}
+use Rattle.laws_runs.proofs.Prefixes.{legal_more}
+use Rattle.laws_runs.proofs.SmallNumbers.{moments_small}
+use Rattle.laws_runs.proofs.Sound.{next_law, sound, sound_step_of}
 
 -- ---- what is small in each legal history
 

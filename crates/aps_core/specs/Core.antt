@@ -4,7 +4,7 @@ use Rattle.aps_model.specs.Legal.{IsLegal}
 use Rattle.aps_model.specs.Limits.{most_entries}
 use Rattle.aps_model.specs.SchedulerState.{SchedulerState}
 use Rattle.aps_model.specs.Valid.{IsScenario}
-use Rattle.aps_laws.specs.Runs.{EndsNoSooner}
+use Rattle.laws_runs.specs.Runs.{EndsNoSooner}
 use Rattle.aps_core.specs.declared.scheduler.Scheduler.{Scheduler}
 use Rattle.aps_core.specs.Run.{Run, Setup, history_of, state_of}
 use Rattle.aps_core.specs.Scheduler.{IsSchedulerAfter}

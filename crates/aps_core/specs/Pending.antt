@@ -5,7 +5,7 @@ use Rattle.aps_model.specs.declared.entry.Entry.{Entry}
 use Rattle.aps_model.specs.Scenario.{Scenario}
 use Rattle.aps_model.specs.TickWork.{commands_of}
 use Rattle.aps_ctl.specs.Pending.{all_at}
-use Rattle.aps_laws.specs.Boundaries.{is_met}
+use Rattle.laws_runs.specs.Boundaries.{is_met}
 
 -- of each tick whose boundary no entry has met, all commands are still to come, in order of the scenario
 abbrev pub IsPending : Scenario → ℕ → List Entry → List (ℕ × CommandRow) → Type 0

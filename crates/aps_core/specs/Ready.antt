@@ -8,10 +8,10 @@ use Rattle.aps_model.specs.Scenario.{Scenario}
 use Rattle.aps_model.specs.SchedulerState.{SchedulerState, cpu_at, thread_at}
 use Rattle.aps_model.specs.Shape.{horizon}
 use Rattle.aps_model.specs.Usage.{used}
-use Rattle.aps_laws.specs.Between.{after_bill, after_tick, before_pick, bill_in}
-use Rattle.aps_laws.specs.Moments.{moment}
-use Rattle.aps_laws.specs.Servers.{IsNobodysClient}
-use Rattle.aps_laws.specs.Stamps.{IsStamped}
+use Rattle.laws_runs.specs.Between.{after_bill, after_tick, before_pick, bill_in}
+use Rattle.laws_runs.specs.Moments.{moment}
+use Rattle.laws_runs.specs.Servers.{IsNobodysClient}
+use Rattle.laws_runs.specs.Stamps.{IsStamped}
 use Rattle.aps_core.specs.Room.{CanFinish, HasRoomToWake, changes_of_a_run, last_place, stamps_before}
 
 -- what a step of processor c rests on: the processor exists, its moments fit, so does what its parts make greater,

@@ -1,5 +1,5 @@
 use Rattle.std.specs.Prelude.{◌≡◌, ℕ, ◌<◌, ◌≤◌, length}
-use Rattle.aps_laws.specs.Waits.{IsWaiting, state_at}
+use Rattle.laws_runs.specs.Waits.{IsWaiting, state_at}
 use Rattle.aps_model.specs.declared.program.Op.{Op}
 use Rattle.aps_model.specs.declared.program.Op.TheVariants.{Receive, Send}
 use Rattle.aps_model.specs.declared.state.State.TheVariants.{Running}

@@ -9,7 +9,7 @@ use Rattle.aps_model.specs.History.{History, Rooms}
 use Rattle.aps_model.specs.Recorded.{recorded}
 use Rattle.aps_model.specs.Scenario.{Scenario}
 use Rattle.aps_model.specs.SchedulerState.{SchedulerState}
-use Rattle.aps_laws.specs.Runs.{finished}
+use Rattle.laws_runs.specs.Runs.{finished}
 
 -- what a run was set up with
 pub record Setup : Type 0 where

@@ -5,7 +5,7 @@ use Rattle.aps_model.specs.Limits.{last_moment, most_commands, most_ticks}
 use Rattle.aps_model.specs.Scenario.{Scenario}
 use Rattle.aps_model.specs.TickWork.{tick_work}
 use Rattle.aps_model.specs.Valid.{IsScenario}
-use Rattle.aps_laws.specs.Moments.{moment}
+use Rattle.laws_runs.specs.Moments.{moment}
 use Rattle.aps_core.specs.declared.scheduler.Scheduler.{Scheduler}
 use Rattle.aps_core.specs.Counts.{Counts, parts_in}
 use Rattle.aps_core.specs.LastEnds.{AreEnds}

@@ -3,7 +3,7 @@ use Rattle.aps_model.specs.declared.entry.Entry.{Entry}
 use Rattle.aps_model.specs.declared.entry.Order.TheVariants.{Fixed}
 use Rattle.aps_model.specs.Due.{HasTurn, due}
 use Rattle.aps_model.specs.Step.{step}
-use Rattle.aps_laws.specs.Starving.{HasEnough}
+use Rattle.laws_runs.specs.Starving.{HasEnough}
 use Rattle.aps_core.specs.declared.turn.Turn.{Turn}
 use Rattle.aps_core.specs.declared.turn.Turn.TheVariants.{Ended, NotYet, Took}
 use Rattle.aps_core.specs.Run.{Run, end_of_run, state_of}

@@ -1,7 +1,7 @@
 //! A run with one thread for each processor.
 ghost use Rattle.std.specs.Prelude.{◌≡◌, ℕ, ◌+◌, ◌-◌, ◌<◌, ◌≤◌, All, [], length, slice_index_or, vec_capacity, IfSome, IsSome};
 ghost use Rattle.aps_model.specs.Legal.{IsLegal};
-ghost use Rattle.aps_laws.specs.Runs.{EndsNoSooner};
+ghost use Rattle.laws_runs.specs.Runs.{EndsNoSooner};
 ghost use Rattle.aps_core.specs.Run.{IsLater, end_of_run};
 ghost use Rattle.aps_lock.specs.Seats.{HasAllCpus, IsSeatOf};
 ghost use Rattle.aps_cpu.specs.Driven.{IsOnFrom};

@@ -25,18 +25,18 @@ use Rattle.aps_model.specs.Scenario.{Scenario}
 use Rattle.aps_model.specs.Shape.{whole}
 use Rattle.aps_model.specs.Usage.{billed_by, critical_by, critical_used, names, overlap, used, window_used}
 use Rattle.aps_model.specs.Valid.{IsScenario}
-use Rattle.aps_laws.specs.Numbers.{time_within}
-use Rattle.aps_laws.proofs.SmallNumbers.{sum_bounded, sum_less, sum_same}
-use Rattle.aps_laws.proofs.WaitFacts.{test_eq}
-use Rattle.aps_bound_laws.specs.Lanes.{in_window}
-use Rattle.aps_bound_laws.specs.Sums.{sum_below}
-use Rattle.aps_bound_laws.proofs.Budget as budgets
-use Rattle.aps_bound_laws.proofs.Funded.{budgets_sum}
-use Rattle.aps_bound_laws.proofs.Inside.{before_later, used_inside, used_tested}
-use Rattle.aps_bound_laws.proofs.Prefixes.{AllBefore}
-use Rattle.aps_bound_laws.proofs.Steady.{ordinary_funded, steady_best}
-use Rattle.aps_bound_laws.proofs.Sums.{single_one, sum_below_add, sum_below_zero}
-use Rattle.aps_bound_laws.proofs.Wides.{ordinary_below, ordinary_by}
+use Rattle.laws_runs.specs.Numbers.{time_within}
+use Rattle.laws_runs.proofs.SmallNumbers.{sum_bounded, sum_less, sum_same}
+use Rattle.laws_runs.proofs.WaitFacts.{test_eq}
+use Rattle.laws_bounds.specs.Lanes.{in_window}
+use Rattle.laws_bounds.specs.Sums.{sum_below}
+use Rattle.laws_bounds.proofs.Budget as budgets
+use Rattle.laws_bounds.proofs.Funded.{budgets_sum}
+use Rattle.laws_bounds.proofs.Inside.{before_later, used_inside, used_tested}
+use Rattle.laws_bounds.proofs.Prefixes.{AllBefore}
+use Rattle.laws_bounds.proofs.Steady.{ordinary_funded, steady_best}
+use Rattle.laws_bounds.proofs.Sums.{single_one, sum_below_add, sum_below_zero}
+use Rattle.laws_bounds.proofs.Wides.{ordinary_below, ordinary_by}
 use Rattle.aps_live.specs.declared.event.LiveEvent.{LiveEvent}
 use Rattle.aps_live.specs.LiveBound.{IsCalmIn, KeepsLiveBound, gap, gaps}
 use Rattle.aps_live.specs.LiveHistory.{AreLiveFrom, IsLive, IsLiveStep, Taken, entries_of, latest}

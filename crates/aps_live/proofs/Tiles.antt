@@ -8,9 +8,9 @@ use Rattle.aps_model.specs.declared.entry.Entry.{Entry}
 use Rattle.aps_model.specs.Due.{last_end, last_to}
 use Rattle.aps_model.specs.Limits.{longest_tick, most_cpus, most_time_of_tick}
 use Rattle.aps_model.specs.Usage.{billed_by, names, overlap, used}
-use Rattle.aps_laws.specs.Numbers.{time_within}
-use Rattle.aps_laws.proofs.MomentLaws.{last_other, last_own}
-use Rattle.aps_laws.proofs.SmallNumbers.{sum_bounded, sum_changed, sum_less}
+use Rattle.laws_runs.specs.Numbers.{time_within}
+use Rattle.laws_runs.proofs.MomentLaws.{last_other, last_own}
+use Rattle.laws_runs.proofs.SmallNumbers.{sum_bounded, sum_changed, sum_less}
 use Rattle.aps_live.specs.LiveHistory.{latest}
 use Rattle.aps_live.specs.Tied.{FitsTicks}
 

@@ -9,8 +9,8 @@ use Rattle.aps_model.specs.Loaded.{finished_ticks, loaded_tick}
 use Rattle.aps_model.specs.Recorded.{recorded}
 use Rattle.aps_model.specs.Scenario.{Scenario}
 use Rattle.aps_model.specs.Valid.{IsScenario}
-use Rattle.aps_bound_laws.proofs.Audited.{critical_small, over_small}
-use Rattle.aps_bound_laws.proofs.Worst.{worst_told}
+use Rattle.laws_bounds.proofs.Audited.{critical_small, over_small}
+use Rattle.laws_bounds.proofs.Worst.{worst_told}
 use Rattle.aps_top.specs.PrintedBound.{TellsWorstWindows, HasSmallExcess}
 
 pub worst_windows : (h : History) → TellsWorstWindows h

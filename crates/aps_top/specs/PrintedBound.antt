@@ -3,8 +3,8 @@ use Rattle.std.specs.Prelude.{◌≤◌, ◌*◌, IfSome}
 use Rattle.aps_model.specs.declared.audit.Worst.{Worst}
 use Rattle.aps_model.specs.Audit.{audit_of, over_from, short_from, critical_over_from}
 use Rattle.aps_model.specs.History.{History}
-use Rattle.aps_bound_laws.specs.Loaded.{IsSettled, IsUncritical}
-use Rattle.aps_bound_laws.specs.Worst.{IsAudited, TellsWorst}
+use Rattle.laws_bounds.specs.Loaded.{IsSettled, IsUncritical}
+use Rattle.laws_bounds.specs.Worst.{IsAudited, TellsWorst}
 
 -- each amount of the audit is the greatest of its kind over all partitions in all loaded windows, with the first window in
 -- which a partition attains it, and of these partitions with the lowest

@@ -8,11 +8,11 @@ use Rattle.aps_model.specs.Legal.{IsLegal, fixed_run}
 use Rattle.aps_model.specs.Recorded.{recorded}
 use Rattle.aps_model.specs.Tiled.{IsTiled, IsBilledAsInherited}
 use Rattle.aps_model.specs.Bound.{KeepsWindowBound, KeepsCriticalBound}
-use Rattle.aps_laws.specs.Choices.{EachPickIsGreatest}
-use Rattle.aps_laws.specs.Runs.{EndsNoSooner}
-use Rattle.aps_bound_laws.specs.Excess.{KeepsExcess}
-use Rattle.aps_load_laws.specs.OwnShare.{KeepsOwnShare}
-use Rattle.aps_load_laws.specs.Passing.{NeverPassesOver}
+use Rattle.laws_runs.specs.Choices.{EachPickIsGreatest}
+use Rattle.laws_runs.specs.Runs.{EndsNoSooner}
+use Rattle.laws_bounds.specs.Excess.{KeepsExcess}
+use Rattle.laws_load.specs.OwnShare.{KeepsOwnShare}
+use Rattle.laws_load.specs.Passing.{NeverPassesOver}
 use Rattle.aps_top.specs.PrintedBound.{TellsWorstWindows, HasSmallExcess}
 
 -- the history of a run of its scenario in this order, which ended so, or else by this many entries

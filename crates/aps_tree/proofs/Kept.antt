@@ -2,7 +2,7 @@
 use Rattle.std.proofs.Common.{◌≡◌, ℕ, List, Option, None}
 use Rattle.aps_model.specs.Name.{IsName}
 use Rattle.aps_model.specs.Tree.{create_refusal, modify_refusal, rows_cancelled, rows_created, rows_modified}
-use Rattle.aps_laws.proofs.RowTree.{cancelled_tree, created_tree, modified_tree}
+use Rattle.laws_runs.proofs.RowTree.{cancelled_tree, created_tree, modified_tree}
 use Rattle.aps_tree.specs.Tree.{Tree, IsTree}
 
 module _ (tree : Tree) (kept : IsTree tree) where

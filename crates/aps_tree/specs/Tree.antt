@@ -4,7 +4,7 @@ use Rattle.aps_model.specs.declared.partition.PartitionRow.{PartitionRow}
 use Rattle.aps_model.specs.declared.partition.TreeRefusal.{TreeRefusal}
 use Rattle.aps_model.specs.Limits.{percent, thousandths}
 use Rattle.aps_model.specs.Partition.{AreRows}
-use Rattle.aps_laws.specs.Rows.{IsNamedTree}
+use Rattle.laws_runs.specs.Rows.{IsNamedTree}
 
 -- a partition tree, as plain data
 pub record Tree : Type 0 where

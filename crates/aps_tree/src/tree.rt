@@ -4,7 +4,7 @@ ghost use Rattle.std.specs.Prelude.{◌≡◌, ◌+◌, ◌-◌, ◌^◌, ◌<�
 ghost use Rattle.aps_model.specs.Limits.{percent, thousandths};
 ghost use Rattle.aps_model.specs.Partition.{AreRows, partition_named, row_or_none};
 ghost use Rattle.aps_model.specs.Tree.{create_refusal, rows_created, modify_refusal, rows_modified, rows_cancelled};
-ghost use Rattle.aps_laws.specs.Rows.{IsNamedTree};
+ghost use Rattle.laws_runs.specs.Rows.{IsNamedTree};
 ghost use Rattle.aps_tree.specs.Changes.{parent_of, rows_with_child};
 ghost use Rattle.aps_tree.specs.Refusals.{max_refusal};
 ghost use Rattle.aps_tree.specs.Tree.{IsTree, root_row, unless_refused, rows_unless_refused};

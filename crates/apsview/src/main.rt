@@ -4,10 +4,10 @@
 
 use aps_hints::{Given, KeptSource, WatchedSink, tell_write_fault};
 use aps_io::{StdSink, StdSource, words_of};
-use aps_view::hint::tell_person;
-use aps_view::status::Status;
-use aps_view::top::top;
 use std::process::ExitCode;
+use view_top::hint::tell_person;
+use view_top::status::Status;
+use view_top::top::top;
 
 fn main(rt: HostRuntime) -> ExitCode {
     let alloc = rt.alloc();

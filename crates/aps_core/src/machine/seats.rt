@@ -1,7 +1,7 @@
 //! Which threads belong into the queues of ready threads, and putting one of them there.
 ghost use Rattle.std.specs.Prelude.{◌≡◌, ℕ, length, slice_set, IfOk, Some, None};
 ghost use Rattle.aps_core.specs.Seats.{seat_at, seats_of, who_at, IsRight, IsSeated};
-ghost use Rattle.aps_laws.specs.Stamps.{IsStamped};
+ghost use Rattle.laws_runs.specs.Stamps.{IsStamped};
 
 use super::Machine;
 use aps_model::{Contender, NoMemory, State, ThreadId};

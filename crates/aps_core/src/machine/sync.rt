@@ -3,7 +3,7 @@ ghost use Rattle.std.specs.Prelude.{◌≡◌, ◌≢◌, ℕ, length, Some, Non
 ghost use Rattle.aps_model.specs.Inherit.{client_of};
 ghost use Rattle.aps_core.specs.Seats.{seats_of, who_at, IsRight, IsSeated};
 ghost use Rattle.aps_core.specs.Touched.{peer_of, is_alone, is_at_channel, is_exit, woke, IsTouched};
-ghost use Rattle.aps_laws.specs.Stamps.{IsStamped};
+ghost use Rattle.laws_runs.specs.Stamps.{IsStamped};
 
 use super::Machine;
 use super::wake::Woken;

@@ -2,7 +2,7 @@
 ghost use Rattle.std.specs.Prelude.{◌≡◌, IfOk};
 ghost use Rattle.std.specs.List.{enumerate_from};
 ghost use Rattle.aps_window.specs.Window.{opened};
-ghost use Rattle.aps_laws.specs.Stamps.{IsStamped};
+ghost use Rattle.laws_runs.specs.Stamps.{IsStamped};
 ghost use Rattle.aps_core.specs.Counts.{parts_in};
 ghost use Rattle.aps_core.specs.Seats.{seats_of};
 ghost use Rattle.aps_core.specs.Sleepers.{sleepers_of};

@@ -3,7 +3,7 @@ ghost use Rattle.std.specs.Prelude.{◌≡◌, ℕ, ◌/◌, ◌<◌, length, sl
 ghost use Rattle.aps_model.specs.Budget.{all_parts};
 ghost use Rattle.aps_model.specs.Limits.{most_partitions};
 ghost use Rattle.aps_model.specs.Pick.{contenders};
-ghost use Rattle.aps_laws.specs.Moments.{moment};
+ghost use Rattle.laws_runs.specs.Moments.{moment};
 ghost use Rattle.aps_core.specs.Run.{state_of};
 ghost use Rattle.aps_core.specs.Scan.{has_candidate};
 

@@ -1,5 +1,5 @@
 use Rattle.std.proofs.Common.{◌≡◌, ℕ, Bool, true, false, not, ◌&&◌, nat_eq, ap, ◌∙◌, refl, sym}
-use Rattle.aps_laws.proofs.WaitFacts.{test_eq, test_ne}
+use Rattle.laws_runs.proofs.WaitFacts.{test_eq, test_ne}
 use Rattle.aps_levels.specs.Levels.{has_level}
 use Rattle.aps_channel.proofs.waiting.kept_if.Goals as goal
 

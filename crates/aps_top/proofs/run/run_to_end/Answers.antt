@@ -1,18 +1,18 @@
 use Rattle.std.proofs.Common.{◌≡◌, ap, rules, sym, subst}
 use Rattle.aps_core.specs.Run.{Run, Setup, rooms_of}
-use Rattle.aps_laws.proofs.FixedRun.{run_is_one}
+use Rattle.laws_runs.proofs.FixedRun.{run_is_one}
 use Rattle.aps_model.specs.declared.entry.Order.TheVariants.{Fixed}
 use Rattle.aps_model.specs.Legal.{IsLegal, fixed_run}
 use Rattle.aps_model.specs.Bound.{KeepsWindowBound, KeepsCriticalBound}
 use Rattle.aps_model.specs.Tiled.{IsTiled, IsBilledAsInherited}
 use Rattle.aps_model.specs.History.{History}
-use Rattle.aps_laws.specs.Choices.{EachPickIsGreatest}
-use Rattle.aps_bound_laws.specs.Excess.{KeepsExcess}
-use Rattle.aps_load_laws.specs.OwnShare.{KeepsOwnShare}
-use Rattle.aps_load_laws.specs.Passing.{NeverPassesOver}
-use Rattle.aps_bound_laws.proofs.Below.{excess}
-use Rattle.aps_load_laws.proofs.Moments.{never_passed}
-use Rattle.aps_load_laws.proofs.OwnShares.{own_share}
+use Rattle.laws_runs.specs.Choices.{EachPickIsGreatest}
+use Rattle.laws_bounds.specs.Excess.{KeepsExcess}
+use Rattle.laws_load.specs.OwnShare.{KeepsOwnShare}
+use Rattle.laws_load.specs.Passing.{NeverPassesOver}
+use Rattle.laws_bounds.proofs.Below.{excess}
+use Rattle.laws_load.proofs.Moments.{never_passed}
+use Rattle.laws_load.proofs.OwnShares.{own_share}
 use Rattle.aps_top.specs.PrintedBound.{HasSmallExcess}
 use Rattle.aps_top.proofs.PrintedBound.{small_excess, worst_windows}
 use Rattle.aps_top.proofs.run.run_to_end.Goals as goal

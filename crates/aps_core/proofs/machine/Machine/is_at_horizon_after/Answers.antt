@@ -4,7 +4,7 @@ use Rattle.aps_model.specs.After.{stands_at}
 use Rattle.aps_model.specs.Due.{last_to}
 use Rattle.aps_model.specs.Shape.{horizon}
 use Rattle.aps_model.specs.SchedulerState.{SchedulerState}
-use Rattle.aps_laws.proofs.MomentLaws.{last_own}
+use Rattle.laws_runs.proofs.MomentLaws.{last_own}
 use Rattle.aps_core.proofs.Ranges.{all_range_at}
 use Rattle.aps_core.proofs.machine.Machine.is_at_horizon_after.Goals as goal
 

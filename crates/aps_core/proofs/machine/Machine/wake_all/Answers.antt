@@ -3,7 +3,7 @@ use Rattle.std.proofs.lemmas.Bool.{cases_eq}
 use Rattle.std.proofs.lemmas.Grind.{common_steps}
 use Rattle.std.proofs.Math.ListN.{drop_of_length-le}
 use Rattle.std.proofs.lemmas.List.{take_all}
-use Rattle.aps_laws.proofs.EachThread.{go_on_count}
+use Rattle.laws_runs.proofs.EachThread.{go_on_count}
 use Rattle.aps_model.specs.SchedulerState.{SchedulerState}
 use Rattle.aps_core.specs.Room.{HasRoomToWake, last_place, stamps_before}
 use Rattle.aps_model.specs.TickWork.{waking}

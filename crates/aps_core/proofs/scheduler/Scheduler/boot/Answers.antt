@@ -2,7 +2,7 @@ use Rattle.std.proofs.Common.{ap, refl, subst, sym}
 use Rattle.aps_model.specs.declared.entry.Order.TheVariants.{Fixed}
 use Rattle.aps_model.specs.SchedulerState.{SchedulerState}
 use Rattle.aps_ctl.specs.Pending.{all_at}
-use Rattle.aps_laws.specs.Stamps.{IsStamped}
+use Rattle.laws_runs.specs.Stamps.{IsStamped}
 use Rattle.aps_core.proofs.Boot.{opening_stamped}
 use Rattle.aps_core.proofs.Counting.{counts_begin}
 use Rattle.aps_core.proofs.DuesKept.{dues_none}

@@ -3,7 +3,7 @@ use Rattle.aps_model.specs.declared.shape.Shape.{Shape}
 use Rattle.aps_model.specs.Budget.{all_parts}
 use Rattle.aps_model.specs.Pick.{contenders, greatest, missing}
 use Rattle.aps_model.specs.SchedulerState.{SchedulerState}
-use Rattle.aps_laws.proofs.PickSays.{chosen_shape}
+use Rattle.laws_runs.proofs.PickSays.{chosen_shape}
 use Rattle.aps_ready.specs.Gates.{AreGates}
 use Rattle.aps_ready.specs.Ready.{members}
 use Rattle.aps_core.specs.Seats.{seats_of}

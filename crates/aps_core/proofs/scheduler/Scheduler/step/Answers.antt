@@ -13,9 +13,9 @@ use Rattle.aps_model.specs.SchedulerState.{SchedulerState, cpu_at, thread_at}
 use Rattle.aps_model.specs.Shape.{IsShape}
 use Rattle.aps_model.specs.Step.{Step}
 use Rattle.aps_model.specs.TickWork.{has_tick_work}
-use Rattle.aps_laws.specs.Moments.{moment}
-use Rattle.aps_laws.specs.Servers.{IsNobodysClient}
-use Rattle.aps_laws.specs.Stamps.{IsStamped}
+use Rattle.laws_runs.specs.Moments.{moment}
+use Rattle.laws_runs.specs.Servers.{IsNobodysClient}
+use Rattle.laws_runs.specs.Stamps.{IsStamped}
 use Rattle.aps_window.specs.Window.{Window, total_of}
 use Rattle.aps_core.specs.declared.scheduler.Scheduler.{Scheduler}
 use Rattle.aps_core.specs.Counts.{CanBill, Counts, parts_in}

@@ -1,7 +1,7 @@
 use Rattle.std.proofs.Common.{◌/◌, ◌∙◌, ap}
 use Rattle.aps_model.specs.Budget.{all_parts}
 use Rattle.aps_model.specs.SchedulerState.{SchedulerState}
-use Rattle.aps_laws.specs.Moments.{moment}
+use Rattle.laws_runs.specs.Moments.{moment}
 use Rattle.aps_core.specs.Run.{Run, state_of}
 use Rattle.aps_core.proofs.Counting.{parts_are}
 use Rattle.aps_core.proofs.simulator.Core.stand.Goals as goal

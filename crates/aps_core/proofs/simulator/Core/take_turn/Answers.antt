@@ -4,8 +4,8 @@ use Rattle.aps_model.specs.Due.{due, last_to}
 use Rattle.aps_model.specs.History.{History}
 use Rattle.aps_model.specs.Scenario.{Scenario}
 use Rattle.aps_model.specs.Valid.{IsScenario}
-use Rattle.aps_laws.specs.Moments.{moment}
-use Rattle.aps_laws.proofs.MomentLaws.{last_own, moment-append}
+use Rattle.laws_runs.specs.Moments.{moment}
+use Rattle.laws_runs.proofs.MomentLaws.{last_own, moment-append}
 use Rattle.aps_core.specs.Core.{IsCoreWith}
 use Rattle.aps_core.specs.Counts.{Counts}
 use Rattle.aps_core.specs.CoreView.{run_of}

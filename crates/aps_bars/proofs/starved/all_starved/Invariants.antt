@@ -1,7 +1,0 @@
-use Rattle.std.proofs.Common.{◌≡◌, take}
-use Rattle.std.specs.List.{fold}
-use Rattle.aps_bars.specs.Starved.{no_entry, with_next}
-use Rattle.aps_bars.proofs.starved.all_starved.Given as goal
-
-abbrev pub invariant-loop-e : goal.invariant-loop-e
-invariant-loop-e l = l.without ≡ fold with_next no_entry (take l.e-index l.entries)

@@ -1,5 +1,0 @@
-use Rattle.aps_bound_laws.proofs.ServedTicks.{free_picks_make_free_time}
-use Rattle.aps_bound_laws.proofs.served.free_picks_make_free_time.Goals as goal
-
-pub returns : goal.returns
-returns c = free_picks_make_free_time

@@ -1,9 +1,0 @@
-use Rattle.std.proofs.Common.{◌≡◌}
-use Rattle.aps_explain.specs.Chain.{IsKnown, chain_from}
-use Rattle.aps_explain.proofs.chain.explained.Given as goal
-
-abbrev pub invariant-loop : goal.invariant-loop
-invariant-loop l = record {
-  same : l.chain ≡ chain_from l.scene l.fn.x l.counter;
-  known : IsKnown l.scene l.chain;
-}

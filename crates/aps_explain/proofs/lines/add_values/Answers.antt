@@ -1,5 +1,0 @@
-use Rattle.std.proofs.Common.{append_assoc}
-use Rattle.aps_explain.proofs.lines.add_values.Goals as goal
-
-pub returns : goal.returns
-returns c = rw (← c.yes_or_no-critical.ensures, ← c.row_name-name.ensures, ← c.index-p.ensures.same) (simp append_assoc c.write.ensures.bytes)

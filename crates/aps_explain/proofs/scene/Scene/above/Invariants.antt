@@ -1,7 +1,0 @@
-use Rattle.std.proofs.Common.{◌≡◌}
-use Rattle.std.specs.List.{filter_map, range_with_len}
-use Rattle.aps_explain.specs.Because.{above_at}
-use Rattle.aps_explain.proofs.scene.Scene.above.Given as goal
-
-abbrev pub invariant-loop-y : goal.invariant-loop-y
-invariant-loop-y l = l.found.items ≡ filter_map (above_at l.self l.x) (range_with_len 0 l.y)

@@ -1,9 +1,0 @@
-use Rattle.std.proofs.Common.{◌≡◌, ◌+◌, ◌-◌}
-use Rattle.std.specs.List.{find, range_with_len}
-use Rattle.aps_explain.specs.Again.{is_back, tick_back}
-use Rattle.aps_explain.specs.Past.{state_in, tick_in}
-use Rattle.aps_explain.proofs.scene.Scene.tick_back.Given as goal
-
-abbrev pub invariant-loop-k : goal.invariant-loop-k
-invariant-loop-k l =
-    tick_back l.self l.p ≡ find (is_back l.self l.p) (range_with_len l.k (tick_in l.self + ((state_in l.self).shape.window + 1) - l.k))

@@ -1,6 +1,0 @@
-use Rattle.std.proofs.Common.{◌≡◌, replicate}
-use Rattle.aps_latency.specs.Bills.{no_bills}
-use Rattle.aps_latency.proofs.billing.nothing.Given as goal
-
-abbrev pub invariant-loop : goal.invariant-loop
-invariant-loop l = l.bills.items ≡ replicate l.counter no_bills

@@ -1,5 +1,0 @@
-use Rattle.aps_latency.proofs.Holding.{held_by_state}
-use Rattle.aps_latency.proofs.laws.servers_hold_who_waits.Goals as goal
-
-pub returns : goal.returns
-returns c = λ scenario order h valid legal. held_by_state scenario order h valid legal

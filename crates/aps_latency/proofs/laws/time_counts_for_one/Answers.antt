@@ -1,5 +1,0 @@
-use Rattle.aps_latency.proofs.Holding.{counted_once}
-use Rattle.aps_latency.proofs.laws.time_counts_for_one.Goals as goal
-
-pub returns : goal.returns
-returns c = λ scenario order h e valid legal. counted_once scenario order h e valid legal

@@ -1,7 +1,0 @@
-use Rattle.aps_laws.proofs.Servers.{runs_free}
-use Rattle.aps_laws.proofs.Sound.{sound}
-use Rattle.aps_model.specs.After.{state_after}
-use Rattle.aps_laws.proofs.messages.runners_are_free.Goals as goal
-
-pub returns : goal.returns
-returns c = λ scenario order h x k r legal run. runs_free (state_after scenario h) x k (sound scenario order r h legal).grounded.plain.waiting run

@@ -1,5 +1,0 @@
-use Rattle.aps_laws.proofs.SmallNumbers.{usage_in_hand}
-use Rattle.aps_laws.proofs.numbers.usage_in_hand_is_small.Goals as goal
-
-pub returns : goal.returns
-returns c = usage_in_hand

@@ -1,5 +1,0 @@
-use Rattle.aps_laws.proofs.Turns.{any_order}
-use Rattle.aps_laws.proofs.order.fixed_is_legal_in_any_order.Goals as goal
-
-pub returns : goal.returns
-returns c = any_order

@@ -1,5 +1,0 @@
-use Rattle.aps_laws.proofs.FixedRun.{run_is_one}
-use Rattle.aps_laws.proofs.order.fixed_run_is_one.Goals as goal
-
-pub returns : goal.returns
-returns c = run_is_one

@@ -1,5 +1,0 @@
-use Rattle.aps_laws.proofs.Turns.{any_turn}
-use Rattle.aps_laws.proofs.order.fixed_turn_is_any_turn.Goals as goal
-
-pub returns : goal.returns
-returns c = any_turn

@@ -1,8 +1,0 @@
-use Rattle.aps_laws.proofs.Prefixes.{one_more, legal_more}
-use Rattle.aps_laws.proofs.order.legal_histories_go_on.Goals as goal
-
-pub returns-clause-more : goal.returns-clause-more
-returns-clause-more c = one_more
-
-pub returns-clause-back : goal.returns-clause-back
-returns-clause-back c = legal_more

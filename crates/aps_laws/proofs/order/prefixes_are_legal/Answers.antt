@@ -1,9 +1,0 @@
-use Rattle.aps_laws.proofs.Words.{prefix_legal}
-use Rattle.aps_laws.proofs.Prefixes.{goes_on}
-use Rattle.aps_laws.proofs.order.prefixes_are_legal.Goals as goal
-
-pub returns-clause-legal : goal.returns-clause-legal
-returns-clause-legal c = prefix_legal
-
-pub returns-clause-goes_on : goal.returns-clause-goes_on
-returns-clause-goes_on c = goes_on

@@ -1,8 +1,0 @@
-use Rattle.aps_laws.proofs.ReplyLaws.{answered, answered_once}
-use Rattle.aps_laws.proofs.replies.commands_once.Goals as goal
-
-pub returns-clause-in_order : goal.returns-clause-in_order
-returns-clause-in_order c = answered
-
-pub returns-clause-once : goal.returns-clause-once
-returns-clause-once c = answered_once

@@ -1,8 +1,0 @@
-use Rattle.aps_laws.proofs.ChangeLaws.{room, few_changes}
-use Rattle.aps_laws.proofs.rows.changes_bounded.Goals as goal
-
-pub returns-clause-room : goal.returns-clause-room
-returns-clause-room c = room
-
-pub returns-clause-few : goal.returns-clause-few
-returns-clause-few c = few_changes

@@ -1,8 +1,0 @@
-use Rattle.aps_laws.proofs.HeldRows.{held, rows_held}
-use Rattle.aps_laws.proofs.rows.rows_hold.Goals as goal
-
-pub returns-clause-entries : goal.returns-clause-entries
-returns-clause-entries c = rows_held
-
-pub returns-clause-last : goal.returns-clause-last
-returns-clause-last c = held

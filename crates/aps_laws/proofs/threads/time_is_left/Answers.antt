@@ -1,5 +1,0 @@
-use Rattle.aps_laws.proofs.ThreadFit.{fits_law}
-use Rattle.aps_laws.proofs.threads.time_is_left.Goals as goal
-
-pub returns : goal.returns
-returns c = λ scenario order h r legal x below. (fits_law scenario order h r legal x below).1

@@ -1,7 +1,0 @@
-use Rattle.std.proofs.Common.{nat_le, false}
-use Rattle.aps_model.specs.Limits.{most_partitions}
-use Rattle.aps_samples.proofs.Fill.{IsFilled}
-use Rattle.aps_samples.proofs.look.from_on.Given as goal
-
-abbrev pub invariant-loop-p : goal.invariant-loop-p
-invariant-loop-p l = IsFilled (λ k. nat_le l.first k) false most_partitions l.p l.all

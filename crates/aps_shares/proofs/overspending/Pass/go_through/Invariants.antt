@@ -1,9 +1,0 @@
-use Rattle.std.proofs.Common.{◌≡◌, take}
-use Rattle.aps_shares.specs.Overspending.{IsAt}
-use Rattle.aps_shares.proofs.overspending.Pass.go_through.Given as goal
-
-abbrev pub invariant-loop-e : goal.invariant-loop-e
-invariant-loop-e l = record {
-  at : IsAt l.self;
-  core : l.self.core ≡ record l.fn.self.core { entries = take l.e-index l.entries };
-}

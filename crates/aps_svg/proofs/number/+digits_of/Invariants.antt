@@ -1,4 +1,0 @@
-use Rattle.aps_svg.proofs.number.+digits_of.Given as goal
-
-abbrev pub decreases-digits_of : goal.decreases-digits_of
-decreases-digits_of l = l.value

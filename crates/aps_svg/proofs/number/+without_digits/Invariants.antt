@@ -1,4 +1,0 @@
-use Rattle.aps_svg.proofs.number.+without_digits.Given as goal
-
-abbrev pub decreases-without_digits : goal.decreases-without_digits
-decreases-without_digits l = l.count

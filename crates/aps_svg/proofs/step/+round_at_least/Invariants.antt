@@ -1,4 +1,0 @@
-use Rattle.aps_svg.proofs.step.+round_at_least.Given as goal
-
-abbrev pub decreases-round_at_least : goal.decreases-round_at_least
-decreases-round_at_least l = l.number

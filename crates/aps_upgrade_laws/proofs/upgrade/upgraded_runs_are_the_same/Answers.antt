@@ -1,8 +1,0 @@
-use Rattle.aps_upgrade_laws.proofs.Runs.{upgraded_end, upgraded_legal}
-use Rattle.aps_upgrade_laws.proofs.upgrade.upgraded_runs_are_the_same.Goals as goal
-
-pub returns : goal.returns
-returns c = λ scenario valid. record {
-  legal = λ order h. upgraded_legal scenario order h valid;
-  end = λ limit h. upgraded_end scenario limit h valid;
-}

@@ -1,5 +1,0 @@
-use Rattle.aps_view.proofs.Dues.{calm_answer}
-use Rattle.aps_view.proofs.calm.calm_top.Goals as goal
-
-pub returns : goal.returns
-returns c = calm_answer _ _ _ _ _ _ c.top.ensures

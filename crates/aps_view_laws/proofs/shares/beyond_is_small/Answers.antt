@@ -1,5 +1,0 @@
-use Rattle.aps_view_laws.proofs.Printed.{beyond_is_small}
-use Rattle.aps_view_laws.proofs.shares.beyond_is_small.Goals as goal
-
-pub returns : goal.returns
-returns c = λ scenario order h p valid legal exists. beyond_is_small scenario order h valid legal p exists

@@ -1,5 +1,0 @@
-use Rattle.aps_view_laws.proofs.Printed.{short_is_small}
-use Rattle.aps_view_laws.proofs.shares.short_is_small.Goals as goal
-
-pub returns : goal.returns
-returns c = λ scenario order h p valid legal exists. short_is_small scenario order h valid legal p exists

@@ -1,7 +1,0 @@
-use Rattle.std.proofs.Common.{◌≡◌, false}
-use Rattle.std.specs.List.{list_any, range_with_len}
-use Rattle.aps_waves.specs.Changes.{changes}
-use Rattle.aps_waves.proofs.changes.is_other.Given as goal
-
-abbrev pub invariant-loop-signal : goal.invariant-loop-signal
-invariant-loop-signal l = list_any (changes l.before l.now) (range_with_len 0 l.signal) ≡ false

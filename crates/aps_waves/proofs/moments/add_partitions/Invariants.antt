@@ -1,7 +1,0 @@
-use Rattle.std.proofs.Common.{◌≡◌, ◌++◌}
-use Rattle.std.specs.List.{flat_map, range_with_len}
-use Rattle.aps_waves.specs.Moment.{partition_values}
-use Rattle.aps_waves.proofs.moments.add_partitions.Given as goal
-
-abbrev pub invariant-loop-p : goal.invariant-loop-p
-invariant-loop-p l = l.values.items ≡ l.initial.values.items ++ flat_map (partition_values l.core l.told) (range_with_len 0 l.p)

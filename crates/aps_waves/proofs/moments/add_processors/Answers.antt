@@ -1,8 +1,0 @@
-use Rattle.std.proofs.Common.{arith}
-use Rattle.aps_core.specs.Run.{state_of}
-use Rattle.aps_samples.proofs.Texts.{tick_more}
-use Rattle.aps_waves.specs.Moment.{cpu_values}
-use Rattle.aps_waves.proofs.moments.add_processors.Goals as goal
-
-pub loop-c-preserved : goal.loop-c-preserved
-loop-c-preserved c = tick_more (cpu_values (state_of c.args.core.now)) _ _ _ 0 c.loop-c.c c.loop-c.c (omega arith) c.loop-c.invariant c.in_ok-add_processor.ensures

@@ -1,8 +1,0 @@
-use Rattle.std.proofs.Common.{◌≡◌, ◌++◌}
-use Rattle.std.specs.List.{flat_map, range_with_len}
-use Rattle.aps_core.specs.Run.{state_of}
-use Rattle.aps_waves.specs.Moment.{thread_values}
-use Rattle.aps_waves.proofs.moments.add_threads.Given as goal
-
-abbrev pub invariant-loop-x : goal.invariant-loop-x
-invariant-loop-x l = l.values.items ≡ l.initial.values.items ++ flat_map (thread_values (state_of l.core)) (range_with_len 0 l.x)

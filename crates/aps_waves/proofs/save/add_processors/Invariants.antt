@@ -1,7 +1,0 @@
-use Rattle.std.proofs.Common.{◌≡◌, ◌++◌, string_bytes}
-use Rattle.std.specs.List.{flat_map, range_with_len}
-use Rattle.aps_waves.specs.Save.{cpu_group}
-use Rattle.aps_waves.proofs.save.add_processors.Given as goal
-
-abbrev pub invariant-loop-c : goal.invariant-loop-c
-invariant-loop-c l = string_bytes l.out ≡ string_bytes l.initial.out ++ flat_map cpu_group (range_with_len 0 l.c)

@@ -1,0 +1,5 @@
+use Rattle.laws_views.proofs.Printed.{short_is_small}
+use Rattle.laws_views.proofs.shares.short_is_small.Goals as goal
+
+pub returns : goal.returns
+returns c = λ scenario order h p valid legal exists. short_is_small scenario order h valid legal p exists

@@ -1,0 +1,78 @@
+//! Words and names of an explanation.
+ghost use Rattle.std.specs.Prelude.{◌≡◌};
+ghost use Rattle.view_explain.specs.Text as spec;
+
+use crate::deciding::Test;
+use crate::scene::Scene;
+use aps_model::{ChannelId, Name, PartitionId, State, ThreadId};
+use std::str::from_utf8;
+
+pub fn yes_or_no(is_so: bool) -> &'static str
+    ensures { result.now ≡ spec.yes_or_no is_so }
+{
+    if is_so { "yes" } else { "no" }
+}
+
+pub fn state_word(state: &State) -> &'static str
+    ensures { result.now ≡ spec.state_word state.now }
+{
+    match state {
+        State::Ready => "ready",
+        State::Running(_) => "running",
+        State::Sleeping(_) => "sleeping",
+        State::Sending(_) => "sending",
+        State::Receiving(_) => "receiving",
+        State::Replying(_) => "replying",
+        State::Gone => "gone",
+    }
+}
+
+pub fn test_word(test: &Test) -> &'static str
+    ensures { result.now ≡ spec.test_word test.now }
+{
+    match test {
+        Test::Class => "class",
+        Test::Priority => "priority",
+        Test::Fraction => "fraction",
+        Test::Stamp => "stamp",
+    }
+}
+
+impl Scene {
+    pub fn thread_name(&self, x: ThreadId) -> &str
+        ensures { result.now ≡ spec.thread_name self.now x }
+    {
+        match self.scenario().threads().get(x.index()) {
+            Some(row) => text_of(&row.name),
+            None => "",
+        }
+    }
+
+    pub fn row_name(&self, p: PartitionId) -> &str
+        ensures { result.now ≡ spec.row_name self.now p }
+    {
+        match self.rows().get(p.index()) {
+            Some(row) => text_of(&row.name),
+            None => "",
+        }
+    }
+
+    pub fn channel_name(&self, c: ChannelId) -> &str
+        ensures { result.now ≡ spec.channel_name self.now c }
+    {
+        match self.scenario().channels().get(c.index()) {
+            Some(name) => text_of(name),
+            None => "",
+        }
+    }
+}
+
+/// A name as text.
+fn text_of(name: &Name) -> &str
+    ensures { result.now ≡ name.now }
+{
+    match from_utf8(name.text()) {
+        Ok(text) => text,
+        Err(_) => unreachable!(),
+    }
+}

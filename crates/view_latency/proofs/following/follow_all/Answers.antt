@@ -1,0 +1,13 @@
+use Rattle.std.proofs.Common.{◌≡◌, ◌∙◌, IfOk, List, ap, subst}
+use Rattle.aps_model.specs.declared.entry.Entry.{Entry}
+use Rattle.aps_model.specs.Scenario.{Scenario}
+use Rattle.aps_core.specs.Run.{Run}
+use Rattle.view_latency.specs.Followed.{AreFollowed}
+use Rattle.view_latency.proofs.following.follow_all.Goals as goal
+
+pub returns : goal.returns
+returns c =
+    let h = c.args.history.now in
+    let scenario : c.in_ok-core.core.setup.scenario ≡ h.scenario = ap (λ (r : Run). r.setup.scenario) c.in_ok-core.ensures ∙ c.in_ok-copy.ensures ∙ c.scenario-scenario.ensures in
+    subst (λ (s : Scenario). IfOk c.follow.result (AreFollowed s h.entries)) scenario
+    (subst (λ (es : List Entry). IfOk c.follow.result (AreFollowed c.in_ok-core.core.setup.scenario es)) c.entries-entries.ensures.same c.follow.ensures)

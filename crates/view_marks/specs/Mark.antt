@@ -1,0 +1,17 @@
+-- Which entries are marked on the bars.
+use Rattle.std.specs.Prelude.{Bool, true, false, Option, Some, None}
+use Rattle.aps_model.specs.declared.entry.Done.{Done}
+use Rattle.aps_model.specs.declared.entry.Done.TheVariants.{SendTo, SendBlocked, ReceiveGot, ReplyFreed}
+use Rattle.view_marks.specs.declared.mark.Message.{Message}
+use Rattle.view_marks.specs.declared.mark.Message.TheVariants.{Taken, Waits}
+
+-- a message is taken where a send finds its receiver and where a receive finds a message
+abbrev pub message_in : Done → Option Message
+message_in (SendTo receiver) = Some Taken
+message_in (ReceiveGot sender) = Some Taken
+message_in SendBlocked = Some Waits
+message_in done = None
+
+abbrev pub is_reply : Done → Bool
+is_reply (ReplyFreed client) = true
+is_reply done = false

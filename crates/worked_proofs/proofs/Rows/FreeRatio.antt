@@ -1,0 +1,67 @@
+use lib.Chars.{codes}
+use Rattle.std.proofs.Common.{◌≡◌, [], ◌∷◌, ◌++◌, refl, Some, None, false}
+use Rattle.std.specs.Fmt.{digits}
+use Rattle.aps_model.specs.declared.entry.Done.TheVariants.{Nothing as DidNothing}
+use Rattle.aps_model.specs.declared.program.Op.TheVariants.{Forever}
+use Rattle.aps_model.specs.declared.scenario.Policy.TheVariants.{Fifo}
+use Rattle.aps_model.specs.declared.shape.Bankruptcy.TheVariants.{Basic}
+use Rattle.aps_model.specs.declared.shape.Free.TheVariants.{Ratio as ByRatio}
+use Rattle.aps_model.specs.Scenario.{Scenario}
+use Rattle.aps_model.specs.Legal.{fixed_run}
+use Rattle.worked_proofs.proofs.Line.{line, run_summary, run_windows}
+
+abbrev pub scenario : Scenario
+scenario = record {
+  shape = record { parts = 100; cpus = 1; tick = 1000000; window = 10; ticks = 10; call_ns = 1000; free = ByRatio; limit = false; bankruptcy = Basic };
+  partitions =
+      record { name = codes "System"; parent = 0; budget = 50; critical = 0; max = 100 }
+      ∷ record { name = codes "A"; parent = 0; budget = 25; critical = 0; max = 100 }
+      ∷ record { name = codes "B"; parent = 0; budget = 25; critical = 0; max = 100 }
+      ∷ [];
+  channels = [];
+  threads =
+      record { name = codes "a"; partition = 1; priority = 20; policy = Fifo; critical = false; program = Forever ∷ [] }
+      ∷ record { name = codes "b"; partition = 2; priority = 10; policy = Fifo; critical = false; program = Forever ∷ [] }
+      ∷ [];
+  commands = [];
+}
+
+entries : fixed_run scenario 1000 ≡
+    line 0 0 0 None None false DidNothing (Some 0) (Some 0) None
+    ∷ line 0 0 1000000 (Some 0) (Some 1) false DidNothing (Some 0) (Some 0) None
+    ∷ line 0 1000000 2000000 (Some 0) (Some 1) false DidNothing (Some 0) (Some 0) None
+    ∷ line 0 2000000 3000000 (Some 0) (Some 1) false DidNothing (Some 1) (Some 0) None
+    ∷ line 0 3000000 4000000 (Some 1) (Some 2) false DidNothing (Some 1) (Some 0) None
+    ∷ line 0 4000000 5000000 (Some 1) (Some 2) false DidNothing (Some 1) (Some 0) None
+    ∷ line 0 5000000 6000000 (Some 1) (Some 2) false DidNothing (Some 0) (Some 0) None
+    ∷ line 0 6000000 7000000 (Some 0) (Some 1) false DidNothing (Some 1) (Some 0) None
+    ∷ line 0 7000000 8000000 (Some 1) (Some 2) false DidNothing (Some 0) (Some 0) None
+    ∷ line 0 8000000 9000000 (Some 0) (Some 1) false DidNothing (Some 1) (Some 0) None
+    ∷ line 0 9000000 10000000 (Some 1) (Some 2) false DidNothing None None None
+    ∷ []
+entries = refl
+
+summary : run_summary scenario 1000 ≡
+    codes "aps summary 1\n"
+    ++ codes "end horizon\n"
+    ++ codes "shape cpus 1 tick 1000000 window 10 ticks 10\n"
+    ++ codes "entries 11\n"
+    ++ codes "partition 0 System budget 50 billed 0 critical 0\n"
+    ++ codes "partition 1 A budget 25 billed 5000000 critical 0\n"
+    ++ codes "partition 2 B budget 25 billed 5000000 critical 0\n"
+    ++ codes "idle 0\n"
+    ++ codes "thread 0 a ran 5000000\n"
+    ++ codes "thread 1 b ran 5000000\n"
+    ++ codes "loaded 10\n"
+    ++ codes "over none\n"
+    ++ codes "short none\n"
+    ++ codes "overcritical none\n"
+unfolding run_summary digits
+summary = refl
+
+windows : run_windows scenario 1000 ≡
+    codes "aps windows 1\n"
+    ++ codes "end horizon\n"
+    ++ codes "window 0 0 5000000 5000000\n"
+unfolding run_windows digits
+windows = refl

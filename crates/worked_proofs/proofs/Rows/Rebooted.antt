@@ -1,0 +1,56 @@
+use lib.Chars.{codes}
+use Rattle.std.proofs.Common.{◌≡◌, [], ◌∷◌, ◌++◌, refl, Some, None, true, false}
+use Rattle.std.specs.Fmt.{digits}
+use Rattle.aps_model.specs.declared.entry.Done.TheVariants.{Nothing as DidNothing}
+use Rattle.aps_model.specs.declared.program.Op.TheVariants.{Forever}
+use Rattle.aps_model.specs.declared.scenario.Policy.TheVariants.{Fifo}
+use Rattle.aps_model.specs.declared.shape.Bankruptcy.TheVariants.{Reboot}
+use Rattle.aps_model.specs.declared.shape.Free.TheVariants.{Priority as ByPriority}
+use Rattle.aps_model.specs.Scenario.{Scenario}
+use Rattle.aps_model.specs.Legal.{fixed_run}
+use Rattle.worked_proofs.proofs.Line.{line, run_summary, run_windows}
+
+abbrev pub scenario : Scenario
+scenario = record {
+  shape = record { parts = 100; cpus = 1; tick = 1000000; window = 10; ticks = 20; call_ns = 1000; free = ByPriority; limit = false; bankruptcy = Reboot };
+  partitions =
+      record { name = codes "System"; parent = 0; budget = 100; critical = 0; max = 100 }
+      ∷ record { name = codes "A"; parent = 0; budget = 0; critical = 1500000; max = 100 }
+      ∷ [];
+  channels = [];
+  threads =
+      record { name = codes "s"; partition = 0; priority = 10; policy = Fifo; critical = false; program = Forever ∷ [] }
+      ∷ record { name = codes "k"; partition = 1; priority = 20; policy = Fifo; critical = true; program = Forever ∷ [] }
+      ∷ [];
+  commands = [];
+}
+
+entries : fixed_run scenario 1000 ≡
+    line 0 0 0 None None false DidNothing (Some 1) None None
+    ∷ line 0 0 1000000 (Some 1) (Some 1) true DidNothing (Some 1) None None
+    ∷ line 0 1000000 2000000 (Some 1) (Some 1) true DidNothing None None None
+    ∷ []
+entries = refl
+
+summary : run_summary scenario 1000 ≡
+    codes "aps summary 1\n"
+    ++ codes "end reboot 1\n"
+    ++ codes "shape cpus 1 tick 1000000 window 10 ticks 20\n"
+    ++ codes "entries 3\n"
+    ++ codes "partition 0 System budget 100 billed 0 critical 0\n"
+    ++ codes "partition 1 A budget 0 billed 2000000 critical 2000000\n"
+    ++ codes "idle 0\n"
+    ++ codes "thread 0 s ran 0\n"
+    ++ codes "thread 1 k ran 2000000\n"
+    ++ codes "loaded 0\n"
+    ++ codes "over none\n"
+    ++ codes "short none\n"
+    ++ codes "overcritical none\n"
+unfolding run_summary digits
+summary = refl
+
+windows : run_windows scenario 1000 ≡
+    codes "aps windows 1\n"
+    ++ codes "end reboot 1\n"
+unfolding run_windows digits
+windows = refl
