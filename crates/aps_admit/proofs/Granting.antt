@@ -8,11 +8,11 @@ use Rattle.aps_model.specs.declared.shape.Shape.{Shape}
 use Rattle.aps_model.specs.Shape.{IsShape}
 use Rattle.aps_admit.specs.declared.admission.Granted.{Granted}
 use Rattle.aps_admit.specs.Admission.{AreGrants, IsExcess, IsGrant, budget_for, granted}
-use Rattle.aps_admit.specs.Least.{IsLeast, least_budget}
+use Rattle.aps_admit.specs.Least.{IsLeastBudget, least_budget}
 use Rattle.aps_admit.proofs.LeastBudgets.{least_budget-least, least-below}
 
 each_least : (shape : Shape) (slack : ℕ) (demands : List Demand) → IsShape shape
-    → AllZip (λ (demand : Demand) budget. IsLeast shape (demand.need + slack) budget) demands (map (budget_for shape slack) demands)
+    → AllZip (λ (demand : Demand) budget. IsLeastBudget shape (demand.need + slack) budget) demands (map (budget_for shape slack) demands)
 each_least shape slack [] is = tt
 each_least shape slack (demand ∷ demands) is = (least_budget-least shape (demand.need + slack) is, each_least shape slack demands is)
 

@@ -7,7 +7,7 @@ use Rattle.std.proofs.lemmas.Nat.{mul-le, le-div}
 use Rattle.std.specs.Int.{div_ceil}
 use Rattle.aps_model.specs.declared.shape.Shape.{Shape}
 use Rattle.aps_model.specs.Shape.{IsShape, whole}
-use Rattle.aps_admit.specs.Least.{IsLeast, allowance, least_budget}
+use Rattle.aps_admit.specs.Least.{IsLeastBudget, allowance, least_budget}
 
 -- ---- of plain numbers
 
@@ -60,7 +60,7 @@ whole-long shape is =
 pub allowance-more : (shape : Shape) (a b : ℕ) → IsShape shape → a ≤ b → allowance shape a ≤ allowance shape b
 allowance-more shape a b is more = given_more (whole shape) shape.parts a b (parts-some shape is) more
 
-pub least_budget-least : (shape : Shape) (time : ℕ) → IsShape shape → IsLeast shape time (least_budget shape time)
+pub least_budget-least : (shape : Shape) (time : ℕ) → IsShape shape → IsLeastBudget shape time (least_budget shape time)
 least_budget-least shape time is =
     let long = whole-long shape is in
     record {
@@ -68,14 +68,14 @@ least_budget-least shape time is =
       least = λ other enough. ceil_least (whole shape) shape.parts time other (omega (arith, long)) enough;
     }
 
-pub least-one : (shape : Shape) (time a b : ℕ) → IsLeast shape time a → IsLeast shape time b → a ≡ b
+pub least-one : (shape : Shape) (time a b : ℕ) → IsLeastBudget shape time a → IsLeastBudget shape time b → a ≡ b
 least-one shape time a b first second =
     let under : a ≤ b = first.least b second.enough in
     let over : b ≤ a = second.least a first.enough in
     omega (arith, under, over)
 
 -- some time takes some budget, and one part less gives less
-pub least-some : (shape : Shape) (time budget : ℕ) → IsShape shape → 0 < time → IsLeast shape time budget → 0 < budget
+pub least-some : (shape : Shape) (time budget : ℕ) → IsShape shape → 0 < time → IsLeastBudget shape time budget → 0 < budget
 least-some shape time budget is some least =
     elim (cases_order 0 budget) [
       | inl none ↦
@@ -88,7 +88,7 @@ least-some shape time budget is some least =
       | inr (inr less) ↦ absurd (omega arith)
     ]
 
-pub least-below : (shape : Shape) (time budget : ℕ) → IsShape shape → 0 < time → IsLeast shape time budget → allowance shape (budget - 1) < time
+pub least-below : (shape : Shape) (time budget : ℕ) → IsShape shape → 0 < time → IsLeastBudget shape time budget → allowance shape (budget - 1) < time
 least-below shape time budget is some least =
     let positive : 0 < budget = least-some shape time budget is some least in
     elim (cases_order (allowance shape (budget - 1)) time) [
@@ -98,7 +98,7 @@ least-below shape time budget is some least =
     ]
 
 -- a budget that gives the time, where one part less doesn't
-pub least-told : (shape : Shape) (time budget : ℕ) → IsShape shape → time ≤ allowance shape budget → allowance shape (budget - 1) < time → IsLeast shape time budget
+pub least-told : (shape : Shape) (time budget : ℕ) → IsShape shape → time ≤ allowance shape budget → allowance shape (budget - 1) < time → IsLeastBudget shape time budget
 least-told shape time budget is enough below = record {
   enough = enough;
   least = λ other given. elim (cases_order budget other) [

@@ -6,7 +6,7 @@ use Rattle.aps_model.specs.declared.shape.Shape.{Shape}
 use Rattle.aps_admit.specs.declared.admission.Granted.{Granted}
 use Rattle.aps_admit.specs.declared.admission.Admission.{Admission}
 use Rattle.aps_admit.specs.declared.admission.Admission.TheVariants.{Budgets, Needs}
-use Rattle.aps_admit.specs.Least.{IsLeast, allowance, least_budget, total_slack}
+use Rattle.aps_admit.specs.Least.{IsLeastBudget, allowance, least_budget, total_slack}
 use Rattle.aps_model.specs.Limits.{most_critical}
 
 -- a need is at most all time of the longest window on all processors
@@ -56,7 +56,7 @@ pub record AreGrants (shape : Shape) (slack : ℕ) (demands : List Demand) (gran
 -- the sum of the least budgets, which is more than all parts
 pub record IsExcess (shape : Shape) (slack : ℕ) (demands : List Demand) (sum : ℕ) : Type 0 where
   pub budgets : List ℕ
-  pub each : AllZip (λ (demand : Demand) budget. IsLeast shape (demand.need + slack) budget) demands budgets
+  pub each : AllZip (λ (demand : Demand) budget. IsLeastBudget shape (demand.need + slack) budget) demands budgets
   pub total : sum ≡ list_sum budgets
   pub over : shape.parts < sum
 

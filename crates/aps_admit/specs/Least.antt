@@ -13,7 +13,7 @@ abbrev pub allowance : Shape → ℕ → ℕ
 allowance shape budget = budget * whole shape / shape.parts
 
 -- the budget gives at least this time, and no smaller one does
-pub record IsLeast (shape : Shape) (time budget : ℕ) : Type 0 where
+pub record IsLeastBudget (shape : Shape) (time budget : ℕ) : Type 0 where
   pub enough : time ≤ allowance shape budget
   pub least : (other : ℕ) → time ≤ allowance shape other → budget ≤ other
 

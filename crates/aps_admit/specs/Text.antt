@@ -20,14 +20,14 @@ abbrev pub budget_line : Granted → List ℕ
 budget_line granted = budget_words granted ++ allowance_words granted
 
 -- the sum of the budgets
-abbrev pub sum_of : List Granted → ℕ
-sum_of grants = sum_by (λ (granted : Granted). granted.budget) grants
+abbrev pub budgets_granted : List Granted → ℕ
+budgets_granted grants = sum_by (λ (granted : Granted). granted.budget) grants
 
 abbrev pub sum_line : ℕ → List ℕ
 sum_line sum = line_of (codes "sum" ∷ decimal sum ∷ [])
 
 abbrev pub grants_text : List Granted → List ℕ
-grants_text grants = codes "admit budgets 1\n" ++ flat_map budget_line grants ++ sum_line (sum_of grants)
+grants_text grants = codes "admit budgets 1\n" ++ flat_map budget_line grants ++ sum_line (budgets_granted grants)
 
 abbrev pub needs_line : ℕ → List ℕ
 needs_line sum = line_of (codes "admit" ∷ codes "needs" ∷ decimal sum ∷ [])

@@ -3,7 +3,7 @@ ghost use Rattle.std.specs.Prelude.{◌≡◌, ◌++◌, ◌∷◌, [], codes, s
 ghost use Rattle.std.specs.Fmt.{decimal};
 ghost use Rattle.std.specs.List.{flat_map};
 ghost use Rattle.aps_model.specs.Journal.{line_of};
-ghost use Rattle.aps_admit.specs.Text.{admission_text, allowance_words, budget_line, budget_words, grants_text, needs_line, sum_line, sum_of};
+ghost use Rattle.aps_admit.specs.Text.{admission_text, allowance_words, budget_line, budget_words, grants_text, needs_line, sum_line, budgets_granted};
 
 use crate::admission::{Admission, Granted};
 use aps_model::{Name, NoMemory};
@@ -84,7 +84,7 @@ fn add_needs(out: &mut String, sum: u32) -> Result<(), NoMemory>
 
 /// The sum of these budgets. Any list fits, however long.
 fn sum_of(grants: &[Granted]) -> u128
-    ensures { result ≡ sum_of grants.now }
+    ensures { result ≡ budgets_granted grants.now }
 {
     let mut sum = 0;
     for granted in grants {

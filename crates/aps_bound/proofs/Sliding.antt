@@ -13,7 +13,7 @@ use Rattle.aps_model.specs.declared.usage.Usage.{Usage}
 use Rattle.aps_bound.specs.Cursor.{HasAllOf, IsCursor}
 use Rattle.aps_model.specs.Sums.{IsAtMost, IsUsage}
 use Rattle.aps_bound.specs.Usage.{HasBilled, HasUsed, IsMore}
-use Rattle.aps_bound.specs.Window.{IsWindow}
+use Rattle.aps_bound.specs.Window.{IsUsageWindow}
 use Rattle.aps_bound.proofs.Overlaps.{critical_few, critical_none, critical_split, used_few, used_none, used_split}
 
 pub usage_few : (tick a b : ℕ) (h : List Entry) (usage : Usage) → All IsEntry h → length h ≤ greatest_u32 → IsUsage tick a b h usage → IsAtMost (2 ^ 62) usage
@@ -44,9 +44,9 @@ empty_usage tick a h = record {
 }
 
 -- with the tick after the window
-pub entered : (tick : ℕ) (h entering : List Entry) (window : Window) (end : Cursor) (more : Usage) → IsWindow tick h window → end.tick ≡ window.end.tick + 1 → IsCursor tick h end
+pub entered : (tick : ℕ) (h entering : List Entry) (window : Window) (end : Cursor) (more : Usage) → IsUsageWindow tick h window → end.tick ≡ window.end.tick + 1 → IsCursor tick h end
     → HasAllOf tick window.end.tick h entering → IsMore tick window.end.tick (window.end.tick + 1) entering window.usage more
-    → IsWindow tick h (record { first = window.first; end = end; usage = more })
+    → IsUsageWindow tick h (record { first = window.first; end = end; usage = more })
 entered tick h entering window end more was end' at_end all added =
     let a = window.first.tick in
     let b = window.end.tick in
@@ -61,7 +61,7 @@ entered tick h entering window end more was end' at_end all added =
     }
 
 -- the first tick is a part
-pub can_leave : (tick : ℕ) (h leaving : List Entry) (window : Window) → IsWindow tick h window → window.first.tick < window.end.tick → HasAllOf tick window.first.tick h leaving
+pub can_leave : (tick : ℕ) (h leaving : List Entry) (window : Window) → IsUsageWindow tick h window → window.first.tick < window.end.tick → HasAllOf tick window.first.tick h leaving
     → HasUsed tick window.first.tick (window.first.tick + 1) leaving window.usage
 can_leave tick h leaving window was some all =
     let a = window.first.tick in
@@ -72,9 +72,9 @@ can_leave tick h leaving window was some all =
     }
 
 -- without it
-pub left : (tick : ℕ) (h leaving : List Entry) (window : Window) (first : Cursor) (next : Usage) → IsWindow tick h window → window.first.tick < window.end.tick
+pub left : (tick : ℕ) (h leaving : List Entry) (window : Window) (first : Cursor) (next : Usage) → IsUsageWindow tick h window → window.first.tick < window.end.tick
     → first.tick ≡ window.first.tick + 1 → IsCursor tick h first → HasAllOf tick window.first.tick h leaving → IsMore tick window.first.tick (window.first.tick + 1) leaving next window.usage
-    → IsWindow tick h (record { first = first; end = window.end; usage = next })
+    → IsUsageWindow tick h (record { first = first; end = window.end; usage = next })
 left tick h leaving window first next was some first' at_first all less =
     let a = window.first.tick in
     let b = window.end.tick in

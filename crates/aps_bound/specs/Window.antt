@@ -6,7 +6,7 @@ use Rattle.aps_bound.specs.Cursor.{IsCursor}
 use Rattle.aps_model.specs.Sums.{IsUsage}
 
 -- its usage is that of its ticks, and each end stands before what its next tick can hold
-pub record IsWindow (tick : ℕ) (entries : List Entry) (window : Window) : Type 0 where
+pub record IsUsageWindow (tick : ℕ) (entries : List Entry) (window : Window) : Type 0 where
   pub forward : window.first.tick ≤ window.end.tick
   pub usage : IsUsage tick window.first.tick window.end.tick entries window.usage
   pub first : IsCursor tick entries window.first

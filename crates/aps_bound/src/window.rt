@@ -3,7 +3,7 @@ ghost use Rattle.std.specs.Prelude.{◌≡◌, ◌+◌, ◌*◌, ◌<◌, ◌≤
 ghost use Rattle.aps_model.specs.History.{IsEntry};
 ghost use Rattle.aps_model.specs.Limits.{greatest_u32};
 ghost use Rattle.aps_bound.specs.Order.{IsInOrder};
-ghost use Rattle.aps_bound.specs.Window.{IsWindow};
+ghost use Rattle.aps_bound.specs.Window.{IsUsageWindow};
 
 use crate::cursor::Cursor;
 use crate::usage::{add, take_away};
@@ -27,7 +27,7 @@ impl Window {
         requires some { 0 < tick }
         requires forward { a ≤ b }
         requires end { b * tick < 2 ^ 63 }
-        ensures window { IsWindow tick entries.now result }
+        ensures window { IsUsageWindow tick entries.now result }
         ensures first { result.first.tick ≡ a }
         ensures end { result.end.tick ≡ b }
     {
@@ -42,7 +42,7 @@ impl Window {
     fn before(entries: &[Entry], tick: u64, a: u64) -> Window
         requires order { IsInOrder tick entries.now }
         requires begin { a * tick < 2 ^ 63 }
-        ensures window { IsWindow tick entries.now result }
+        ensures window { IsUsageWindow tick entries.now result }
         ensures first { result.first.tick ≡ a }
         ensures end { result.end.tick ≡ a }
     {
@@ -64,9 +64,9 @@ impl Window {
         requires few { length entries.now ≤ greatest_u32 }
         requires order { IsInOrder tick entries.now }
         requires some { 0 < tick }
-        requires window { IsWindow tick entries.now self.old }
+        requires window { IsUsageWindow tick entries.now self.old }
         requires end { (self.old.end.tick + 1) * tick < 2 ^ 63 }
-        ensures window { IsWindow tick entries.now self.new }
+        ensures window { IsUsageWindow tick entries.now self.new }
         ensures first { self.new.first.tick ≡ self.old.first.tick + 1 }
         ensures end { self.new.end.tick ≡ self.old.end.tick + 1 }
     {
@@ -80,9 +80,9 @@ impl Window {
         requires few { length entries.now ≤ greatest_u32 }
         requires order { IsInOrder tick entries.now }
         requires some { 0 < tick }
-        requires window { IsWindow tick entries.now self.old }
+        requires window { IsUsageWindow tick entries.now self.old }
         requires end { (self.old.end.tick + 1) * tick < 2 ^ 63 }
-        ensures window { IsWindow tick entries.now self.new }
+        ensures window { IsUsageWindow tick entries.now self.new }
         ensures first { self.new.first.tick ≡ self.old.first.tick }
         ensures end { self.new.end.tick ≡ self.old.end.tick + 1 }
     {
@@ -96,10 +96,10 @@ impl Window {
         requires entries { All IsEntry entries.now }
         requires order { IsInOrder tick entries.now }
         requires some { 0 < tick }
-        requires window { IsWindow tick entries.now self.old }
+        requires window { IsUsageWindow tick entries.now self.old }
         requires ticks { self.old.first.tick < self.old.end.tick }
         requires end { self.old.end.tick * tick < 2 ^ 63 }
-        ensures window { IsWindow tick entries.now self.new }
+        ensures window { IsUsageWindow tick entries.now self.new }
         ensures first { self.new.first.tick ≡ self.old.first.tick + 1 }
         ensures end { self.new.end.tick ≡ self.old.end.tick }
     {

@@ -8,16 +8,16 @@ use Rattle.aps_channel.specs.declared.outcome.Replied.{Replied}
 use Rattle.aps_channel.specs.declared.outcome.Sent.TheVariants as sends
 use Rattle.aps_channel.specs.declared.outcome.Received.TheVariants as took
 use Rattle.aps_channel.specs.declared.outcome.Replied.TheVariants as replies
-use Rattle.aps_channel.specs.Channels.{After, Channels, channel_at, received, replied, sent}
+use Rattle.aps_channel.specs.Channels.{AfterCall, Channels, channel_in_place, after_receive, after_reply, after_send}
 
-abbrev send : Channels → ℕ → ℕ → After Sent
-send s x priority = sent s 1 x priority (channel_at s 1).receivers
+abbrev send : Channels → ℕ → ℕ → AfterCall Sent
+send s x priority = after_send s 1 x priority (channel_in_place s 1).receivers
 
-abbrev receive : Channels → ℕ → After Received
-receive s x = received s 1 x (client_of s.triples x)
+abbrev receive : Channels → ℕ → AfterCall Received
+receive s x = after_receive s 1 x (client_of s.triples x)
 
-abbrev reply : Channels → ℕ → After Replied
-reply s x = replied s x (client_of s.triples x)
+abbrev reply : Channels → ℕ → AfterCall Replied
+reply s x = after_reply s x (client_of s.triples x)
 
 -- two servers wait, 0 before 1
 abbrev waiting : Channels
@@ -39,7 +39,7 @@ next_gets = refl
 holding_is_refused : (receive both_serve 0).answer ≡ took.Holding 2
 holding_is_refused = refl
 
-nothing_waits : top_of (channel_at both_serve 1).messages ≡ None
+nothing_waits : top_of (channel_in_place both_serve 1).messages ≡ None
 nothing_waits = refl
 
 -- both serve, so that the next messages wait: 4 with 12, then 5 with 14
@@ -49,7 +49,7 @@ two_wait = (send (send both_serve 4 12).state 5 14).state
 sender_waits : (send both_serve 4 12).answer ≡ sends.Blocked
 sender_waits = refl
 
-greatest_waits : top_of (channel_at two_wait 1).messages ≡ Some 14
+greatest_waits : top_of (channel_in_place two_wait 1).messages ≡ Some 14
 greatest_waits = refl
 
 client_is_freed : (reply two_wait 0).answer ≡ replies.Freed 2
@@ -65,7 +65,7 @@ again = (send (receive (reply two_wait 0).state 0).state 2 12).state
 higher_comes_first : (receive (reply two_wait 0).state 0).answer ≡ took.Got 5
 higher_comes_first = refl
 
-lower_is_left : top_of (channel_at again 1).messages ≡ Some 12
+lower_is_left : top_of (channel_in_place again 1).messages ≡ Some 12
 lower_is_left = refl
 
 earlier_comes_first : (receive (reply again 0).state 0).answer ≡ took.Got 4

@@ -12,7 +12,7 @@ use Rattle.aps_model.specs.Messages.{first_message, higher}
 use Rattle.aps_model.specs.SchedulerState.{Message}
 use Rattle.aps_levels.specs.Levels.{level_count}
 use Rattle.aps_channel.specs.Lines.{first_of}
-use Rattle.aps_channel.specs.Queues.{Records, is_level, level_of, message_of, priority_at}
+use Rattle.aps_channel.specs.Queues.{Records, is_level, level_of_priority, message_of, priority_at}
 use Rattle.aps_channel.proofs.Counts.{one_here}
 
 some_same : (a b : ℕ) → Some a ≡ Some b → a ≡ b
@@ -50,21 +50,21 @@ higher_over p None m u e = refl
 higher_over p (Some b) m u e = ap (λ t. Some (cond t m b)) (test_lt b.priority m.priority (omega (arith, u, e)))
 
 rises : (rs : Records) (p x : ℕ) (best : Option Message) (xs : List ℕ) → ((y : ℕ) → priority_at rs y ≤ greatest_priority) → p ≤ greatest_priority → IsUnder p best
-    → ((y : ℕ) → 1 ≤ times y xs → priority_at rs y ≤ p) → first_of (filter (is_level rs (level_of p)) xs) ≡ Some x
+    → ((y : ℕ) → 1 ≤ times y xs → priority_at rs y ≤ p) → first_of (filter (is_level rs (level_of_priority p)) xs) ≡ Some x
     → fold higher best (map (message_of rs) xs) ≡ Some (message_of rs x)
 rises rs p x best [] small fits u below first = absurd cc
 rises rs p x best (y ∷ ys) small fits u below first = elim (cases_eq (priority_at rs y) p) [
   | inl e ↦
-      let at : is_level rs (level_of p) y ≡ true = test_eq (level_of (priority_at rs y)) (level_of p) (ap level_of e) in
-      let same : y ≡ x = some_same y x (sym (ap (λ t. first_of (cond t (y ∷ filter (is_level rs (level_of p)) ys) (filter (is_level rs (level_of p)) ys))) at) ∙ first) in
+      let at : is_level rs (level_of_priority p) y ≡ true = test_eq (level_of_priority (priority_at rs y)) (level_of_priority p) (ap level_of_priority e) in
+      let same : y ≡ x = some_same y x (sym (ap (λ t. first_of (cond t (y ∷ filter (is_level rs (level_of_priority p)) ys) (filter (is_level rs (level_of_priority p)) ys))) at) ∙ first) in
       ap (λ o. fold higher o (map (message_of rs) ys)) (higher_over p best (message_of rs y) u e)
       ∙ stays rs (message_of rs y) ys (λ z l. let b = below z (omega (arith, l)) in omega (arith, b, e))
       ∙ ap (λ k. Some (message_of rs k)) same
   | inr ne ↦
       let under : priority_at rs y < p = let b = below y (one_here y ys) in omega (arith, b, ne) in
-      let not : is_level rs (level_of p) y ≡ false = test_ne (level_of (priority_at rs y)) (level_of p) (λ e. ne (let s = small y in omega (arith, e, s, fits))) in
+      let not : is_level rs (level_of_priority p) y ≡ false = test_ne (level_of_priority (priority_at rs y)) (level_of_priority p) (λ e. ne (let s = small y in omega (arith, e, s, fits))) in
       rises rs p x (higher best (message_of rs y)) ys small fits (higher_under p best (message_of rs y) u under) (λ z l. below z (omega (arith, l)))
-      (sym (ap (λ t. first_of (cond t (y ∷ filter (is_level rs (level_of p)) ys) (filter (is_level rs (level_of p)) ys))) not) ∙ first)
+      (sym (ap (λ t. first_of (cond t (y ∷ filter (is_level rs (level_of_priority p)) ys) (filter (is_level rs (level_of_priority p)) ys))) not) ∙ first)
 ]
 
 -- nobody passes a test that leaves nobody
@@ -86,13 +86,13 @@ pub first_is : (rs : Records) (level x : ℕ) (xs : List ℕ) → ((y : ℕ) →
     → first_message (map (message_of rs) xs) ≡ Some (message_of rs x)
 first_is rs level x xs small lt earlier first =
     let p : ℕ = greatest_priority - level in
-    let is : level_of p ≡ level = omega (arith, lt) in
+    let is : level_of_priority p ≡ level = omega (arith, lt) in
     rises rs p x None xs small (omega arith) tt below (subst (λ k. first_of (filter (is_level rs k) xs) ≡ Some x) (sym is) first)
   where
     below : (y : ℕ) → 1 ≤ times y xs → priority_at rs y ≤ greatest_priority - level
-    below y l = elim (cases_lt (level_of (priority_at rs y)) level) [
+    below y l = elim (cases_lt (level_of_priority (priority_at rs y)) level) [
       | inl less ↦
-          absurd (differ (none_pass (is_level rs (level_of (priority_at rs y))) xs y (earlier (level_of (priority_at rs y)) less) l) (test_eq (level_of (priority_at rs y)) (level_of (priority_at rs y)) refl))
+          absurd (differ (none_pass (is_level rs (level_of_priority (priority_at rs y))) xs y (earlier (level_of_priority (priority_at rs y)) less) l) (test_eq (level_of_priority (priority_at rs y)) (level_of_priority (priority_at rs y)) refl))
       | inr more ↦ let s = small y in omega (arith, more, s)
     ]
       where
@@ -103,7 +103,7 @@ first_is rs level x xs small lt earlier first =
 pub first_none : (rs : Records) (xs : List ℕ) → ((k : ℕ) → k < level_count → is_some (first_of (filter (is_level rs k) xs)) ≡ false) → first_message (map (message_of rs) xs) ≡ None
 first_none rs [] none = refl
 first_none rs (x ∷ xs) none =
-    absurd (differ (none_pass (is_level rs (level_of (priority_at rs x))) (x ∷ xs) x (none (level_of (priority_at rs x)) (omega arith)) (one_here x xs)) (test_eq (level_of (priority_at rs x)) (level_of (priority_at rs x)) refl))
+    absurd (differ (none_pass (is_level rs (level_of_priority (priority_at rs x))) (x ∷ xs) x (none (level_of_priority (priority_at rs x)) (omega arith)) (one_here x xs)) (test_eq (level_of_priority (priority_at rs x)) (level_of_priority (priority_at rs x)) refl))
   where
     differ : {t : Bool} → t ≡ false → t ≡ true → ⊥
     differ {t} p q = cc

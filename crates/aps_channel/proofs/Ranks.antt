@@ -8,42 +8,42 @@ use Rattle.laws_runs.proofs.WaitFacts.{test_eq, test_ne}
 use Rattle.laws_runs.proofs.WaitMoves.{times-append}
 use Rattle.aps_channel.specs.declared.links.Ends.{Ends}
 use Rattle.aps_channel.specs.declared.links.Link.{Link}
-use Rattle.aps_channel.specs.Lines.{AreApart, IsInNone, Lines, first_of, line_at, with_line, without}
-use Rattle.aps_channel.specs.Links.{AreLines, IsLine, IsLinked, end_removed, ends_at, ends_pushed, ends_removed, is_at, last_or, line_of, lines_of, link_at, links_pushed, links_removed, no_ends, no_link, one_or, walk}
+use Rattle.aps_channel.specs.Lines.{AreLinesApart, IsInNone, Lines, first_of, queue_line_at, with_line, without}
+use Rattle.aps_channel.specs.Links.{AreLines, IsLinkedLine, IsLinkedFrom, end_removed, ends_at, ends_pushed, ends_removed, is_this_number, last_or, line_along_links, lines_of, link_at, links_pushed, links_removed, no_ends, no_link, one_or, walk}
 use Rattle.aps_channel.proofs.Chains.{IsPushed, IsUnlinked, first_without, last-pushed, last_in, last_without, linked_pushed, linked_same, linked_without, unlinked, walk_linked}
 use Rattle.aps_channel.proofs.Counts.{few_distinct, times-without, zero_test}
 use Rattle.aps_channel.proofs.Writes.{HasLink, length-pushed, length-removed, pushed, removed}
 
 pub length-lines : (links : List Link) (ends : List Ends) → length (lines_of links ends) ≡ length ends
-length-lines links ends = length-map ends (line_of links)
+length-lines links ends = length-map ends (line_along_links links)
 
 -- a line is what its ends and links say
-walk_line : (links : List Link) (e : Ends) (xs : List ℕ) → IsLine links e xs → line_of links e ≡ xs
+walk_line : (links : List Link) (e : Ends) (xs : List ℕ) → IsLinkedLine links e xs → line_along_links links e ≡ xs
 walk_line links e xs is =
     ap (walk links (length links)) is.first ∙ walk_linked links None xs (length links) (few_distinct (length links) xs is.within is.once) is.linked
 
-line_there : (links : List Link) (ends : List Ends) (q : ℕ) → q < length ends → line_at (lines_of links ends) q ≡ line_of links (ends_at ends q)
-line_there links ends q lt = get_or-map (line_of links) ends q no_ends [] lt
+line_there : (links : List Link) (ends : List Ends) (q : ℕ) → q < length ends → queue_line_at (lines_of links ends) q ≡ line_along_links links (ends_at ends q)
+line_there links ends q lt = get_or-map (line_along_links links) ends q no_ends [] lt
 
-none_past : (links : List Link) (ends : List Ends) (q x : ℕ) → length ends ≤ q → times x (line_at (lines_of links ends) q) ≡ 0
+none_past : (links : List Link) (ends : List Ends) (q x : ℕ) → length ends ≤ q → times x (queue_line_at (lines_of links ends) q) ≡ 0
 none_past links ends q x past = ap (times x) (get_or_past (lines_of links ends) q [] (omega (arith, past, length-lines links ends)))
 
 -- a change of one line, which leaves the links of all others
 pub record IsMoved (links links' : List Link) (ends : List Ends) (q : ℕ) (e : Ends) (xs : List ℕ) : Type 0 where
   pub lt : q < length ends
   pub size : length links' ≡ length links
-  pub line : IsLine links' e xs
-  pub same : (r y : ℕ) → r < length ends → r ≢ q → 1 ≤ times y (line_at (lines_of links ends) r) → link_at links' y ≡ link_at links y
-  pub apart : (r y : ℕ) → r < length ends → r ≢ q → 1 ≤ times y xs → times y (line_at (lines_of links ends) r) ≡ 0
+  pub line : IsLinkedLine links' e xs
+  pub same : (r y : ℕ) → r < length ends → r ≢ q → 1 ≤ times y (queue_line_at (lines_of links ends) r) → link_at links' y ≡ link_at links y
+  pub apart : (r y : ℕ) → r < length ends → r ≢ q → 1 ≤ times y xs → times y (queue_line_at (lines_of links ends) r) ≡ 0
 
 other_line : (links links' : List Link) (ends : List Ends) (q r : ℕ) (e : Ends) (xs : List ℕ) → AreLines links ends → IsMoved links links' ends q e xs → r < length ends → r ≢ q
-    → IsLine links' (ends_at ends r) (line_at (lines_of links ends) r)
+    → IsLinkedLine links' (ends_at ends r) (queue_line_at (lines_of links ends) r)
 other_line links links' ends q r e xs are m lt ne =
     let old = are.each r lt in
     record {
       first = old.first;
       last = old.last;
-      linked = linked_same links links' None (line_at (lines_of links ends) r) (λ y l. m.same r y lt ne l) old.linked;
+      linked = linked_same links links' None (queue_line_at (lines_of links ends) r) (λ y l. m.same r y lt ne l) old.linked;
       within = λ x l. subst (λ n. x < n) (sym m.size) (old.within x l);
       once = old.once;
     }
@@ -59,16 +59,16 @@ lines_moved links links' ends q e xs are m =
     each k d lt = elim (cases_eq k q) [
       | inl is ↦
           subst (λ j. get_or (lines_of links' (slice_set ends q e)) j d ≡ get_or (slice_set (lines_of links ends) q xs) j d) (sym is)
-          (get_or-map (line_of links') (slice_set ends q e) q no_ends d (subst (λ n. q < n) (sym (length-set ends q e)) m.lt)
-          ∙ ap (line_of links') (get_or-set_same ends q e no_ends m.lt)
+          (get_or-map (line_along_links links') (slice_set ends q e) q no_ends d (subst (λ n. q < n) (sym (length-set ends q e)) m.lt)
+          ∙ ap (line_along_links links') (get_or-set_same ends q e no_ends m.lt)
           ∙ walk_line links' e xs m.line
           ∙ sym (get_or-set_same (lines_of links ends) q xs d (subst (λ n. q < n) (sym (length-lines links ends)) m.lt)))
       | inr ne ↦
-          get_or-map (line_of links') (slice_set ends q e) k no_ends d (subst (λ n. k < n) (sym (length-set ends q e)) lt)
-          ∙ ap (line_of links') (get_or-set_other ends q k e no_ends ne)
-          ∙ walk_line links' (ends_at ends k) (line_at (lines_of links ends) k) (other_line links links' ends q k e xs are m lt ne)
+          get_or-map (line_along_links links') (slice_set ends q e) k no_ends d (subst (λ n. k < n) (sym (length-set ends q e)) lt)
+          ∙ ap (line_along_links links') (get_or-set_other ends q k e no_ends ne)
+          ∙ walk_line links' (ends_at ends k) (queue_line_at (lines_of links ends) k) (other_line links links' ends q k e xs are m lt ne)
           ∙ line_there links ends k lt
-          ∙ sym (get_or-set_other (lines_of links ends) q k xs d ne ∙ get_or-map (line_of links) ends k no_ends d lt)
+          ∙ sym (get_or-set_other (lines_of links ends) q k xs d ne ∙ get_or-map (line_along_links links) ends k no_ends d lt)
     ]
 
 pub are_moved : (links links' : List Link) (ends : List Ends) (q : ℕ) (e : Ends) (xs : List ℕ) → AreLines links ends → IsMoved links links' ends q e xs
@@ -81,43 +81,43 @@ are_moved links links' ends q e xs are m = record {
     old : List (List ℕ)
     old = lines_of links ends
 
-    here : line_at (lines_of links' (slice_set ends q e)) q ≡ xs
+    here : queue_line_at (lines_of links' (slice_set ends q e)) q ≡ xs
     here =
-        ap (λ ls. line_at ls q) (lines_moved links links' ends q e xs are m)
+        ap (λ ls. queue_line_at ls q) (lines_moved links links' ends q e xs are m)
         ∙ get_or-set_same (lines_of links ends) q xs [] (subst (λ n. q < n) (sym (length-lines links ends)) m.lt)
 
-    there : (r : ℕ) → r ≢ q → line_at (lines_of links' (slice_set ends q e)) r ≡ line_at (lines_of links ends) r
+    there : (r : ℕ) → r ≢ q → queue_line_at (lines_of links' (slice_set ends q e)) r ≡ queue_line_at (lines_of links ends) r
     there r ne =
-        ap (λ ls. line_at ls r) (lines_moved links links' ends q e xs are m) ∙ get_or-set_other (lines_of links ends) q r xs [] ne
+        ap (λ ls. queue_line_at ls r) (lines_moved links links' ends q e xs are m) ∙ get_or-set_other (lines_of links ends) q r xs [] ne
 
-    each : (r : ℕ) → r < length ends → IsLine links' (ends_at (slice_set ends q e) r) (line_at (lines_of links' (slice_set ends q e)) r)
+    each : (r : ℕ) → r < length ends → IsLinkedLine links' (ends_at (slice_set ends q e) r) (queue_line_at (lines_of links' (slice_set ends q e)) r)
     each r lt = elim (cases_eq r q) [
       | inl is ↦
-          subst (λ j. IsLine links' (ends_at (slice_set ends q e) j) (line_at (lines_of links' (slice_set ends q e)) j)) (sym is)
-          (subst (λ f. IsLine links' f (line_at (lines_of links' (slice_set ends q e)) q)) (sym (get_or-set_same ends q e no_ends m.lt))
-          (subst (IsLine links' e) (sym here) m.line))
+          subst (λ j. IsLinkedLine links' (ends_at (slice_set ends q e) j) (queue_line_at (lines_of links' (slice_set ends q e)) j)) (sym is)
+          (subst (λ f. IsLinkedLine links' f (queue_line_at (lines_of links' (slice_set ends q e)) q)) (sym (get_or-set_same ends q e no_ends m.lt))
+          (subst (IsLinkedLine links' e) (sym here) m.line))
       | inr ne ↦
-          subst (λ f. IsLine links' f (line_at (lines_of links' (slice_set ends q e)) r)) (sym (get_or-set_other ends q r e no_ends ne))
-          (subst (IsLine links' (ends_at ends r)) (sym (there r ne)) (other_line links links' ends q r e xs are m lt ne))
+          subst (λ f. IsLinkedLine links' f (queue_line_at (lines_of links' (slice_set ends q e)) r)) (sym (get_or-set_other ends q r e no_ends ne))
+          (subst (IsLinkedLine links' (ends_at ends r)) (sym (there r ne)) (other_line links links' ends q r e xs are m lt ne))
     ]
 
-    apart : (r t x : ℕ) → r < length ends → t < length ends → r ≢ t → 1 ≤ times x (line_at (lines_of links' (slice_set ends q e)) r)
-        → times x (line_at (lines_of links' (slice_set ends q e)) t) ≡ 0
+    apart : (r t x : ℕ) → r < length ends → t < length ends → r ≢ t → 1 ≤ times x (queue_line_at (lines_of links' (slice_set ends q e)) r)
+        → times x (queue_line_at (lines_of links' (slice_set ends q e)) t) ≡ 0
     apart r t x ltr ltt ne l = elim (cases_eq r q) [
       | inl is ↦
           let tq : t ≢ q = λ same. ne (is ∙ sym same) in
-          let at_q : 1 ≤ times x xs = subst (λ ys. 1 ≤ times x ys) here (subst (λ j. 1 ≤ times x (line_at (lines_of links' (slice_set ends q e)) j)) is l) in
+          let at_q : 1 ≤ times x xs = subst (λ ys. 1 ≤ times x ys) here (subst (λ j. 1 ≤ times x (queue_line_at (lines_of links' (slice_set ends q e)) j)) is l) in
           ap (times x) (there t tq) ∙ m.apart t x ltt tq at_q
       | inr rq ↦
-          let at_r : 1 ≤ times x (line_at (lines_of links ends) r) = subst (λ ys. 1 ≤ times x ys) (there r rq) l in
+          let at_r : 1 ≤ times x (queue_line_at (lines_of links ends) r) = subst (λ ys. 1 ≤ times x ys) (there r rq) l in
           elim (cases_eq t q) [
             | inl is ↦
-                subst (λ j. times x (line_at (lines_of links' (slice_set ends q e)) j) ≡ 0) (sym is) (ap (times x) here ∙ not_both (times x xs) (λ some. m.apart r x ltr rq some) at_r)
+                subst (λ j. times x (queue_line_at (lines_of links' (slice_set ends q e)) j) ≡ 0) (sym is) (ap (times x) here ∙ not_both (times x xs) (λ some. m.apart r x ltr rq some) at_r)
             | inr tq ↦ ap (times x) (there t tq) ∙ are.apart r t x ltr ltt ne at_r
           ]
     ]
       where
-        not_both : (n : ℕ) → (1 ≤ n → times x (line_at (lines_of links ends) r) ≡ 0) → 1 ≤ times x (line_at (lines_of links ends) r) → n ≡ 0
+        not_both : (n : ℕ) → (1 ≤ n → times x (queue_line_at (lines_of links ends) r) ≡ 0) → 1 ≤ times x (queue_line_at (lines_of links ends) r) → n ≡ 0
         not_both n f k = elim (cases_eq n 0) [
           | inl z ↦ z
           | inr nz ↦ absurd (let z = f (omega (arith, nz)) in omega (arith, z, k))
@@ -125,14 +125,14 @@ are_moved links links' ends q e xs are m = record {
 
 -- ---- a number joins a line
 
-last_within : (links : List Link) (e : Ends) (xs : List ℕ) → IsLine links e xs → (w : ℕ) → e.last ≡ Some w → 1 ≤ times w xs
+last_within : (links : List Link) (e : Ends) (xs : List ℕ) → IsLinkedLine links e xs → (w : ℕ) → e.last ≡ Some w → 1 ≤ times w xs
 last_within links e xs is w at = by_list xs (sym is.last ∙ at)
   where
     by_list : (ys : List ℕ) → last_or None ys ≡ Some w → 1 ≤ times w ys
     by_list [] n = absurd cc
     by_list (y ∷ ys) n = last_in y ys w n
 
-not_last : (o : Option ℕ) (x : ℕ) (xs : List ℕ) → ((w : ℕ) → o ≡ Some w → 1 ≤ times w xs) → times x xs ≡ 0 → is_at o x ≡ false
+not_last : (o : Option ℕ) (x : ℕ) (xs : List ℕ) → ((w : ℕ) → o ≡ Some w → 1 ≤ times w xs) → times x xs ≡ 0 → is_this_number o x ≡ false
 not_last None x xs f none = refl
 not_last (Some w) x xs f none = elim (cases_eq w x) [
   | inl e ↦ absurd (let l = subst (λ k. 1 ≤ times k xs) e (f w refl) in omega (arith, l, none))
@@ -144,11 +144,11 @@ first-pushed [] x = refl
 first-pushed (y ∷ ys) x = refl
 
 pub moved_by_push : (links : List Link) (ends : List Ends) (q x : ℕ) → AreLines links ends → q < length ends → x < length links
-    → ((r : ℕ) → times x (line_at (lines_of links ends) r) ≡ 0)
-    → IsMoved links (links_pushed links (ends_at ends q).last x) ends q (ends_pushed (ends_at ends q) x) (line_at (lines_of links ends) q ++ x ∷ [])
+    → ((r : ℕ) → times x (queue_line_at (lines_of links ends) r) ≡ 0)
+    → IsMoved links (links_pushed links (ends_at ends q).last x) ends q (ends_pushed (ends_at ends q) x) (queue_line_at (lines_of links ends) q ++ x ∷ [])
 moved_by_push links ends q x are lt ltx none =
     let e = ends_at ends q in
-    let xs = line_at (lines_of links ends) q in
+    let xs = queue_line_at (lines_of links ends) q in
     let is = are.each q lt in
     let has : HasLink e.last (length links) = λ w at. is.within w (last_within links e xs is w at) in
     let links' = links_pushed links e.last x in
@@ -165,13 +165,13 @@ moved_by_push links ends q x are lt ltx none =
       };
       same = λ r y ltr ne l. p.others y (λ same. not_here r y l same) (λ at. let z = are.apart q r y lt ltr (λ s. ne (sym s)) (last_within links e xs is y at) in omega (arith, z, l));
       apart = λ r y ltr ne l. elim (cases_eq x y) [
-        | inl s ↦ subst (λ k. times k (line_at (lines_of links ends) r) ≡ 0) s (none r)
+        | inl s ↦ subst (λ k. times k (queue_line_at (lines_of links ends) r) ≡ 0) s (none r)
         | inr d ↦ are.apart q r y lt ltr (λ s. ne (sym s)) (let a = times-append y x xs in omega (arith, l, a, ap one_if (test_ne x y d)))
       ];
     }
   where
-    not_here : (r y : ℕ) → 1 ≤ times y (line_at (lines_of links ends) r) → y ≡ x → ⊥
-    not_here r y l same = let z = subst (λ k. 1 ≤ times k (line_at (lines_of links ends) r)) same l in omega (arith, z, none r)
+    not_here : (r y : ℕ) → 1 ≤ times y (queue_line_at (lines_of links ends) r) → y ≡ x → ⊥
+    not_here r y l same = let z = subst (λ k. 1 ≤ times k (queue_line_at (lines_of links ends) r)) same l in omega (arith, z, none r)
 
     within_pushed : (xs : List ℕ) (y : ℕ) → ((w : ℕ) → 1 ≤ times w xs → w < length links) → 1 ≤ times y (xs ++ x ∷ []) → y < length (links_pushed links (ends_at ends q).last x)
     within_pushed xs y f l = subst (λ n. y < n) (sym (length-pushed links (ends_at ends q).last x)) (elim (cases_eq x y) [
@@ -187,7 +187,7 @@ moved_by_push links ends q x are lt ltx none =
 
 -- ---- a number leaves its line
 
-before_in : (links : List Link) (x w : ℕ) (before : Option ℕ) (xs : List ℕ) → IsLinked links before xs → 1 ≤ times x xs → (link_at links x).before ≡ Some w
+before_in : (links : List Link) (x w : ℕ) (before : Option ℕ) (xs : List ℕ) → IsLinkedFrom links before xs → 1 ≤ times x xs → (link_at links x).before ≡ Some w
     → ((v : ℕ) → before ≡ Some v → v ≡ w → ⊥) → 1 ≤ times w xs
 before_in links x w before [] h some at outer = absurd (omega (arith, some))
 before_in links x w before (y ∷ ys) h some at outer = elim (cases_eq y x) [
@@ -203,7 +203,7 @@ before_in links x w before (y ∷ ys) h some at outer = elim (cases_eq y x) [
     some_same : (a b : ℕ) → Some a ≡ Some b → a ≡ b
     some_same a b e = cc
 
-after_in : (links : List Link) (x w : ℕ) (before : Option ℕ) (xs : List ℕ) → IsLinked links before xs → 1 ≤ times x xs → (link_at links x).after ≡ Some w → 1 ≤ times w xs
+after_in : (links : List Link) (x w : ℕ) (before : Option ℕ) (xs : List ℕ) → IsLinkedFrom links before xs → 1 ≤ times x xs → (link_at links x).after ≡ Some w → 1 ≤ times w xs
 after_in links x w before [] h some at = absurd (omega (arith, some))
 after_in links x w before (y ∷ ys) h some at = elim (cases_eq y x) [
   | inl e ↦
@@ -219,11 +219,11 @@ after_in links x w before (y ∷ ys) h some at = elim (cases_eq y x) [
     in_list [] b = absurd cc
     in_list (z ∷ zs) b = omega (arith, ap one_if (test_eq z w (some_same z w b)))
 
-pub moved_by_removal : (links : List Link) (ends : List Ends) (q x : ℕ) → AreLines links ends → q < length ends → 1 ≤ times x (line_at (lines_of links ends) q)
-    → IsMoved links (links_removed links (link_at links x)) ends q (ends_removed (ends_at ends q) (link_at links x)) (without x (line_at (lines_of links ends) q))
+pub moved_by_removal : (links : List Link) (ends : List Ends) (q x : ℕ) → AreLines links ends → q < length ends → 1 ≤ times x (queue_line_at (lines_of links ends) q)
+    → IsMoved links (links_removed links (link_at links x)) ends q (ends_removed (ends_at ends q) (link_at links x)) (without x (queue_line_at (lines_of links ends) q))
 moved_by_removal links ends q x are lt some =
     let e = ends_at ends q in
-    let xs = line_at (lines_of links ends) q in
+    let xs = queue_line_at (lines_of links ends) q in
     let l = link_at links x in
     let is = are.each q lt in
     let in_before : (w : ℕ) → l.before ≡ Some w → 1 ≤ times w xs = λ w at. before_in links x w None xs is.linked some at (λ v b s. cc) in
@@ -242,7 +242,7 @@ moved_by_removal links ends q x are lt some =
       };
       same = λ r y ltr ne k.
           let foreign : times y xs ≡ 0 = are_zero (times y xs) (λ more. are.apart q r y lt ltr (λ s. ne (sym s)) more) k in
-          u.at y ∙ kept (is_at l.after y) (is_at l.before y) l (link_at links y) (not_last l.after y xs in_after foreign) (not_last l.before y xs in_before foreign);
+          u.at y ∙ kept (is_this_number l.after y) (is_this_number l.before y) l (link_at links y) (not_last l.after y xs in_after foreign) (not_last l.before y xs in_before foreign);
       apart = λ r y ltr ne k. are.apart q r y lt ltr (λ s. ne (sym s)) (let a = times-without y x xs some in omega (arith, a, k));
     }
   where
@@ -265,11 +265,11 @@ pub record AreLeft (links : List Link) (ends : List Ends) (expected : List (List
   pub numbers : length links ≡ room
 
 pub left_by_push : (links links' : List Link) (ends : List Ends) (e e' : Ends) (q x : ℕ) → AreLines links ends → q < length ends → x < length links
-    → ((r : ℕ) → times x (line_at (lines_of links ends) r) ≡ 0) → e ≡ ends_at ends q → links' ≡ links_pushed links e.last x → e' ≡ ends_pushed e x
-    → AreLeft links' (slice_set ends q e') (slice_set (lines_of links ends) q (line_at (lines_of links ends) q ++ x ∷ [])) (length links)
+    → ((r : ℕ) → times x (queue_line_at (lines_of links ends) r) ≡ 0) → e ≡ ends_at ends q → links' ≡ links_pushed links e.last x → e' ≡ ends_pushed e x
+    → AreLeft links' (slice_set ends q e') (slice_set (lines_of links ends) q (queue_line_at (lines_of links ends) q ++ x ∷ [])) (length links)
 left_by_push links links' ends e e' q x are lt ltx none is l f =
     let old = ends_at ends q in
-    let xs = line_at (lines_of links ends) q ++ x ∷ [] in
+    let xs = queue_line_at (lines_of links ends) q ++ x ∷ [] in
     let m = moved_by_push links ends q x are lt ltx none in
     let l' : links' ≡ links_pushed links old.last x = l ∙ ap (λ (g : Ends). links_pushed links g.last x) is in
     let f' : e' ≡ ends_pushed old x = f ∙ ap (λ (g : Ends). ends_pushed g x) is in
@@ -278,12 +278,12 @@ left_by_push links links' ends e e' q x are lt ltx none is l f =
     (record { are = are_moved links (links_pushed links old.last x) ends q (ends_pushed old x) xs are m; lines = lines_moved links (links_pushed links old.last x) ends q (ends_pushed old x) xs are m; numbers = m.size }))
 
 pub left_by_removal : (links links' : List Link) (ends : List Ends) (e e' : Ends) (l : Link) (q x : ℕ) → AreLines links ends → q < length ends
-    → 1 ≤ times x (line_at (lines_of links ends) q) → e ≡ ends_at ends q → l ≡ link_at links x → links' ≡ links_removed links l → e' ≡ ends_removed e l
-    → AreLeft links' (slice_set ends q e') (slice_set (lines_of links ends) q (without x (line_at (lines_of links ends) q))) (length links)
+    → 1 ≤ times x (queue_line_at (lines_of links ends) q) → e ≡ ends_at ends q → l ≡ link_at links x → links' ≡ links_removed links l → e' ≡ ends_removed e l
+    → AreLeft links' (slice_set ends q e') (slice_set (lines_of links ends) q (without x (queue_line_at (lines_of links ends) q))) (length links)
 left_by_removal links links' ends e e' l q x are lt some is isl w f =
     let old = ends_at ends q in
     let k = link_at links x in
-    let xs = without x (line_at (lines_of links ends) q) in
+    let xs = without x (queue_line_at (lines_of links ends) q) in
     let m = moved_by_removal links ends q x are lt some in
     let l' : links' ≡ links_removed links k = w ∙ ap (links_removed links) isl in
     let f' : e' ≡ ends_removed old k = f ∙ ap (λ (g : Ends). ends_removed g l) is ∙ ap (ends_removed old) isl in
@@ -295,19 +295,19 @@ left_by_removal links links' ends e e' l q x are lt some is isl w f =
 pub ends_within : (links : List Link) (ends : List Ends) (q : ℕ) → AreLines links ends → q < length ends → HasLink (ends_at ends q).last (length links)
 ends_within links ends q are lt w at =
     let is = are.each q lt in
-    is.within w (last_within links (ends_at ends q) (line_at (lines_of links ends) q) is w at)
+    is.within w (last_within links (ends_at ends q) (queue_line_at (lines_of links ends) q) is w at)
 
-pub before_within : (links : List Link) (ends : List Ends) (q x : ℕ) → AreLines links ends → q < length ends → 1 ≤ times x (line_at (lines_of links ends) q)
+pub before_within : (links : List Link) (ends : List Ends) (q x : ℕ) → AreLines links ends → q < length ends → 1 ≤ times x (queue_line_at (lines_of links ends) q)
     → HasLink (link_at links x).before (length links)
 before_within links ends q x are lt some w at =
     let is = are.each q lt in
-    is.within w (before_in links x w None (line_at (lines_of links ends) q) is.linked some at (λ v b s. cc))
+    is.within w (before_in links x w None (queue_line_at (lines_of links ends) q) is.linked some at (λ v b s. cc))
 
-pub after_within : (links : List Link) (ends : List Ends) (q x : ℕ) → AreLines links ends → q < length ends → 1 ≤ times x (line_at (lines_of links ends) q)
+pub after_within : (links : List Link) (ends : List Ends) (q x : ℕ) → AreLines links ends → q < length ends → 1 ≤ times x (queue_line_at (lines_of links ends) q)
     → HasLink (link_at links x).after (length links)
 after_within links ends q x are lt some w at =
     let is = are.each q lt in
-    is.within w (after_in links x w None (line_at (lines_of links ends) q) is.linked some at)
+    is.within w (after_in links x w None (queue_line_at (lines_of links ends) q) is.linked some at)
 
 pub if_some : (o : Option ℕ) (n : ℕ) → HasLink o n → IfSome o (λ x. x < n)
 if_some None n has = tt
@@ -331,24 +331,24 @@ left_at_opening links lines = record {
   where
     read : (k : ℕ) (d : List ℕ) → k < lines → get_or (lines_of links (replicate lines no_ends)) k d ≡ []
     read k d lt =
-        get_or-map (line_of links) (replicate lines no_ends) k no_ends d (subst (λ n. k < n) (sym (length-replicate lines no_ends)) lt)
-        ∙ ap (line_of links) (get_or-replicate lines k no_ends no_ends lt)
+        get_or-map (line_along_links links) (replicate lines no_ends) k no_ends d (subst (λ n. k < n) (sym (length-replicate lines no_ends)) lt)
+        ∙ ap (line_along_links links) (get_or-replicate lines k no_ends no_ends lt)
         ∙ walk_none links (length links)
 
-    empty : (k : ℕ) → k < lines → line_at (lines_of links (replicate lines no_ends)) k ≡ []
+    empty : (k : ℕ) → k < lines → queue_line_at (lines_of links (replicate lines no_ends)) k ≡ []
     empty k lt = read k [] lt
 
-    each : (q : ℕ) → q < length (replicate lines no_ends) → IsLine links (ends_at (replicate lines no_ends) q) (line_at (lines_of links (replicate lines no_ends)) q)
+    each : (q : ℕ) → q < length (replicate lines no_ends) → IsLinkedLine links (ends_at (replicate lines no_ends) q) (queue_line_at (lines_of links (replicate lines no_ends)) q)
     each q ltq =
         let lt : q < lines = subst (λ n. q < n) (length-replicate lines no_ends) ltq in
-        subst (λ e. IsLine links e (line_at (lines_of links (replicate lines no_ends)) q)) (sym (get_or-replicate lines q no_ends no_ends lt))
-        (subst (IsLine links no_ends) (sym (empty q lt))
+        subst (λ e. IsLinkedLine links e (queue_line_at (lines_of links (replicate lines no_ends)) q)) (sym (get_or-replicate lines q no_ends no_ends lt))
+        (subst (IsLinkedLine links no_ends) (sym (empty q lt))
         (record { first = refl; last = refl; linked = tt; within = λ x l. absurd (omega (arith, l)); once = λ x. omega arith }))
 
 pub same_lines : {ls ls' : List (List ℕ)} {n n' : ℕ} → ls ≡ ls' → n ≡ n' → ◌≡◌ {A = Lines} (record { lines = ls; numbers = n }) (record { lines = ls'; numbers = n' })
 same_lines {ls} {ls'} {n} {n'} e f = cc
 
-pub stands_within : (links : List Link) (ends : List Ends) (q x : ℕ) → AreLines links ends → q < length ends → 1 ≤ times x (line_at (lines_of links ends) q) → x < length links
+pub stands_within : (links : List Link) (ends : List Ends) (q x : ℕ) → AreLines links ends → q < length ends → 1 ≤ times x (queue_line_at (lines_of links ends) q) → x < length links
 stands_within links ends q x are lt some = (are.each q lt).within x some
 
 -- ---- the same of what contracts see
@@ -362,8 +362,8 @@ line_below links ends s q is lt = subst (λ n. q < n) (length-lines links ends) 
 pub number_below : (links : List Link) (ends : List Ends) (s : Lines) (x : ℕ) → seen links ends ≡ s → x < s.numbers → x < length links
 number_below links ends s x is lt = subst (λ (t : Lines). x < t.numbers) (sym is) lt
 
-pub stands_seen : (links : List Link) (ends : List Ends) (s : Lines) (q x : ℕ) → seen links ends ≡ s → 1 ≤ times x (line_at s.lines q) → 1 ≤ times x (line_at (lines_of links ends) q)
-stands_seen links ends s q x is some = subst (λ (t : Lines). 1 ≤ times x (line_at t.lines q)) (sym is) some
+pub stands_seen : (links : List Link) (ends : List Ends) (s : Lines) (q x : ℕ) → seen links ends ≡ s → 1 ≤ times x (queue_line_at s.lines q) → 1 ≤ times x (queue_line_at (lines_of links ends) q)
+stands_seen links ends s q x is some = subst (λ (t : Lines). 1 ≤ times x (queue_line_at t.lines q)) (sym is) some
 
 -- what is kept, and what is seen
 pub record AreSeen (links : List Link) (ends : List Ends) (s : Lines) : Type 0 where
@@ -372,24 +372,24 @@ pub record AreSeen (links : List Link) (ends : List Ends) (s : Lines) : Type 0 w
 
 pub seen_pushed : (links links' : List Link) (ends : List Ends) (e e' : Ends) (q x : ℕ) (s : Lines) → AreLines links ends → seen links ends ≡ s → q < length s.lines → x < s.numbers
     → IsInNone s x → e ≡ get_or ends q e → links' ≡ links_pushed links e.last x → e' ≡ ends_pushed e x
-    → AreSeen links' (slice_set ends q e') (with_line s q (line_at s.lines q ++ x ∷ []))
+    → AreSeen links' (slice_set ends q e') (with_line s q (queue_line_at s.lines q ++ x ∷ []))
 seen_pushed links links' ends e e' q x s are is lt ltx none read l f =
     let lt' = line_below links ends s q is lt in
     let left =
-    left_by_push links links' ends e e' q x are lt' (number_below links ends s x is ltx) (subst (λ (t : Lines). (r : ℕ) → times x (line_at t.lines r) ≡ 0) (sym is) none)
+    left_by_push links links' ends e e' q x are lt' (number_below links ends s x is ltx) (subst (λ (t : Lines). (r : ℕ) → times x (queue_line_at t.lines r) ≡ 0) (sym is) none)
     (get_or_read ends q e lt' read no_ends) l f in
-    record { are = left.are; same = subst (λ (t : Lines). seen links' (slice_set ends q e') ≡ with_line t q (line_at t.lines q ++ x ∷ [])) is (same_lines left.lines left.numbers) }
+    record { are = left.are; same = subst (λ (t : Lines). seen links' (slice_set ends q e') ≡ with_line t q (queue_line_at t.lines q ++ x ∷ [])) is (same_lines left.lines left.numbers) }
 
 pub seen_removed : (links links' : List Link) (ends : List Ends) (e e' : Ends) (l : Link) (q x : ℕ) (s : Lines) → AreLines links ends → seen links ends ≡ s → q < length s.lines
-    → 1 ≤ times x (line_at s.lines q) → e ≡ get_or ends q e → l ≡ get_or links x l → links' ≡ links_removed links l → e' ≡ ends_removed e l
-    → AreSeen links' (slice_set ends q e') (with_line s q (without x (line_at s.lines q)))
+    → 1 ≤ times x (queue_line_at s.lines q) → e ≡ get_or ends q e → l ≡ get_or links x l → links' ≡ links_removed links l → e' ≡ ends_removed e l
+    → AreSeen links' (slice_set ends q e') (with_line s q (without x (queue_line_at s.lines q)))
 seen_removed links links' ends e e' l q x s are is lt some read readl w f =
     let lt' = line_below links ends s q is lt in
     let some' = stands_seen links ends s q x is some in
     let left =
     left_by_removal links links' ends e e' l q x are lt' some' (get_or_read ends q e lt' read no_ends)
     (get_or_read links x l (stands_within links ends q x are lt' some') readl no_link) w f in
-    record { are = left.are; same = subst (λ (t : Lines). seen links' (slice_set ends q e') ≡ with_line t q (without x (line_at t.lines q))) is (same_lines left.lines left.numbers) }
+    record { are = left.are; same = subst (λ (t : Lines). seen links' (slice_set ends q e') ≡ with_line t q (without x (queue_line_at t.lines q))) is (same_lines left.lines left.numbers) }
 
 pub last_has_link : (links : List Link) (ends : List Ends) (e : Ends) (q : ℕ) (s : Lines) → AreLines links ends → seen links ends ≡ s → q < length s.lines → e ≡ get_or ends q e
     → IfSome e.last (λ x. x < length links)
@@ -402,7 +402,7 @@ pub record AreBesideLinked (l : Link) (n : ℕ) : Type 0 where
   pub after : IfSome l.after (λ x. x < n)
 
 pub sides_have_links : (links : List Link) (ends : List Ends) (l : Link) (q x : ℕ) (s : Lines) → AreLines links ends → seen links ends ≡ s → q < length s.lines
-    → 1 ≤ times x (line_at s.lines q) → l ≡ get_or links x l → AreBesideLinked l (length links)
+    → 1 ≤ times x (queue_line_at s.lines q) → l ≡ get_or links x l → AreBesideLinked l (length links)
 sides_have_links links ends l q x s are is lt some read =
     let lt' = line_below links ends s q is lt in
     let some' = stands_seen links ends s q x is some in
@@ -415,7 +415,7 @@ sides_have_links links ends l q x s are is lt some read =
 first_within : (links : List Link) (ends : List Ends) (q : ℕ) → AreLines links ends → q < length ends → HasLink (ends_at ends q).first (length links)
 first_within links ends q are lt w at =
     let is = are.each q lt in
-    is.within w (in_list (line_at (lines_of links ends) q) (sym is.first ∙ at))
+    is.within w (in_list (queue_line_at (lines_of links ends) q) (sym is.first ∙ at))
   where
     some_same : (a b : ℕ) → Some a ≡ Some b → a ≡ b
     some_same a b e = cc
@@ -431,16 +431,16 @@ first_below links ends e q s are is lt read =
     subst (λ (t : Lines). IfSome e.first (λ x. x < t.numbers)) is
     (if_some e.first (length links) (λ w at. first_within links ends q are lt' w (ap (λ (g : Ends). g.first) (sym (get_or_read ends q e lt' read no_ends)) ∙ at)))
 
-pub apart_seen : (links : List Link) (ends : List Ends) (s : Lines) → AreLines links ends → seen links ends ≡ s → AreApart s.lines
-apart_seen links ends s are is = subst (λ (t : Lines). AreApart t.lines) is (record { once = once; apart = apart })
+pub apart_seen : (links : List Link) (ends : List Ends) (s : Lines) → AreLines links ends → seen links ends ≡ s → AreLinesApart s.lines
+apart_seen links ends s are is = subst (λ (t : Lines). AreLinesApart t.lines) is (record { once = once; apart = apart })
   where
-    once : (q x : ℕ) → times x (line_at (lines_of links ends) q) ≤ 1
+    once : (q x : ℕ) → times x (queue_line_at (lines_of links ends) q) ≤ 1
     once q x = elim (cases_lt q (length ends)) [
       | inl lt ↦ (are.each q lt).once x
       | inr ge ↦ omega (arith, none_past links ends q x ge)
     ]
 
-    apart : (q r x : ℕ) → q ≢ r → 1 ≤ times x (line_at (lines_of links ends) q) → times x (line_at (lines_of links ends) r) ≡ 0
+    apart : (q r x : ℕ) → q ≢ r → 1 ≤ times x (queue_line_at (lines_of links ends) q) → times x (queue_line_at (lines_of links ends) r) ≡ 0
     apart q r x ne l = elim (cases_lt r (length ends)) [
       | inl ltr ↦ elim (cases_lt q (length ends)) [
         | inl ltq ↦ are.apart q r x ltq ltr ne l

@@ -8,7 +8,7 @@ use Rattle.laws_runs.specs.Waits.{one_if, times, times_sent}
 use Rattle.laws_runs.proofs.WaitFacts.{test_eq, test_ne}
 use Rattle.laws_runs.proofs.WaitMoves.{times-append}
 use Rattle.aps_channel.specs.declared.waiting.MessageRecord.{MessageRecord}
-use Rattle.aps_channel.specs.Lines.{IsInNone, Lines, line_at, with_line, without}
+use Rattle.aps_channel.specs.Lines.{IsInNone, Lines, queue_line_at, with_line, without}
 use Rattle.aps_channel.specs.Queues.{Records, message_in, message_of, sender_at}
 use Rattle.aps_channel.specs.Records.{AreRecords, Stands, is_kept}
 use Rattle.aps_channel.proofs.Counts.{few_distinct, one_same, times-without}
@@ -79,11 +79,11 @@ sent_by_key rs k (y ∷ ys) l = elim (cases_eq y k) [
 ]
 
 pub unsent : (arrivals : Lines) (rs : Records) (threads x : ℕ) → AreRecords arrivals rs threads
-    → ((d : ℕ) → times_sent x (map (message_of rs) (line_at arrivals.lines d)) ≡ 0) → IsUnsent rs x
+    → ((d : ℕ) → times_sent x (map (message_of rs) (queue_line_at arrivals.lines d)) ≡ 0) → IsUnsent rs x
 unsent arrivals rs threads x are free k is e =
     let at = are.stands k is in
-    let some = sent_by_key rs k (line_at arrivals.lines at.channel) at.there in
-    let none = subst (λ y. times_sent y (map (message_of rs) (line_at arrivals.lines at.channel)) ≡ 0) (sym e) (free at.channel) in
+    let some = sent_by_key rs k (queue_line_at arrivals.lines at.channel) at.there in
+    let none = subst (λ y. times_sent y (map (message_of rs) (queue_line_at arrivals.lines at.channel)) ≡ 0) (sym e) (free at.channel) in
     omega (arith, some, none)
 
 -- there is room for its message
@@ -116,26 +116,26 @@ vacant_or_kept {t} p q = cc
 
 -- a vacant key stands in no line
 pub free_key : (arrivals : Lines) (rs : Records) (threads key : ℕ) → AreRecords arrivals rs threads → get rs key ≡ None → IsInNone arrivals key
-free_key arrivals rs threads key are vacant q = elim (cases_eq (times key (line_at arrivals.lines q)) 0) [
+free_key arrivals rs threads key are vacant q = elim (cases_eq (times key (queue_line_at arrivals.lines q)) 0) [
   | inl none ↦ none
   | inr some ↦ absurd (vacant_or_kept (ap is_some vacant) (are.kept q key (omega (arith, some))))
 ]
 
 line_turned : (arrivals : Lines) (c d : ℕ) (line : List ℕ) → c < length arrivals.lines
-    → line_at (slice_set arrivals.lines c line) d ≡ cond (nat_eq d c) line (line_at arrivals.lines d)
+    → queue_line_at (slice_set arrivals.lines c line) d ≡ cond (nat_eq d c) line (queue_line_at arrivals.lines d)
 line_turned arrivals c d line lt = elim (cases_eq d c) [
   | inl e ↦
-      ap (λ k. line_at (slice_set arrivals.lines c line) k) e ∙ get_or-set_same arrivals.lines c line [] lt
-      ∙ sym (ap (λ t. cond t line (line_at arrivals.lines d)) (test_eq d c e))
-  | inr ne ↦ get_or-set_other arrivals.lines c d line [] ne ∙ sym (ap (λ t. cond t line (line_at arrivals.lines d)) (test_ne d c ne))
+      ap (λ k. queue_line_at (slice_set arrivals.lines c line) k) e ∙ get_or-set_same arrivals.lines c line [] lt
+      ∙ sym (ap (λ t. cond t line (queue_line_at arrivals.lines d)) (test_eq d c e))
+  | inr ne ↦ get_or-set_other arrivals.lines c d line [] ne ∙ sym (ap (λ t. cond t line (queue_line_at arrivals.lines d)) (test_ne d c ne))
 ]
 
 -- what is counted in a line, after another stands in its place
 times_turned : (arrivals : Lines) (c d k : ℕ) (line : List ℕ) → c < length arrivals.lines
-    → times k (line_at (slice_set arrivals.lines c line) d) ≡ cond (nat_eq d c) (times k line) (times k (line_at arrivals.lines d))
+    → times k (queue_line_at (slice_set arrivals.lines c line) d) ≡ cond (nat_eq d c) (times k line) (times k (queue_line_at arrivals.lines d))
 times_turned arrivals c d k line lt = ap (times k) (line_turned arrivals c d line lt) ∙ by_test (nat_eq d c)
   where
-    by_test : (t : Bool) → times k (cond t line (line_at arrivals.lines d)) ≡ cond t (times k line) (times k (line_at arrivals.lines d))
+    by_test : (t : Bool) → times k (cond t line (queue_line_at arrivals.lines d)) ≡ cond t (times k line) (times k (queue_line_at arrivals.lines d))
     by_test true = refl
     by_test false = refl
 
@@ -143,7 +143,7 @@ times_turned arrivals c d k line lt = ap (times k) (line_turned arrivals c d lin
 
 pub records_more : (arrivals : Lines) (rs rs' : Records) (threads c x : ℕ) (r : MessageRecord) → AreRecords arrivals rs threads → c < length arrivals.lines
     → r.sender < threads → IsUnsent rs r.sender → Updates rs rs' x (Some r) → rs'.capacity ≡ rs.capacity
-    → AreRecords (with_line arrivals c (line_at arrivals.lines c ++ x ∷ [])) rs' threads
+    → AreRecords (with_line arrivals c (queue_line_at arrivals.lines c ++ x ∷ [])) rs' threads
 records_more arrivals rs rs' threads c x r are lt small new up room = record {
   room = subst (λ n. threads ≤ n) (sym room) are.room;
   keys = subst (λ n. n ≤ arrivals.numbers) (sym room) are.keys;
@@ -181,42 +181,42 @@ records_more arrivals rs rs' threads c x r are lt small new up room = record {
       ]
     ]
 
-    line' : (d k : ℕ) → times k (line_at (slice_set arrivals.lines c (line_at arrivals.lines c ++ x ∷ [])) d)
-        ≡ cond (nat_eq d c) (times k (line_at arrivals.lines c) + one_if (nat_eq x k)) (times k (line_at arrivals.lines d))
+    line' : (d k : ℕ) → times k (queue_line_at (slice_set arrivals.lines c (queue_line_at arrivals.lines c ++ x ∷ [])) d)
+        ≡ cond (nat_eq d c) (times k (queue_line_at arrivals.lines c) + one_if (nat_eq x k)) (times k (queue_line_at arrivals.lines d))
     line' d k =
-        times_turned arrivals c d k (line_at arrivals.lines c ++ x ∷ []) lt
-        ∙ ap (λ n. cond (nat_eq d c) n (times k (line_at arrivals.lines d))) (times-append k x (line_at arrivals.lines c))
+        times_turned arrivals c d k (queue_line_at arrivals.lines c ++ x ∷ []) lt
+        ∙ ap (λ n. cond (nat_eq d c) n (times k (queue_line_at arrivals.lines d))) (times-append k x (queue_line_at arrivals.lines c))
 
-    stands : (k : ℕ) → is_kept rs' k ≡ true → Stands (with_line arrivals c (line_at arrivals.lines c ++ x ∷ [])) k
+    stands : (k : ℕ) → is_kept rs' k ≡ true → Stands (with_line arrivals c (queue_line_at arrivals.lines c ++ x ∷ [])) k
     stands k is = elim (cases_eq k x) [
       | inl e ↦ record {
         channel = c;
-        there = let l = line' c k ∙ ap (λ t. cond t (times k (line_at arrivals.lines c) + one_if (nat_eq x k)) (times k (line_at arrivals.lines c))) (test_eq c c refl) in
+        there = let l = line' c k ∙ ap (λ t. cond t (times k (queue_line_at arrivals.lines c) + one_if (nat_eq x k)) (times k (queue_line_at arrivals.lines c))) (test_eq c c refl) in
             omega (arith, l, ap one_if (test_eq x k (sym e)));
       }
       | inr ne ↦ let at = are.stands k (others k ne is) in record { channel = at.channel; there = longer at.channel k at.there }
     ]
       where
-        longer : (d k : ℕ) → 1 ≤ times k (line_at arrivals.lines d) → 1 ≤ times k (line_at (slice_set arrivals.lines c (line_at arrivals.lines c ++ x ∷ [])) d)
+        longer : (d k : ℕ) → 1 ≤ times k (queue_line_at arrivals.lines d) → 1 ≤ times k (queue_line_at (slice_set arrivals.lines c (queue_line_at arrivals.lines c ++ x ∷ [])) d)
         longer d k l = elim (cases_eq d c) [
           | inl e ↦
-              let a = line' d k ∙ ap (λ t. cond t (times k (line_at arrivals.lines c) + one_if (nat_eq x k)) (times k (line_at arrivals.lines d))) (test_eq d c e) in
-              let b = ap (λ q. times k (line_at arrivals.lines q)) e in
+              let a = line' d k ∙ ap (λ t. cond t (times k (queue_line_at arrivals.lines c) + one_if (nat_eq x k)) (times k (queue_line_at arrivals.lines d))) (test_eq d c e) in
+              let b = ap (λ q. times k (queue_line_at arrivals.lines q)) e in
               omega (arith, a, b, l)
           | inr ne ↦
-              let a = line' d k ∙ ap (λ t. cond t (times k (line_at arrivals.lines c) + one_if (nat_eq x k)) (times k (line_at arrivals.lines d))) (test_ne d c ne) in
+              let a = line' d k ∙ ap (λ t. cond t (times k (queue_line_at arrivals.lines c) + one_if (nat_eq x k)) (times k (queue_line_at arrivals.lines d))) (test_ne d c ne) in
               omega (arith, a, l)
         ]
 
-    kept : (d k : ℕ) → 1 ≤ times k (line_at (slice_set arrivals.lines c (line_at arrivals.lines c ++ x ∷ [])) d) → is_kept rs' k ≡ true
+    kept : (d k : ℕ) → 1 ≤ times k (queue_line_at (slice_set arrivals.lines c (queue_line_at arrivals.lines c ++ x ∷ [])) d) → is_kept rs' k ≡ true
     kept d k l = elim (cases_eq k x) [
       | inl e ↦ ap is_some (mine k e)
       | inr ne ↦ ap is_some (up.others k ne) ∙ elim (cases_eq d c) [
         | inl e ↦
-            let a = line' d k ∙ ap (λ t. cond t (times k (line_at arrivals.lines c) + one_if (nat_eq x k)) (times k (line_at arrivals.lines d))) (test_eq d c e) in
+            let a = line' d k ∙ ap (λ t. cond t (times k (queue_line_at arrivals.lines c) + one_if (nat_eq x k)) (times k (queue_line_at arrivals.lines d))) (test_eq d c e) in
             are.kept c k (omega (arith, a, l, ap one_if (test_ne x k (λ s. ne (sym s)))))
         | inr nd ↦
-            let a = line' d k ∙ ap (λ t. cond t (times k (line_at arrivals.lines c) + one_if (nat_eq x k)) (times k (line_at arrivals.lines d))) (test_ne d c nd) in
+            let a = line' d k ∙ ap (λ t. cond t (times k (queue_line_at arrivals.lines c) + one_if (nat_eq x k)) (times k (queue_line_at arrivals.lines d))) (test_ne d c nd) in
             are.kept d k (omega (arith, a, l))
       ]
     ]
@@ -224,8 +224,8 @@ records_more arrivals rs rs' threads c x r are lt small new up room = record {
 -- ---- it goes
 
 pub records_less : (arrivals : Lines) (rs rs' : Records) (threads c x : ℕ) → AreRecords arrivals rs threads → c < length arrivals.lines
-    → times x (line_at arrivals.lines c) ≡ 1 → ((d : ℕ) → d ≢ c → times x (line_at arrivals.lines d) ≡ 0) → Updates rs rs' x None → rs'.capacity ≡ rs.capacity
-    → AreRecords (with_line arrivals c (without x (line_at arrivals.lines c))) rs' threads
+    → times x (queue_line_at arrivals.lines c) ≡ 1 → ((d : ℕ) → d ≢ c → times x (queue_line_at arrivals.lines d) ≡ 0) → Updates rs rs' x None → rs'.capacity ≡ rs.capacity
+    → AreRecords (with_line arrivals c (without x (queue_line_at arrivals.lines c))) rs' threads
 records_less arrivals rs rs' threads c x are lt once elsewhere up room = record {
   room = subst (λ n. threads ≤ n) (sym room) are.room;
   keys = subst (λ n. n ≤ arrivals.numbers) (sym room) are.keys;
@@ -246,40 +246,40 @@ records_less arrivals rs rs' threads c x are lt once elsewhere up room = record 
     sender_other : (k : ℕ) → k ≢ x → sender_at rs' k ≡ sender_at rs k
     sender_other k ne = ap sender_in (up.others k ne)
 
-    line' : (d k : ℕ) → times k (line_at (slice_set arrivals.lines c (without x (line_at arrivals.lines c))) d)
-        ≡ cond (nat_eq d c) (times k (without x (line_at arrivals.lines c))) (times k (line_at arrivals.lines d))
-    line' d k = times_turned arrivals c d k (without x (line_at arrivals.lines c)) lt
+    line' : (d k : ℕ) → times k (queue_line_at (slice_set arrivals.lines c (without x (queue_line_at arrivals.lines c))) d)
+        ≡ cond (nat_eq d c) (times k (without x (queue_line_at arrivals.lines c))) (times k (queue_line_at arrivals.lines d))
+    line' d k = times_turned arrivals c d k (without x (queue_line_at arrivals.lines c)) lt
 
-    one_less : (k : ℕ) → k ≢ x → times k (without x (line_at arrivals.lines c)) ≡ times k (line_at arrivals.lines c)
-    one_less k ne = let a = times-without k x (line_at arrivals.lines c) (omega (arith, once)) in omega (arith, a, ap one_if (test_ne x k (λ s. ne (sym s))))
+    one_less : (k : ℕ) → k ≢ x → times k (without x (queue_line_at arrivals.lines c)) ≡ times k (queue_line_at arrivals.lines c)
+    one_less k ne = let a = times-without k x (queue_line_at arrivals.lines c) (omega (arith, once)) in omega (arith, a, ap one_if (test_ne x k (λ s. ne (sym s))))
 
-    gone : times x (without x (line_at arrivals.lines c)) ≡ 0
-    gone = let a = times-without x x (line_at arrivals.lines c) (omega (arith, once)) in omega (arith, a, once, one_same x)
+    gone : times x (without x (queue_line_at arrivals.lines c)) ≡ 0
+    gone = let a = times-without x x (queue_line_at arrivals.lines c) (omega (arith, once)) in omega (arith, a, once, one_same x)
 
-    still : (d k : ℕ) → k ≢ x → 1 ≤ times k (line_at arrivals.lines d) → 1 ≤ times k (line_at (slice_set arrivals.lines c (without x (line_at arrivals.lines c))) d)
+    still : (d k : ℕ) → k ≢ x → 1 ≤ times k (queue_line_at arrivals.lines d) → 1 ≤ times k (queue_line_at (slice_set arrivals.lines c (without x (queue_line_at arrivals.lines c))) d)
     still d k ne l = elim (cases_eq d c) [
       | inl e ↦
-          let a = line' d k ∙ ap (λ t. cond t (times k (without x (line_at arrivals.lines c))) (times k (line_at arrivals.lines d))) (test_eq d c e) in
-          let b = ap (λ q. times k (line_at arrivals.lines q)) e in
+          let a = line' d k ∙ ap (λ t. cond t (times k (without x (queue_line_at arrivals.lines c))) (times k (queue_line_at arrivals.lines d))) (test_eq d c e) in
+          let b = ap (λ q. times k (queue_line_at arrivals.lines q)) e in
           let o = one_less k ne in
           omega (arith, a, b, o, l)
       | inr nd ↦
-          let a = line' d k ∙ ap (λ t. cond t (times k (without x (line_at arrivals.lines c))) (times k (line_at arrivals.lines d))) (test_ne d c nd) in
+          let a = line' d k ∙ ap (λ t. cond t (times k (without x (queue_line_at arrivals.lines c))) (times k (queue_line_at arrivals.lines d))) (test_ne d c nd) in
           omega (arith, a, l)
     ]
 
-    kept : (d k : ℕ) → 1 ≤ times k (line_at (slice_set arrivals.lines c (without x (line_at arrivals.lines c))) d) → is_kept rs' k ≡ true
+    kept : (d k : ℕ) → 1 ≤ times k (queue_line_at (slice_set arrivals.lines c (without x (queue_line_at arrivals.lines c))) d) → is_kept rs' k ≡ true
     kept d k l = elim (cases_eq d c) [
       | inl e ↦
-          let a = line' d k ∙ ap (λ t. cond t (times k (without x (line_at arrivals.lines c))) (times k (line_at arrivals.lines d))) (test_eq d c e) in
+          let a = line' d k ∙ ap (λ t. cond t (times k (without x (queue_line_at arrivals.lines c))) (times k (queue_line_at arrivals.lines d))) (test_eq d c e) in
           elim (cases_eq k x) [
-            | inl s ↦ absurd (let z = subst (λ j. times j (without x (line_at arrivals.lines c)) ≡ 0) (sym s) gone in omega (arith, a, z, l))
+            | inl s ↦ absurd (let z = subst (λ j. times j (without x (queue_line_at arrivals.lines c)) ≡ 0) (sym s) gone in omega (arith, a, z, l))
             | inr ne ↦ ap is_some (up.others k ne) ∙ are.kept c k (let o = one_less k ne in omega (arith, a, o, l))
           ]
       | inr nd ↦
-          let a = line' d k ∙ ap (λ t. cond t (times k (without x (line_at arrivals.lines c))) (times k (line_at arrivals.lines d))) (test_ne d c nd) in
+          let a = line' d k ∙ ap (λ t. cond t (times k (without x (queue_line_at arrivals.lines c))) (times k (queue_line_at arrivals.lines d))) (test_ne d c nd) in
           elim (cases_eq k x) [
-            | inl s ↦ absurd (let z = subst (λ j. times j (line_at arrivals.lines d) ≡ 0) (sym s) (elsewhere d nd) in omega (arith, a, z, l))
+            | inl s ↦ absurd (let z = subst (λ j. times j (queue_line_at arrivals.lines d) ≡ 0) (sym s) (elsewhere d nd) in omega (arith, a, z, l))
             | inr ne ↦ ap is_some (up.others k ne) ∙ are.kept d k (omega (arith, a, l))
           ]
     ]
@@ -301,5 +301,5 @@ records_at_opening arrivals rs channels threads keys ea none room e few = record
     vacant : (k : ℕ) → is_kept rs k ≡ false
     vacant k = ap (λ os. is_some (slot os k)) none
 
-    nobody : (c k : ℕ) → times k (line_at arrivals.lines c) ≡ 0
-    nobody c k = ap (λ (a : Lines). times k (line_at a.lines c)) ea ∙ ap (times k) (line_none channels c)
+    nobody : (c k : ℕ) → times k (queue_line_at arrivals.lines c) ≡ 0
+    nobody c k = ap (λ (a : Lines). times k (queue_line_at a.lines c)) ea ∙ ap (times k) (line_none channels c)

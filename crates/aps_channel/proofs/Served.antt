@@ -10,8 +10,8 @@ use Rattle.aps_model.specs.Inherit.{client_of, without_server}
 use Rattle.aps_model.specs.Limits.{last_thread}
 use Rattle.aps_model.specs.SchedulerState.{Triple}
 use Rattle.aps_channel.specs.declared.serving.Held.{Held}
-use Rattle.aps_channel.specs.Lines.{IsInNone, Lines, line_at, with_line, without}
-use Rattle.aps_channel.specs.Serving.{IsServing, Serving, client_in, channel_in, held_at, triple_of, triples_of}
+use Rattle.aps_channel.specs.Lines.{IsInNone, Lines, queue_line_at, with_line, without}
+use Rattle.aps_channel.specs.Serving.{IsServing, Serving, client_in, channel_in, held_at, held_triple, triples_of}
 use Rattle.aps_channel.proofs.Counts.{ne_from_none, times-without, zero_test}
 
 -- ---- one list of servers
@@ -23,37 +23,37 @@ times-reverse : (x : ℕ) (xs : List ℕ) → times x (reverse xs) ≡ times x x
 times-reverse x [] = refl
 times-reverse x (y ∷ ys) = ap (times x) (turned y ys) ∙ omega (arith, times-append x y (reverse ys), times-reverse x ys)
 
-client_there : (held : List (Option Held)) (x : ℕ) (xs : List ℕ) → 1 ≤ times x xs → client_of (map (triple_of held) xs) x ≡ Some (client_in (held_at held x))
+client_there : (held : List (Option Held)) (x : ℕ) (xs : List ℕ) → 1 ≤ times x xs → client_of (map (held_triple held) xs) x ≡ Some (client_in (held_at held x))
 client_there held x [] some = absurd (omega (arith, some))
 client_there held x (y ∷ ys) some = elim (cases_eq y x) [
   | inl e ↦
-      ap (λ t. cond t (Some (client_in (held_at held y))) (client_of (map (triple_of held) ys) x)) (test_eq y x e) ∙ ap (λ k. Some (client_in (held_at held k))) e
+      ap (λ t. cond t (Some (client_in (held_at held y))) (client_of (map (held_triple held) ys) x)) (test_eq y x e) ∙ ap (λ k. Some (client_in (held_at held k))) e
   | inr ne ↦
-      ap (λ t. cond t (Some (client_in (held_at held y))) (client_of (map (triple_of held) ys) x)) (test_ne y x ne)
+      ap (λ t. cond t (Some (client_in (held_at held y))) (client_of (map (held_triple held) ys) x)) (test_ne y x ne)
       ∙ client_there held x ys (omega (arith, some, ap one_if (test_ne y x ne)))
 ]
 
-no_client : (held : List (Option Held)) (x : ℕ) (xs : List ℕ) → times x xs ≡ 0 → client_of (map (triple_of held) xs) x ≡ None
+no_client : (held : List (Option Held)) (x : ℕ) (xs : List ℕ) → times x xs ≡ 0 → client_of (map (held_triple held) xs) x ≡ None
 no_client held x [] none = refl
 no_client held x (y ∷ ys) none =
-    ap (λ t. cond t (Some (client_in (held_at held y))) (client_of (map (triple_of held) ys) x)) (test_ne y x (ne_from_none x y ys none))
+    ap (λ t. cond t (Some (client_in (held_at held y))) (client_of (map (held_triple held) ys) x)) (test_ne y x (ne_from_none x y ys none))
     ∙ no_client held x ys (omega (arith, none))
 
-triples_same : (held : List (Option Held)) (x : ℕ) (h : Option Held) (xs : List ℕ) → times x xs ≡ 0 → map (triple_of (slice_set held x h)) xs ≡ map (triple_of held) xs
+triples_same : (held : List (Option Held)) (x : ℕ) (h : Option Held) (xs : List ℕ) → times x xs ≡ 0 → map (held_triple (slice_set held x h)) xs ≡ map (held_triple held) xs
 triples_same held x h [] none = refl
 triples_same held x h (y ∷ ys) none =
-    let here : triple_of (slice_set held x h) y ≡ triple_of held y =
+    let here : held_triple (slice_set held x h) y ≡ held_triple held y =
     ap (λ (o : Option Held). let t : Triple = record { server = y; client = client_in o; channel = channel_in o } in t) (get_or-set_other held x y h None (ne_from_none x y ys none)) in
-    ap (λ (t : Triple). t ∷ map (triple_of (slice_set held x h)) ys) here ∙ ap (λ ts. triple_of held y ∷ ts) (triples_same held x h ys (omega (arith, none)))
+    ap (λ (t : Triple). t ∷ map (held_triple (slice_set held x h)) ys) here ∙ ap (λ ts. held_triple held y ∷ ts) (triples_same held x h ys (omega (arith, none)))
 
-triples_without : (held : List (Option Held)) (x : ℕ) (xs : List ℕ) → map (triple_of held) (without x xs) ≡ without_server (map (triple_of held) xs) x
+triples_without : (held : List (Option Held)) (x : ℕ) (xs : List ℕ) → map (held_triple held) (without x xs) ≡ without_server (map (held_triple held) xs) x
 triples_without held x [] = refl
 triples_without held x (y ∷ ys) = by_test (nat_eq y x) (triples_without held x ys)
   where
-    by_test : (t : Bool) → map (triple_of held) (without x ys) ≡ without_server (map (triple_of held) ys) x
-        → map (triple_of held) (cond t ys (y ∷ without x ys)) ≡ cond t (map (triple_of held) ys) (triple_of held y ∷ without_server (map (triple_of held) ys) x)
+    by_test : (t : Bool) → map (held_triple held) (without x ys) ≡ without_server (map (held_triple held) ys) x
+        → map (held_triple held) (cond t ys (y ∷ without x ys)) ≡ cond t (map (held_triple held) ys) (held_triple held y ∷ without_server (map (held_triple held) ys) x)
     by_test true e = refl
-    by_test false e = ap (λ ts. triple_of held y ∷ ts) e
+    by_test false e = ap (λ ts. held_triple held y ∷ ts) e
 
 without-append : (x : ℕ) (xs ys : List ℕ) → 1 ≤ times x xs → without x (xs ++ ys) ≡ without x xs ++ ys
 without-append x [] ys some = absurd (omega (arith, some))
@@ -89,7 +89,7 @@ without-reverse x (y ∷ ys) some once = elim (cases_eq y x) [
 -- ---- what contracts see
 
 abbrev pub served : Lines → List (Option Held) → Serving
-served servers held = record { triples = triples_of held (line_at servers.lines 0); threads = servers.numbers }
+served servers held = record { triples = triples_of held (queue_line_at servers.lines 0); threads = servers.numbers }
 
 same_serving : {ts ts' : List Triple} {n n' : ℕ} → ts ≡ ts' → n ≡ n' → ◌≡◌ {A = Serving} (record { triples = ts; threads = n }) (record { triples = ts'; threads = n' })
 same_serving {ts} {ts'} {n} {n'} e f = cc
@@ -109,52 +109,52 @@ client_read servers held s x x' h are is e lt read =
     (subst (λ (t : Serving). client_of t.triples x' ≡ cond (is_some h) (Some (client_in h)) None) is
     (by_held h at))
   where
-    by_held : (o : Option Held) → o ≡ held_at held x' → client_of (triples_of held (line_at servers.lines 0)) x' ≡ cond (is_some o) (Some (client_in o)) None
+    by_held : (o : Option Held) → o ≡ held_at held x' → client_of (triples_of held (queue_line_at servers.lines 0)) x' ≡ cond (is_some o) (Some (client_in o)) None
     by_held None at =
-        no_client held x' (reverse (line_at servers.lines 0)) (times-reverse x' (line_at servers.lines 0) ∙ are.each x' ∙ ap (λ o. one_if (is_some o)) (sym at))
+        no_client held x' (reverse (queue_line_at servers.lines 0)) (times-reverse x' (queue_line_at servers.lines 0) ∙ are.each x' ∙ ap (λ o. one_if (is_some o)) (sym at))
     by_held (Some g) at =
-        client_there held x' (reverse (line_at servers.lines 0))
-        (let t = times-reverse x' (line_at servers.lines 0) in let a = are.each x' ∙ ap (λ o. one_if (is_some o)) (sym at) in omega (arith, t, a))
+        client_there held x' (reverse (queue_line_at servers.lines 0))
+        (let t = times-reverse x' (queue_line_at servers.lines 0) in let a = are.each x' ∙ ap (λ o. one_if (is_some o)) (sym at) in omega (arith, t, a))
         ∙ ap (λ o. Some (client_in o)) (sym at)
 
 -- who serves nobody stands in no line
 pub serves_none : (servers : Lines) (held : List (Option Held)) (s : Serving) (x x' : ℕ) → IsServing servers held → served servers held ≡ s → x' ≡ x → client_of s.triples x ≡ None → IsInNone servers x'
 serves_none servers held s x x' are is e none q = elim (cases_lt q 1) [
-  | inl lt ↦ subst (λ k. times x' (line_at servers.lines k) ≡ 0) (let z : 0 ≡ q = omega (arith, lt) in z) here
+  | inl lt ↦ subst (λ k. times x' (queue_line_at servers.lines k) ≡ 0) (let z : 0 ≡ q = omega (arith, lt) in z) here
   | inr ge ↦ ap (times x') (get_or_past servers.lines q [] (omega (arith, ge, are.one)))
 ]
   where
-    none' : client_of (triples_of held (line_at servers.lines 0)) x' ≡ None
-    none' = subst (λ k. client_of (triples_of held (line_at servers.lines 0)) k ≡ None) (sym e) (subst (λ (t : Serving). client_of t.triples x ≡ None) (sym is) none)
+    none' : client_of (triples_of held (queue_line_at servers.lines 0)) x' ≡ None
+    none' = subst (λ k. client_of (triples_of held (queue_line_at servers.lines 0)) k ≡ None) (sym e) (subst (λ (t : Serving). client_of t.triples x ≡ None) (sym is) none)
 
-    here : times x' (line_at servers.lines 0) ≡ 0
-    here = elim (cases_eq (times x' (line_at servers.lines 0)) 0) [
+    here : times x' (queue_line_at servers.lines 0) ≡ 0
+    here = elim (cases_eq (times x' (queue_line_at servers.lines 0)) 0) [
       | inl z ↦ z
-      | inr nz ↦ absurd (clash (sym (client_there held x' (reverse (line_at servers.lines 0)) (let t = times-reverse x' (line_at servers.lines 0) in omega (arith, t, nz)))
-          ∙ subst (λ k. client_of (triples_of held (line_at servers.lines 0)) k ≡ None) (sym e) (subst (λ (t : Serving). client_of t.triples x ≡ None) (sym is) none)))
+      | inr nz ↦ absurd (clash (sym (client_there held x' (reverse (queue_line_at servers.lines 0)) (let t = times-reverse x' (queue_line_at servers.lines 0) in omega (arith, t, nz)))
+          ∙ subst (λ k. client_of (triples_of held (queue_line_at servers.lines 0)) k ≡ None) (sym e) (subst (λ (t : Serving). client_of t.triples x ≡ None) (sym is) none)))
     ]
       where
         clash : {n : ℕ} → Some n ≡ None → ⊥
         clash {n} p = cc
 
 pub begun : (servers servers' : Lines) (held : List (Option Held)) (s : Serving) (x x' y y' c c' : ℕ) → IsServing servers held → served servers held ≡ s → x' ≡ x → y' ≡ y → c' ≡ c → y' ≤ last_thread
-    → x < s.threads → client_of s.triples x ≡ None → servers' ≡ with_line servers 0 (line_at servers.lines 0 ++ x' ∷ [])
+    → x < s.threads → client_of s.triples x ≡ None → servers' ≡ with_line servers 0 (queue_line_at servers.lines 0 ++ x' ∷ [])
     → AreServed servers' (slice_set held x' (Some (record { client = y'; channel = c' }))) (record s { triples = (record { server = x; client = y; channel = c }) ∷ s.triples })
 begun servers servers' held s x x' y y' c c' are is ex ey ec few lt none moved =
     let h : Option Held = Some (record { client = y'; channel = c' }) in
     let held' = slice_set held x' h in
-    let line = line_at servers.lines 0 in
+    let line = queue_line_at servers.lines 0 in
     let S : Lines = with_line servers 0 (line ++ x' ∷ []) in
     let ltx = below_held servers held s x x' are is ex lt in
     let free = serves_none servers held s x x' are is ex none 0 in
     let one : 0 < length servers.lines = omega (arith, are.one) in
     let at_x : held_at held' x' ≡ h = get_or-set_same held x' h None ltx in
-    let line' : line_at S.lines 0 ≡ line ++ x' ∷ [] = get_or-set_same servers.lines 0 (line ++ x' ∷ []) [] one in
-    let first : triple_of held' x' ≡ record { server = x'; client = y'; channel = c' } =
+    let line' : queue_line_at S.lines 0 ≡ line ++ x' ∷ [] = get_or-set_same servers.lines 0 (line ++ x' ∷ []) [] one in
+    let first : held_triple held' x' ≡ record { server = x'; client = y'; channel = c' } =
     ap (λ (o : Option Held). let t : Triple = record { server = x'; client = client_in o; channel = channel_in o } in t) at_x in
-    let triples : triples_of held' (line_at S.lines 0) ≡ (record { server = x'; client = y'; channel = c' }) ∷ triples_of held line =
-    ap (triples_of held') line' ∙ ap (map (triple_of held')) (reverse-append line (x' ∷ []))
-    ∙ ap (λ (t : Triple). t ∷ map (triple_of held') (reverse line)) first
+    let triples : triples_of held' (queue_line_at S.lines 0) ≡ (record { server = x'; client = y'; channel = c' }) ∷ triples_of held line =
+    ap (triples_of held') line' ∙ ap (map (held_triple held')) (reverse-append line (x' ∷ []))
+    ∙ ap (λ (t : Triple). t ∷ map (held_triple held') (reverse line)) first
     ∙ ap (λ ts. (record { server = x'; client = y'; channel = c' }) ∷ ts) (triples_same held x' h (reverse line) (times-reverse x' line ∙ free)) in
     let named : ◌≡◌ {A = Triple} (record { server = x'; client = y'; channel = c' }) (record { server = x; client = y; channel = c }) = same_triple ex ey ec in
     subst (λ a. AreServed a held' (record s { triples = (record { server = x; client = y; channel = c }) ∷ s.triples })) (sym moved)
@@ -172,15 +172,15 @@ begun servers servers' held s x x' y y' c c' are is ex ey ec few lt none moved =
     same_triple : {a a' b b' d d' : ℕ} → a ≡ a' → b ≡ b' → d ≡ d' → ◌≡◌ {A = Triple} (record { server = a; client = b; channel = d }) (record { server = a'; client = b'; channel = d' })
     same_triple {a} {a'} {b} {b'} {d} {d'} p q r = cc
 
-    each : (z : ℕ) → x' < length held → times x' (line_at servers.lines 0) ≡ 0
-        → times z (line_at servers.lines 0 ++ x' ∷ []) ≡ one_if (is_some (held_at (slice_set held x' (Some (record { client = y'; channel = c' }))) z))
+    each : (z : ℕ) → x' < length held → times x' (queue_line_at servers.lines 0) ≡ 0
+        → times z (queue_line_at servers.lines 0 ++ x' ∷ []) ≡ one_if (is_some (held_at (slice_set held x' (Some (record { client = y'; channel = c' }))) z))
     each z ltx free = elim (cases_eq z x') [
       | inl e ↦
-          subst (λ k. times k (line_at servers.lines 0 ++ x' ∷ []) ≡ one_if (is_some (held_at (slice_set held x' (Some (record { client = y'; channel = c' }))) k))) (sym e)
-          (times-append x' x' (line_at servers.lines 0) ∙ omega (arith, free, ap one_if (test_eq x' x' refl))
+          subst (λ k. times k (queue_line_at servers.lines 0 ++ x' ∷ []) ≡ one_if (is_some (held_at (slice_set held x' (Some (record { client = y'; channel = c' }))) k))) (sym e)
+          (times-append x' x' (queue_line_at servers.lines 0) ∙ omega (arith, free, ap one_if (test_eq x' x' refl))
           ∙ sym (ap (λ o. one_if (is_some o)) (get_or-set_same held x' (Some (record { client = y'; channel = c' })) None ltx)))
       | inr ne ↦
-          times-append z x' (line_at servers.lines 0) ∙ omega (arith, ap one_if (test_ne x' z (λ s. ne (sym s)))) ∙ are.each z
+          times-append z x' (queue_line_at servers.lines 0) ∙ omega (arith, ap one_if (test_ne x' z (λ s. ne (sym s)))) ∙ are.each z
           ∙ sym (ap (λ o. one_if (is_some o)) (get_or-set_other held x' z (Some (record { client = y'; channel = c' })) None ne))
     ]
 
@@ -194,33 +194,33 @@ begun servers servers' held s x x' y y' c c' are is ex ey ec few lt none moved =
 
 -- a server stands in the line, once
 pub serves_once : (servers : Lines) (held : List (Option Held)) (s : Serving) (x x' : ℕ) → IsServing servers held → served servers held ≡ s → x' ≡ x → IsSome (client_of s.triples x)
-    → times x' (line_at servers.lines 0) ≡ 1
+    → times x' (queue_line_at servers.lines 0) ≡ 1
 serves_once servers held s x x' are is e some = by_held (held_at held x') refl
   where
     nobody : client_of s.triples x ≡ None → ⊥
     nobody n = false≢true (subst IsSome n some)
 
-    by_held : (o : Option Held) → held_at held x' ≡ o → times x' (line_at servers.lines 0) ≡ 1
+    by_held : (o : Option Held) → held_at held x' ≡ o → times x' (queue_line_at servers.lines 0) ≡ 1
     by_held None at =
         absurd (nobody (subst (λ k. client_of s.triples k ≡ None) e (subst (λ (t : Serving). client_of t.triples x' ≡ None) is
-        (no_client held x' (reverse (line_at servers.lines 0)) (times-reverse x' (line_at servers.lines 0) ∙ are.each x' ∙ ap (λ o. one_if (is_some o)) at)))))
+        (no_client held x' (reverse (queue_line_at servers.lines 0)) (times-reverse x' (queue_line_at servers.lines 0) ∙ are.each x' ∙ ap (λ o. one_if (is_some o)) at)))))
     by_held (Some h) at = are.each x' ∙ ap (λ o. one_if (is_some o)) at
 
 pub ended : (servers servers' : Lines) (held : List (Option Held)) (s : Serving) (x x' : ℕ) → IsServing servers held → served servers held ≡ s → x' ≡ x
-    → x < s.threads → IsSome (client_of s.triples x) → servers' ≡ with_line servers 0 (without x' (line_at servers.lines 0))
+    → x < s.threads → IsSome (client_of s.triples x) → servers' ≡ with_line servers 0 (without x' (queue_line_at servers.lines 0))
     → AreServed servers' (slice_set held x' None) (record s { triples = without_server s.triples x })
 ended servers servers' held s x x' are is ex lt some moved =
     let held' = slice_set held x' None in
-    let line = line_at servers.lines 0 in
+    let line = queue_line_at servers.lines 0 in
     let S : Lines = with_line servers 0 (without x' line) in
     let ltx = below_held servers held s x x' are is ex lt in
     let once = serves_once servers held s x x' are is ex some in
     let one : 0 < length servers.lines = omega (arith, are.one) in
     let gone : times x' (without x' line) ≡ 0 = let a = times-without x' x' line (omega (arith, once)) in omega (arith, a, once, ap one_if (test_eq x' x' refl)) in
-    let line' : line_at S.lines 0 ≡ without x' line = get_or-set_same servers.lines 0 (without x' line) [] one in
-    let triples : triples_of held' (line_at S.lines 0) ≡ without_server (triples_of held line) x' =
+    let line' : queue_line_at S.lines 0 ≡ without x' line = get_or-set_same servers.lines 0 (without x' line) [] one in
+    let triples : triples_of held' (queue_line_at S.lines 0) ≡ without_server (triples_of held line) x' =
     ap (triples_of held') line' ∙ triples_same held x' None (reverse (without x' line)) (times-reverse x' (without x' line) ∙ gone)
-    ∙ ap (map (triple_of held)) (without-reverse x' line (omega (arith, once)) (omega (arith, once))) ∙ triples_without held x' (reverse line) in
+    ∙ ap (map (held_triple held)) (without-reverse x' line (omega (arith, once)) (omega (arith, once))) ∙ triples_without held x' (reverse line) in
     subst (λ a. AreServed a held' (record s { triples = without_server s.triples x })) (sym moved)
     (subst (λ k. AreServed S held' (record s { triples = without_server s.triples k })) ex
     (subst (λ (t : Serving). AreServed S held' (record t { triples = without_server t.triples x' })) is
@@ -234,15 +234,15 @@ ended servers servers' held s x x' are is ex lt some moved =
       same = same_serving triples refl;
     })))
   where
-    each : (z : ℕ) → x' < length held → times x' (line_at servers.lines 0) ≡ 1
-        → times z (without x' (line_at servers.lines 0)) ≡ one_if (is_some (held_at (slice_set held x' None) z))
+    each : (z : ℕ) → x' < length held → times x' (queue_line_at servers.lines 0) ≡ 1
+        → times z (without x' (queue_line_at servers.lines 0)) ≡ one_if (is_some (held_at (slice_set held x' None) z))
     each z ltx once = elim (cases_eq z x') [
       | inl e ↦
-          subst (λ k. times k (without x' (line_at servers.lines 0)) ≡ one_if (is_some (held_at (slice_set held x' None) k))) (sym e)
-          ((let a = times-without x' x' (line_at servers.lines 0) (omega (arith, once)) in omega (arith, a, once, ap one_if (test_eq x' x' refl)))
+          subst (λ k. times k (without x' (queue_line_at servers.lines 0)) ≡ one_if (is_some (held_at (slice_set held x' None) k))) (sym e)
+          ((let a = times-without x' x' (queue_line_at servers.lines 0) (omega (arith, once)) in omega (arith, a, once, ap one_if (test_eq x' x' refl)))
           ∙ sym (ap (λ o. one_if (is_some o)) (get_or-set_same held x' None None ltx)))
       | inr ne ↦
-          (let a = times-without z x' (line_at servers.lines 0) (omega (arith, once)) in omega (arith, a, ap one_if (test_ne x' z (λ s. ne (sym s))))) ∙ are.each z
+          (let a = times-without z x' (queue_line_at servers.lines 0) (omega (arith, once)) in omega (arith, a, ap one_if (test_ne x' z (λ s. ne (sym s))))) ∙ are.each z
           ∙ sym (ap (λ o. one_if (is_some o)) (get_or-set_other held x' z None None ne))
     ]
 

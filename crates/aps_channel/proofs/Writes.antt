@@ -5,7 +5,7 @@ use Rattle.std.proofs.lemmas.List.{get_or-set_same, get_or-set_other}
 use Rattle.std.proofs.lemmas.Bool.{cases_eq}
 use Rattle.laws_runs.proofs.WaitFacts.{test_eq, test_ne}
 use Rattle.aps_channel.specs.declared.links.Link.{Link}
-use Rattle.aps_channel.specs.Links.{is_at, link_at, links_pushed, links_removed, no_link, with_after, with_before}
+use Rattle.aps_channel.specs.Links.{is_this_number, link_at, links_pushed, links_removed, no_link, with_after, with_before}
 use Rattle.aps_channel.proofs.Chains.{IsPushed, IsUnlinked, unlinked}
 
 -- if a number is given, it has a link
@@ -27,7 +27,7 @@ abbrev before_set : Option ℕ → Link → Link
 before_set before k = record k { before = before }
 
 after_written : (links : List Link) (o after : Option ℕ) (y : ℕ) → HasLink o (length links)
-    → link_at (with_after links o after) y ≡ cond (is_at o y) (after_set after (link_at links y)) (link_at links y)
+    → link_at (with_after links o after) y ≡ cond (is_this_number o y) (after_set after (link_at links y)) (link_at links y)
 after_written links None after y has = refl
 after_written links (Some x) after y has =
     link_written links x y (after_set after (link_at links x)) (has x refl) ∙ same
@@ -41,7 +41,7 @@ after_written links (Some x) after y has =
     ]
 
 before_written : (links : List Link) (o before : Option ℕ) (y : ℕ) → HasLink o (length links)
-    → link_at (with_before links o before) y ≡ cond (is_at o y) (before_set before (link_at links y)) (link_at links y)
+    → link_at (with_before links o before) y ≡ cond (is_this_number o y) (before_set before (link_at links y)) (link_at links y)
 before_written links None before y has = refl
 before_written links (Some x) before y has =
     link_written links x y (before_set before (link_at links x)) (has x refl) ∙ same
@@ -69,7 +69,7 @@ length-pushed links last x =
 pub length-removed : (links : List Link) (l : Link) → length (links_removed links l) ≡ length links
 length-removed links l = length-with_before (with_after links l.before l.after) l.after l.before ∙ length-with_after links l.before l.after
 
-pub pushed : (links : List Link) (last : Option ℕ) (x : ℕ) → x < length links → HasLink last (length links) → is_at last x ≡ false → IsPushed links (links_pushed links last x) last x
+pub pushed : (links : List Link) (last : Option ℕ) (x : ℕ) → x < length links → HasLink last (length links) → is_this_number last x ≡ false → IsPushed links (links_pushed links last x) last x
 pushed links last x lt has other =
     let new : Link = record { before = last; after = None } in
     let put = slice_set links x new in
@@ -78,8 +78,8 @@ pushed links last x lt has other =
     record {
       here = read x ∙ ap (λ t. cond t (after_set (Some x) (link_at put x)) (link_at put x)) other ∙ get_or-set_same links x new no_link lt;
       joint = λ y e.
-          let ne : y ≢ x = λ same. differ x y (sym (ap (λ o. is_at o x) e) ∙ other) same in
-          let at : is_at last y ≡ true = ap (λ o. is_at o y) e ∙ test_eq y y refl in
+          let ne : y ≢ x = λ same. differ x y (sym (ap (λ o. is_this_number o x) e) ∙ other) same in
+          let at : is_this_number last y ≡ true = ap (λ o. is_this_number o y) e ∙ test_eq y y refl in
           read y ∙ ap (λ t. cond t (after_set (Some x) (link_at put y)) (link_at put y)) at
           ∙ ap (after_set (Some x)) (get_or-set_other links x y new no_link ne);
       others = λ y ne not.
@@ -90,7 +90,7 @@ pushed links last x lt has other =
     differ : (a b : ℕ) → nat_eq b a ≡ false → b ≡ a → ⊥
     differ a b f e = let t = test_eq b a e in cc
 
-    not_at : (o : Option ℕ) (y : ℕ) → o ≢ Some y → is_at o y ≡ false
+    not_at : (o : Option ℕ) (y : ℕ) → o ≢ Some y → is_this_number o y ≡ false
     not_at None y ne = refl
     not_at (Some z) y ne = test_ne z y (λ e. ne (ap (λ k. Some k) e))
 
@@ -102,8 +102,8 @@ removed links x has_before has_after = record {
       let mid = with_after links l.before l.after in
       let has' : HasLink l.after (length mid) = λ z e. subst (λ n. z < n) (sym (length-with_after links l.before l.after)) (has_after z e) in
       before_written mid l.after l.before y has'
-      ∙ ap (λ (k : Link). cond (is_at l.after y) (before_set l.before k) k) (after_written links l.before l.after y has_before)
-      ∙ both (is_at l.after y) (is_at l.before y) l (link_at links y);
+      ∙ ap (λ (k : Link). cond (is_this_number l.after y) (before_set l.before k) k) (after_written links l.before l.after y has_before)
+      ∙ both (is_this_number l.after y) (is_this_number l.before y) l (link_at links y);
 }
   where
     both : (a b : Bool) (l k : Link) → cond a (before_set l.before (cond b (after_set l.after k) k)) (cond b (after_set l.after k) k) ≡ unlinked a b l k

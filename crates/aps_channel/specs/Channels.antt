@@ -18,61 +18,62 @@ pub record Channels : Type 0 where
   pub triples : List Triple
   pub threads : ℕ
 
-abbrev pub channel_at : Channels → ℕ → ChannelNow
-channel_at s c = slice_index_or s.channels c no_channel
+abbrev pub channel_in_place : Channels → ℕ → ChannelNow
+channel_in_place s c = slice_index_or s.channels c no_channel
 
-abbrev pub with_channel : Channels → ℕ → ChannelNow → Channels
-with_channel s c channel = record s { channels = slice_set s.channels c channel }
+abbrev pub channels_with : Channels → ℕ → ChannelNow → Channels
+channels_with s c channel = record s { channels = slice_set s.channels c channel }
 
-abbrev pub with_triple : Channels → ℕ → ℕ → ℕ → Channels
-with_triple s server client channel = record s { triples = (record { server = server; client = client; channel = channel }) ∷ s.triples }
+abbrev pub channels_with_triple : Channels → ℕ → ℕ → ℕ → Channels
+channels_with_triple s server client channel =
+    record s { triples = (record { server = server; client = client; channel = channel }) ∷ s.triples }
 
 -- the thread waits nowhere: no message of it waits, it waits for none, and for no reply
-pub record IsIdle (s : Channels) (x : ℕ) : Type 0 where
-  pub messages : (d : ℕ) → times_sent x (channel_at s d).messages ≡ 0
-  pub receivers : (d : ℕ) → times x (channel_at s d).receivers ≡ 0
+pub record WaitsNowhere (s : Channels) (x : ℕ) : Type 0 where
+  pub messages : (d : ℕ) → times_sent x (channel_in_place s d).messages ≡ 0
+  pub receivers : (d : ℕ) → times x (channel_in_place s d).receivers ≡ 0
   pub replies : (z : ℕ) → times_paired z x s.triples ≡ 0
 
 -- what each state keeps: no channel has both a message and a receiver that wait, and who waits for a message holds no client
 pub record IsCalm (s : Channels) : Type 0 where
-  pub either : (d : ℕ) → ((channel_at s d).messages ≡ []) ⊎ ((channel_at s d).receivers ≡ [])
-  pub unheld : (d x : ℕ) → 1 ≤ times x (channel_at s d).receivers → client_of s.triples x ≡ None
+  pub either : (d : ℕ) → ((channel_in_place s d).messages ≡ []) ⊎ ((channel_in_place s d).receivers ≡ [])
+  pub unheld : (d x : ℕ) → 1 ≤ times x (channel_in_place s d).receivers → client_of s.triples x ≡ None
 
 -- what a call leaves, and what it answers
-pub record After (A : Type 0) : Type 0 where
+pub record AfterCall (A : Type 0) : Type 0 where
   pub state : Channels
   pub answer : A
 
 -- a message of x with this priority comes to a channel with these receivers
-abbrev pub sent : Channels → ℕ → ℕ → ℕ → List ℕ → After Sent
-sent s c x priority [] = record {
-  state = with_channel s c
-      (record (channel_at s c) { messages = (channel_at s c).messages ++ (record { sender = x; priority = priority }) ∷ [] });
+abbrev pub after_send : Channels → ℕ → ℕ → ℕ → List ℕ → AfterCall Sent
+after_send s c x priority [] = record {
+  state = channels_with s c
+      (record (channel_in_place s c) { messages = (channel_in_place s c).messages ++ (record { sender = x; priority = priority }) ∷ [] });
   answer = Blocked;
 }
-sent s c x priority (r ∷ rest) = record {
-  state = with_triple (with_channel s c (record (channel_at s c) { receivers = rest })) r x c;
+after_send s c x priority (r ∷ rest) = record {
+  state = channels_with_triple (channels_with s c (record (channel_in_place s c) { receivers = rest })) r x c;
   answer = Delivered r;
 }
 
 -- a receive by a thread that holds nobody, where this thread sent the message that is received next
-abbrev pub received_from : Channels → ℕ → ℕ → Option ℕ → After Received
+abbrev pub received_from : Channels → ℕ → ℕ → Option ℕ → AfterCall Received
 received_from s c x None = record {
-  state = with_channel s c (record (channel_at s c) { receivers = (channel_at s c).receivers ++ x ∷ [] });
+  state = channels_with s c (record (channel_in_place s c) { receivers = (channel_in_place s c).receivers ++ x ∷ [] });
   answer = took.Blocked;
 }
 received_from s c x (Some client) = record {
-  state = with_triple
-      (with_channel s c (record (channel_at s c) { messages = without_sender client (channel_at s c).messages })) x client c;
+  state = channels_with_triple
+      (channels_with s c (record (channel_in_place s c) { messages = without_sender client (channel_in_place s c).messages })) x client c;
   answer = took.Got client;
 }
 
 -- a receive by a thread that holds this client
-abbrev pub received : Channels → ℕ → ℕ → Option ℕ → After Received
-received s c x (Some client) = record { state = s; answer = took.Holding client }
-received s c x None = received_from s c x (first_sender (channel_at s c).messages)
+abbrev pub after_receive : Channels → ℕ → ℕ → Option ℕ → AfterCall Received
+after_receive s c x (Some client) = record { state = s; answer = took.Holding client }
+after_receive s c x None = received_from s c x (first_sender (channel_in_place s c).messages)
 
 -- a reply by a thread that holds this client
-abbrev pub replied : Channels → ℕ → Option ℕ → After Replied
-replied s x None = record { state = s; answer = NoClient }
-replied s x (Some client) = record { state = record s { triples = without_server s.triples x }; answer = Freed client }
+abbrev pub after_reply : Channels → ℕ → Option ℕ → AfterCall Replied
+after_reply s x None = record { state = s; answer = NoClient }
+after_reply s x (Some client) = record { state = record s { triples = without_server s.triples x }; answer = Freed client }

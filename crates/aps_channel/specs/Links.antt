@@ -1,7 +1,7 @@
 -- Lines of numbers as links from each to the next and back.
 use Rattle.std.specs.Prelude.{◌≡◌, ◌≢◌, ℕ, zero, suc, ◌<◌, ◌≤◌, Bool, true, false, nat_eq, if◌then◌else◌, List, [], ◌∷◌, length, map, slice_index_or, slice_set, Option, Some, None}
 use Rattle.laws_runs.specs.Waits.{times}
-use Rattle.aps_channel.specs.Lines.{first_of, line_at}
+use Rattle.aps_channel.specs.Lines.{first_of, queue_line_at}
 use Rattle.aps_channel.specs.declared.links.Link.{Link}
 use Rattle.aps_channel.specs.declared.links.Ends.{Ends}
 
@@ -24,11 +24,11 @@ walk links (suc n) None = []
 walk links (suc n) (Some x) = x ∷ walk links n (link_at links x).after
 
 -- a line from its first on, which has no more numbers than there are links
-abbrev pub line_of : List Link → Ends → List ℕ
-line_of links e = walk links (length links) e.first
+abbrev pub line_along_links : List Link → Ends → List ℕ
+line_along_links links e = walk links (length links) e.first
 
 abbrev pub lines_of : List Link → List Ends → List (List ℕ)
-lines_of links ends = map (line_of links) ends
+lines_of links ends = map (line_along_links links) ends
 
 -- the last of these, or what stands before them where there are none
 abbrev pub last_or : Option ℕ → List ℕ → Option ℕ
@@ -36,9 +36,9 @@ last_or before [] = before
 last_or before (x ∷ xs) = last_or (Some x) xs
 
 -- it is this number
-abbrev pub is_at : Option ℕ → ℕ → Bool
-is_at None y = false
-is_at (Some x) y = nat_eq x y
+abbrev pub is_this_number : Option ℕ → ℕ → Bool
+is_this_number None y = false
+is_this_number (Some x) y = nat_eq x y
 
 abbrev pub with_after : List Link → Option ℕ → Option ℕ → List Link
 with_after links None after = links
@@ -73,20 +73,20 @@ abbrev pub ends_removed : Ends → Link → Ends
 ends_removed e l = record { first = end_removed l.before e.first l.after; last = end_removed l.after e.last l.before }
 
 -- the chain begins behind this number, if one is given, and each link leads on and back
-abbrev pub IsLinked : List Link → Option ℕ → List ℕ → Type 0
-IsLinked links before [] = Unit {0}
-IsLinked links before (x ∷ xs) = (link_at links x ≡ record { before = before; after = first_of xs }) × IsLinked links (Some x) xs
+abbrev pub IsLinkedFrom : List Link → Option ℕ → List ℕ → Type 0
+IsLinkedFrom links before [] = Unit {0}
+IsLinkedFrom links before (x ∷ xs) = (link_at links x ≡ record { before = before; after = first_of xs }) × IsLinkedFrom links (Some x) xs
 
 -- the ends and links of one line
-pub record IsLine (links : List Link) (e : Ends) (xs : List ℕ) : Type 0 where
+pub record IsLinkedLine (links : List Link) (e : Ends) (xs : List ℕ) : Type 0 where
   pub first : e.first ≡ first_of xs
   pub last : e.last ≡ last_or None xs
-  pub linked : IsLinked links None xs
+  pub linked : IsLinkedFrom links None xs
   pub within : (x : ℕ) → 1 ≤ times x xs → x < length links
   pub once : (x : ℕ) → times x xs ≤ 1
 
 -- no number stands in two lines
 pub record AreLines (links : List Link) (ends : List Ends) : Type 0 where
-  pub each : (q : ℕ) → q < length ends → IsLine links (ends_at ends q) (line_at (lines_of links ends) q)
-  pub apart : (q r x : ℕ) → q < length ends → r < length ends → q ≢ r → 1 ≤ times x (line_at (lines_of links ends) q)
-      → times x (line_at (lines_of links ends) r) ≡ 0
+  pub each : (q : ℕ) → q < length ends → IsLinkedLine links (ends_at ends q) (queue_line_at (lines_of links ends) q)
+  pub apart : (q r x : ℕ) → q < length ends → r < length ends → q ≢ r → 1 ≤ times x (queue_line_at (lines_of links ends) q)
+      → times x (queue_line_at (lines_of links ends) r) ≡ 0

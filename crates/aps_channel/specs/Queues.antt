@@ -7,7 +7,7 @@ use Rattle.aps_model.specs.SchedulerState.{Message}
 use Rattle.aps_levels.specs.declared.levels.Levels.{Levels}
 use Rattle.aps_levels.specs.Levels.{has_level, level_count}
 use Rattle.aps_channel.specs.declared.waiting.MessageRecord.{MessageRecord}
-use Rattle.aps_channel.specs.Lines.{Lines, first_of, line_at}
+use Rattle.aps_channel.specs.Lines.{Lines, first_of, queue_line_at}
 
 -- the records of messages, by key
 abbrev pub Records : Type 0
@@ -29,19 +29,19 @@ abbrev pub priority_at : Records → ℕ → ℕ
 priority_at records key = (message_of records key).priority
 
 -- of two priorities the greater has the lower level
-abbrev pub level_of : ℕ → ℕ
-level_of priority = greatest_priority - priority
+abbrev pub level_of_priority : ℕ → ℕ
+level_of_priority priority = greatest_priority - priority
 
 abbrev pub messages_of : Records → List (List ℕ) → List (List Message)
 messages_of records lines = map (map (message_of records)) lines
 
 -- the message of the key waits at this level
 abbrev pub is_level : Records → ℕ → ℕ → Bool
-is_level records level key = nat_eq (level_of (priority_at records key)) level
+is_level records level key = nat_eq (level_of_priority (priority_at records key)) level
 
 -- the line of a level of a channel
-abbrev pub place_of : ℕ → ℕ → ℕ
-place_of c level = level_count * c + level
+abbrev pub line_of_level : ℕ → ℕ → ℕ
+line_of_level c level = level_count * c + level
 
 -- each level of a channel has the channel's keys of that level, in order of arrival, and is in use where there are some
 pub record AreQueues (arrivals levels : Lines) (in_use : List Levels) (records : Records) : Type 0 where
@@ -50,6 +50,6 @@ pub record AreQueues (arrivals levels : Lines) (in_use : List Levels) (records :
   pub sets : length in_use ≡ length arrivals.lines
   pub small : (k : ℕ) → priority_at records k ≤ greatest_priority
   pub queued : (c level : ℕ) → c < length arrivals.lines → level < level_count
-      → line_at levels.lines (place_of c level) ≡ filter (is_level records level) (line_at arrivals.lines c)
+      → queue_line_at levels.lines (line_of_level c level) ≡ filter (is_level records level) (queue_line_at arrivals.lines c)
   pub used : (c level : ℕ) (d : Levels) → c < length arrivals.lines → level < level_count
-      → has_level (slice_index_or in_use c d) level ≡ is_some (first_of (line_at levels.lines (place_of c level)))
+      → has_level (slice_index_or in_use c d) level ≡ is_some (first_of (queue_line_at levels.lines (line_of_level c level)))

@@ -3,7 +3,7 @@ ghost use Rattle.std.specs.Prelude.{◌≡◌, ◌<◌, [], length, min, replica
 ghost use Rattle.aps_model.specs.Inherit.{client_of, top_of};
 ghost use Rattle.aps_model.specs.Limits.{most_threads};
 ghost use Rattle.aps_model.specs.SchedulerState.{no_channel};
-ghost use Rattle.aps_channel.specs.Channels.{IsCalm, IsIdle, channel_at, received, received_from, replied, sent};
+ghost use Rattle.aps_channel.specs.Channels.{IsCalm, WaitsNowhere, channel_in_place, after_receive, received_from, after_reply, after_send};
 ghost use Rattle.aps_channel.specs.Waiting.{first_sender};
 
 use crate::lines::{Lines, MOST_THREADS};
@@ -73,9 +73,9 @@ impl Channels {
     pub fn send(&mut self, c: ChannelId, from: ThreadId, priority: u8) -> Sent
         requires channel { c < length self.old.channels }
         requires thread { from < self.old.threads }
-        requires idle { IsIdle self.old from }
-        ensures answer { result ≡ (sent self.old c from priority (channel_at self.old c).receivers).answer }
-        ensures state { self.new ≡ (sent self.old c from priority (channel_at self.old c).receivers).state }
+        requires idle { WaitsNowhere self.old from }
+        ensures answer { result ≡ (after_send self.old c from priority (channel_in_place self.old c).receivers).answer }
+        ensures state { self.new ≡ (after_send self.old c from priority (channel_in_place self.old c).receivers).state }
         ensures calm { IsCalm self.new }
     {
         let line = c.index();
@@ -100,9 +100,9 @@ impl Channels {
     pub fn receive(&mut self, c: ChannelId, by: ThreadId) -> Received
         requires channel { c < length self.old.channels }
         requires thread { by < self.old.threads }
-        requires idle { IsIdle self.old by }
-        ensures answer { result ≡ (received self.old c by (client_of self.old.triples by)).answer }
-        ensures state { self.new ≡ (received self.old c by (client_of self.old.triples by)).state }
+        requires idle { WaitsNowhere self.old by }
+        ensures answer { result ≡ (after_receive self.old c by (client_of self.old.triples by)).answer }
+        ensures state { self.new ≡ (after_receive self.old c by (client_of self.old.triples by)).state }
         ensures calm { IsCalm self.new }
     {
         match self.serving.client_of(by) {
@@ -115,10 +115,10 @@ impl Channels {
     fn take_message(&mut self, c: ChannelId, by: ThreadId) -> Received
         requires channel { c < length self.old.channels }
         requires thread { by < self.old.threads }
-        requires idle { IsIdle self.old by }
+        requires idle { WaitsNowhere self.old by }
         requires free { client_of self.old.triples by ≡ None }
-        ensures answer { result ≡ (received_from self.old c by (first_sender (channel_at self.old c).messages)).answer }
-        ensures state { self.new ≡ (received_from self.old c by (first_sender (channel_at self.old c).messages)).state }
+        ensures answer { result ≡ (received_from self.old c by (first_sender (channel_in_place self.old c).messages)).answer }
+        ensures state { self.new ≡ (received_from self.old c by (first_sender (channel_in_place self.old c).messages)).state }
         ensures calm { IsCalm self.new }
     {
         match self.waiting.take_first(c) {
@@ -139,9 +139,9 @@ impl Channels {
     /// `NoClient` exactly where `by` holds none, and then nothing changes.
     pub fn reply(&mut self, by: ThreadId) -> Replied
         requires thread { by < self.old.threads }
-        requires idle { IsIdle self.old by }
-        ensures answer { result ≡ (replied self.old by (client_of self.old.triples by)).answer }
-        ensures state { self.new ≡ (replied self.old by (client_of self.old.triples by)).state }
+        requires idle { WaitsNowhere self.old by }
+        ensures answer { result ≡ (after_reply self.old by (client_of self.old.triples by)).answer }
+        ensures state { self.new ≡ (after_reply self.old by (client_of self.old.triples by)).state }
         ensures calm { IsCalm self.new }
     {
         match self.serving.client_of(by) {
@@ -156,7 +156,7 @@ impl Channels {
     /// The greatest priority that waits at the channel. There is none exactly where no message waits.
     pub fn top(&self, c: ChannelId) -> Option<u8>
         requires { c < length self.now.channels }
-        ensures top { result ≡ top_of (channel_at self.now c).messages }
+        ensures top { result ≡ top_of (channel_in_place self.now c).messages }
         ensures calm { IsCalm self.now }
     {
         self.waiting.top(c)

@@ -1,7 +1,7 @@
 //! Lines of numbers: who stands behind whom.
 ghost use Rattle.std.specs.Prelude.{◌≡◌, ◌<◌, ◌≤◌, ◌++◌, [], ◌∷◌, length, replicate, IfOk, IfSome};
 ghost use Rattle.laws_runs.specs.Waits.{times};
-ghost use Rattle.aps_channel.specs.Lines.{AreApart, IsInNone, line_at, with_line, without, first_of};
+ghost use Rattle.aps_channel.specs.Lines.{AreLinesApart, IsInNone, queue_line_at, with_line, without, first_of};
 
 use crate::links::{Ends, Link, close_gap, link_behind};
 use aps_model::NoMemory;
@@ -53,9 +53,9 @@ impl Lines {
     /// Who stands first in the line. There is nobody exactly where the line is empty.
     pub fn first(&self, line: usize) -> Option<u16>
         requires { line < length self.now.lines }
-        ensures same { result ≡ first_of (line_at self.now.lines line) }
+        ensures same { result ≡ first_of (queue_line_at self.now.lines line) }
         ensures within { IfSome result (λ x. x < self.now.numbers) }
-        ensures apart { AreApart self.now.lines }
+        ensures apart { AreLinesApart self.now.lines }
     {
         self.ends[line].first
     }
@@ -65,7 +65,7 @@ impl Lines {
         requires line { line < length self.old.lines }
         requires number { number < self.old.numbers }
         requires free { IsInNone self.old number }
-        ensures { self.new ≡ with_line self.old line (line_at self.old.lines line ++ number ∷ []) }
+        ensures { self.new ≡ with_line self.old line (queue_line_at self.old.lines line ++ number ∷ []) }
     {
         let ends = self.ends[line];
         link_behind(&mut self.links, ends.last, number);
@@ -75,8 +75,8 @@ impl Lines {
     /// The number leaves the line, in which it stands.
     pub fn remove(&mut self, line: usize, number: u16)
         requires line { line < length self.old.lines }
-        requires there { 1 ≤ times number (line_at self.old.lines line) }
-        ensures { self.new ≡ with_line self.old line (without number (line_at self.old.lines line)) }
+        requires there { 1 ≤ times number (queue_line_at self.old.lines line) }
+        ensures { self.new ≡ with_line self.old line (without number (queue_line_at self.old.lines line)) }
     {
         let ends = self.ends[line];
         let link = self.links[number as usize];

@@ -29,12 +29,12 @@ pub struct Serving {
 }
 
 impl Model for Serving {
-    ghost use Rattle.aps_channel.specs.Lines.{line_at};
+    ghost use Rattle.aps_channel.specs.Lines.{queue_line_at};
     ghost use Rattle.aps_channel.specs.Serving.{IsServing, triples_of, Serving as Plain};
 
     ghost Value = { Plain };
 
-    ghost view = { λ s. record { triples = triples_of s.held.items (line_at s.servers.lines 0); threads = s.servers.numbers } };
+    ghost view = { λ s. record { triples = triples_of s.held.items (queue_line_at s.servers.lines 0); threads = s.servers.numbers } };
 
     ghost invariant = { λ s. IsServing s.servers s.held.items };
 }

@@ -51,13 +51,13 @@ pub struct Waiting {
 impl Model for Waiting {
     ghost use Rattle.aps_channel.specs.Waiting.{Waiting as Plain};
     ghost use Rattle.aps_channel.specs.Queues.{messages_of};
-    ghost use Rattle.aps_channel.specs.Records.{AreKept};
+    ghost use Rattle.aps_channel.specs.Records.{AreMessagesKept};
 
     ghost Value = { Plain };
 
     ghost view = { λ w. record { messages = messages_of w.records w.arrivals.lines; threads = w.threads } };
 
-    ghost invariant = { λ w. AreKept w.arrivals w.levels w.in_use.items w.records w.threads };
+    ghost invariant = { λ w. AreMessagesKept w.arrivals w.levels w.in_use.items w.records w.threads };
 }
 
 impl Waiting {

@@ -7,7 +7,7 @@ use Rattle.std.proofs.lemmas.List.Elements.{All-get_or}
 use Rattle.aps_model.specs.declared.entry.Entry.{Entry}
 use Rattle.aps_check.specs.declared.verdict.Rule.{Rule}
 use Rattle.aps_check.specs.declared.verdict.Rule.TheVariants.{Turn, From, To, Ran, Billed, Critical, Done, Picked, Starved, Flagged, After}
-use Rattle.aps_check.specs.Difference.{Agrees, IsFirstDifference, fields, place_of}
+use Rattle.aps_check.specs.Difference.{Agrees, IsFirstDifference, fields, place_of_field}
 
 -- an entry agrees with itself
 pub agrees_self : (x : Entry) (field : Rule) → Agrees x x field
@@ -29,7 +29,7 @@ all_take {X} P xs n i d all less within =
     let inside : i < length (take n xs) = simp length-take (omega arith) in
     subst P (get_or-take n xs i d less) (All-get_or P (take n xs) i d inside all)
 
-earlier : (e x : Entry) (field : Rule) (n : ℕ) → All (Agrees e x) (take n fields) → place_of field < n → Agrees e x field
+earlier : (e x : Entry) (field : Rule) (n : ℕ) → All (Agrees e x) (take n fields) → place_of_field field < n → Agrees e x field
 earlier e x From n all less = all_take (Agrees e x) fields n 0 From all less (omega arith)
 earlier e x To n all less = all_take (Agrees e x) fields n 1 To all less (omega arith)
 earlier e x Ran n all less = all_take (Agrees e x) fields n 2 Ran all less (omega arith)
@@ -46,7 +46,7 @@ earlier e x After n all less = tt
 abbrev rule_at : ℕ → Rule
 rule_at n = get_or (fields ++ Turn ∷ After ∷ []) n After
 
-at_its_place : (rule : Rule) → rule_at (place_of rule) ≡ rule
+at_its_place : (rule : Rule) → rule_at (place_of_field rule) ≡ rule
 at_its_place From = refl
 at_its_place To = refl
 at_its_place Ran = refl
@@ -60,11 +60,11 @@ at_its_place Turn = refl
 at_its_place After = refl
 
 pub one_difference : (e x : Entry) (f g : Rule) → IsFirstDifference e x f → IsFirstDifference e x g → f ≡ g
-one_difference e x f g a b = elim (cases_order (place_of f) (place_of g)) [
+one_difference e x f g a b = elim (cases_order (place_of_field f) (place_of_field g)) [
   | inl same ↦ sym (at_its_place f) ∙ ap rule_at same ∙ at_its_place g
   | inr other ↦ elim other [
-    | inl less ↦ absurd (a.here (earlier e x f (place_of g) b.before less))
-    | inr more ↦ absurd (b.here (earlier e x g (place_of f) a.before more))
+    | inl less ↦ absurd (a.here (earlier e x f (place_of_field g) b.before less))
+    | inr more ↦ absurd (b.here (earlier e x g (place_of_field f) a.before more))
   ]
 ]
 

@@ -14,7 +14,7 @@ use Rattle.aps_model.specs.Legal.{IsLegal}
 use Rattle.aps_model.specs.Limits.{last_cpu}
 use Rattle.aps_model.specs.Valid.{IsScenario}
 use Rattle.aps_core.specs.Run.{Run, Setup}
-use Rattle.aps_core.specs.Turn.{IsTaken, with_entry}
+use Rattle.aps_core.specs.Turn.{IsTurnTaken, with_entry}
 use Rattle.aps_core.proofs.Kept.{not_over}
 use Rattle.aps_core.proofs.Turns.{due_now}
 use Rattle.aps_text.specs.InTime.{IsInTime}
@@ -30,19 +30,19 @@ use Rattle.aps_check.specs.declared.verdict.Rule.{Rule}
 use Rattle.aps_check.specs.declared.verdict.Rule.TheVariants.{Turn, After}
 use Rattle.aps_check.specs.declared.verdict.Verdict.{Verdict}
 use Rattle.aps_check.specs.declared.verdict.Verdict.TheVariants.{Legal, Breaks}
-use Rattle.aps_check.specs.Following.{begun, IsFollowed, IsNamedStep, IsTextVerdict, IsOther, IsOtherAt, IsUpTo, IsUpToLine, TellsDifference}
+use Rattle.aps_check.specs.Following.{run_begun, IsFollowed, IsNamedStep, IsTextVerdict, IsOther, IsOtherAt, HasReadUpTo, IsUpToLine, TellsDifference}
 use Rattle.aps_check.specs.Verdict.{BreaksRule, HasTurnAfter, IsFirstBreach, IsOtherStep, IsRunSoFar, IsVerdict, step_after}
 
 -- the moments of a step are those of a line
 pub step_in_time : (run : Run) (e : Entry) → IsScenario run.setup.scenario → IsLegal run.setup.scenario run.setup.order run.entries
-    → IsTaken run e.cpu e → IsInTime e
+    → IsTurnTaken run e.cpu e → IsInTime e
 step_in_time run e valid legal taken =
     let now = due_now run.setup.scenario run.setup.order run.entries e.cpu valid legal (not_over run taken.goes_on) taken.turn in
     let fits : IsEntry e = subst IsEntry (sym taken.stepped) now.fits in
     record { from = omega (arith, fits.forward, fits.to); to = fits.to }
 
 -- at first nothing was followed
-pub nothing_followed : (run : Run) (text : List ℕ) → IsUpTo run run text text
+pub nothing_followed : (run : Run) (text : List ℕ) → HasReadUpTo run run text text
 nothing_followed run text = record {
   entries = [];
   lines = All-nil IsLine;
@@ -51,8 +51,8 @@ nothing_followed run text = record {
 }
 
 -- one line more
-pub line_followed : (run before later : Run) (text rest after : List ℕ) → IsUpTo run before text rest → IsUpToLine before later rest after
-    → IsUpTo run later text after
+pub line_followed : (run before later : Run) (text rest after : List ℕ) → HasReadUpTo run before text rest → IsUpToLine before later rest after
+    → HasReadUpTo run later text after
 line_followed run before later text rest after so_far line = record {
   entries = so_far.entries ++ line.entry ∷ [];
   lines = All-push IsLine so_far.entries line.entry so_far.lines line.line;
@@ -102,7 +102,7 @@ module _ (setup : Setup) (text : List ℕ) (entries : List Entry) (journal : IsJ
     pub text_is : rest ≡ journal_text more
     pub same : later.setup ≡ setup
 
-  pub reads_on : (later : Run) (rest : List ℕ) → IsUpTo (begun setup) later text rest → ReadsOnBehind later rest
+  pub reads_on : (later : Run) (rest : List ℕ) → HasReadUpTo (run_begun setup) later text rest → ReadsOnBehind later rest
   reads_on later rest so_far =
       let g = goes_on entries so_far.entries rest journal.lines so_far.lines (sym journal.text ∙ so_far.parts) in
       record {
@@ -114,19 +114,19 @@ module _ (setup : Setup) (text : List ℕ) (entries : List Entry) (journal : IsJ
       }
 
   -- the run's entries stand at the front, and those behind them are behind their number
-  pub front_inside : (later : Run) (rest : List ℕ) (n : ℕ) → IsUpTo (begun setup) later text rest → n ≡ length later.entries → n ≤ length entries
+  pub front_inside : (later : Run) (rest : List ℕ) (n : ℕ) → HasReadUpTo (run_begun setup) later text rest → n ≡ length later.entries → n ≤ length entries
   front_inside later rest n so_far at =
       let on = reads_on later rest so_far in
       omega (arith, at, ap length on.whole, length-append later.entries on.more)
 
-  pub front_and_rest : (later : Run) (rest : List ℕ) (n : ℕ) → IsUpTo (begun setup) later text rest → n ≡ length later.entries
+  pub front_and_rest : (later : Run) (rest : List ℕ) (n : ℕ) → HasReadUpTo (run_begun setup) later text rest → n ≡ length later.entries
       → later.entries ++ drop n entries ≡ entries
   front_and_rest later rest n so_far at =
       let on = reads_on later rest so_far in
       ap (λ l. later.entries ++ l) (ap (drop n) on.whole ∙ ap (λ k. drop k (later.entries ++ on.more)) at ∙ drop-append_seam later.entries on.more) ∙ sym on.whole
 
   -- the verdict on the run's entries and those behind them is that on the text
-  pub rest_judged : (later : Run) (rest : List ℕ) (n : ℕ) (behind : List Entry) (verdict : Verdict) → IsUpTo (begun setup) later text rest
+  pub rest_judged : (later : Run) (rest : List ℕ) (n : ℕ) (behind : List Entry) (verdict : Verdict) → HasReadUpTo (run_begun setup) later text rest
       → n ≡ length later.entries → behind ≡ drop n entries → IsVerdict later.setup (later.entries ++ behind) verdict
       → IsTextVerdict setup text verdict
   rest_judged later rest n behind verdict so_far at is judged =
@@ -144,9 +144,9 @@ module _ (setup : Setup) (text : List ℕ) (entries : List Entry) (journal : IsJ
     pub own : entry.cpu ≡ made.cpu
     pub other : ¬ (entry ≡ made)
     pub sound : IsRunSoFar setup before
-    pub taken : IsTaken (record { setup = setup; entries = before }) made.cpu made
+    pub taken : IsTurnTaken (record { setup = setup; entries = before }) made.cpu made
 
-  pub differing : (before later : Run) (rest : List ℕ) (n : ℕ) (made : Entry) → IsUpTo (begun setup) before text rest
+  pub differing : (before later : Run) (rest : List ℕ) (n : ℕ) (made : Entry) → HasReadUpTo (run_begun setup) before text rest
       → IsOther before later rest made → n ≡ length later.entries → IsDiffering n made
   differing before later rest n made so_far differs at =
       let g = goes_on entries so_far.entries rest journal.lines so_far.lines (sym journal.text ∙ so_far.parts) in
@@ -169,10 +169,10 @@ module _ (setup : Setup) (text : List ℕ) (entries : List Entry) (journal : IsJ
         taken = step.taken;
       }
 
-  pub found_differing : (core later : Run) (n : ℕ) (made : Entry) → core ≡ begun setup → IsFollowed core later text (Differs made)
+  pub found_differing : (core later : Run) (n : ℕ) (made : Entry) → core ≡ run_begun setup → IsFollowed core later text (Differs made)
       → n ≡ length later.entries → IsDiffering n made
   found_differing core later n made is stop at =
-      differing stop.0 later stop.1 n made (subst (λ (r : Run). IsUpTo r stop.0 text stop.1) is stop.2) stop.3 at
+      differing stop.0 later stop.1 n made (subst (λ (r : Run). HasReadUpTo r stop.0 text stop.1) is stop.2) stop.3 at
 
   module _ (n : ℕ) (made : Entry) (d : IsDiffering n made) where
     at_place : n - 1 ≡ length d.before

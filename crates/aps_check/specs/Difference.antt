@@ -9,18 +9,18 @@ abbrev pub fields : List Rule
 fields = From ∷ To ∷ Ran ∷ Billed ∷ Critical ∷ Done ∷ Picked ∷ Starved ∷ Flagged ∷ []
 
 -- the place of a field among them; turn and end are no fields
-abbrev pub place_of : Rule → ℕ
-place_of From = 0
-place_of To = 1
-place_of Ran = 2
-place_of Billed = 3
-place_of Critical = 4
-place_of Done = 5
-place_of Picked = 6
-place_of Starved = 7
-place_of Flagged = 8
-place_of Turn = 9
-place_of After = 10
+abbrev pub place_of_field : Rule → ℕ
+place_of_field From = 0
+place_of_field To = 1
+place_of_field Ran = 2
+place_of_field Billed = 3
+place_of_field Critical = 4
+place_of_field Done = 5
+place_of_field Picked = 6
+place_of_field Starved = 7
+place_of_field Flagged = 8
+place_of_field Turn = 9
+place_of_field After = 10
 
 -- the entries agree in this field
 abbrev pub Agrees : Entry → Entry → Rule → Type 0
@@ -38,5 +38,5 @@ Agrees e x After = ⊤
 
 -- this is the first field in which they differ
 pub record IsFirstDifference (e x : Entry) (field : Rule) : Type 0 where
-  pub before : All (Agrees e x) (take (place_of field) fields)
+  pub before : All (Agrees e x) (take (place_of_field field) fields)
   pub here : ¬ Agrees e x field

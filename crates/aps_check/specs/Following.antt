@@ -5,7 +5,7 @@ use Rattle.aps_model.specs.declared.entry.Entry.{Entry}
 use Rattle.aps_model.specs.Journal.{entry_line, journal_text, IsJournal, IsLine}
 use Rattle.aps_model.specs.Limits.{greatest_u32}
 use Rattle.aps_core.specs.Run.{Run, Setup}
-use Rattle.aps_core.specs.Turn.{IsTaken, with_entry}
+use Rattle.aps_core.specs.Turn.{IsTurnTaken, with_entry}
 use Rattle.aps_text.specs.InTime.{IsInTime}
 use Rattle.aps_text.specs.Line.{cpu_of_line}
 use Rattle.aps_check.specs.declared.following.Followed.{Followed}
@@ -16,15 +16,15 @@ use Rattle.aps_check.specs.Difference.{IsFirstDifference}
 use Rattle.aps_check.specs.Verdict.{IsRunSoFar, IsVerdict}
 
 -- a run that has no entries yet
-abbrev pub begun : Setup → Run
-begun setup = record { setup = setup; entries = [] }
+abbrev pub run_begun : Setup → Run
+run_begun setup = record { setup = setup; entries = [] }
 
 -- the text is a journal, and this is the verdict on it
 abbrev pub IsTextVerdict : Setup → List ℕ → Verdict → Type 0
 IsTextVerdict setup text verdict = (entries : List Entry) × IsJournal entries text × IsVerdict setup entries verdict
 
 -- the text begins with the lines of entries that the later run has behind those of the run; this is the rest
-pub record IsUpTo (run later : Run) (text rest : List ℕ) : Type 0 where
+pub record HasReadUpTo (run later : Run) (text rest : List ℕ) : Type 0 where
   pub entries : List Entry
   pub lines : All IsLine entries
   pub parts : text ≡ journal_text entries ++ rest
@@ -41,7 +41,7 @@ pub record IsUpToLine (run later : Run) (text rest : List ℕ) : Type 0 where
 pub record IsNamedStep (run later : Run) (text : List ℕ) (made : Entry) : Type 0 where
   pub sound : IsRunSoFar run.setup run.entries
   pub named : cpu_of_line text ≡ Some made.cpu
-  pub taken : IsTaken run made.cpu made
+  pub taken : IsTurnTaken run made.cpu made
   pub goes_on : later ≡ with_entry run made
   pub in_time : IsInTime made
 
@@ -52,10 +52,10 @@ pub record IsOther (run later : Run) (text : List ℕ) (made : Entry) : Type 0 w
 
 -- how far the text was followed
 abbrev pub IsFollowed : Run → Run → List ℕ → Followed → Type 0
-IsFollowed run later text Whole = IsUpTo run later text []
-IsFollowed run later text Waits = (rest : List ℕ) × IsUpTo run later text rest
+IsFollowed run later text Whole = HasReadUpTo run later text []
+IsFollowed run later text Waits = (rest : List ℕ) × HasReadUpTo run later text rest
 IsFollowed run later text (Differs made) =
-    (before : Run) × (rest : List ℕ) × IsUpTo run before text rest × IsOther before later rest made
+    (before : Run) × (rest : List ℕ) × HasReadUpTo run before text rest × IsOther before later rest made
 
 abbrev pub StopsAtLine : Run → Run → List ℕ → Followed → Type 0
 StopsAtLine run later text Whole = ⊥

@@ -1,8 +1,8 @@
 //! A journal judged entry by entry, beside a core that makes the steps.
 ghost use Rattle.std.specs.Prelude.{◌≡◌, ◌≤◌, ◌++◌, IfOk, MatchOption};
-ghost use Rattle.aps_core.specs.Turn.{IsTaken, with_entry};
+ghost use Rattle.aps_core.specs.Turn.{IsTurnTaken, with_entry};
 ghost use Rattle.aps_check.specs.Breach.{IsBreach};
-ghost use Rattle.aps_check.specs.Following.{begun};
+ghost use Rattle.aps_check.specs.Following.{run_begun};
 ghost use Rattle.aps_check.specs.Verdict.{IsVerdict};
 ghost use Rattle.aps_model.specs.Limits.{most_entries};
 
@@ -38,7 +38,7 @@ pub fn check(
 pub fn boot(alloc: Global, scenario: &Scenario, order: Order, limit: u32) -> Result<Core, NoMemory>
     requires some { 1 ≤ limit }
     requires few { limit ≤ most_entries }
-    ensures { IfOk result (λ core. core ≡ begun (record { scenario = scenario.now; order = order; limit = limit })) }
+    ensures { IfOk result (λ core. core ≡ run_begun (record { scenario = scenario.now; order = order; limit = limit })) }
 {
     Core::boot(alloc, scenario.copy(alloc)?, order, limit)
 }
@@ -72,7 +72,7 @@ struct Breach {
 /// What this entry breaks behind those of the core, if anything. The core steps where the entry's processor has the turn:
 /// where the entry breaks nothing, the core has it as its last one.
 fn breach_of(core: &mut Core, entry: &Entry) -> Option<Breach>
-    ensures { MatchOption result (IsTaken core.old entry.now.cpu entry.now × (core.new ≡ with_entry core.old entry.now))
+    ensures { MatchOption result (IsTurnTaken core.old entry.now.cpu entry.now × (core.new ≡ with_entry core.old entry.now))
         (λ breach. IsBreach core.old entry.now breach) }
 {
     let history = core.history();

@@ -20,7 +20,7 @@ use Rattle.laws_runs.proofs.ThreadLaws.{stamps_law}
 use Rattle.aps_core.specs.Room.{changes_of_a_run}
 use Rattle.aps_tasks.specs.Start.{start_table}
 use Rattle.aps_tasks.specs.Table.{Table}
-use Rattle.aps_core.specs.Machine.{IsMachine}
+use Rattle.aps_core.specs.Machine.{IsCoreMachine}
 use Rattle.aps_core.specs.Threads.{threads_of}
 use Rattle.aps_core.proofs.Threads.{threads_joined}
 
@@ -42,7 +42,7 @@ all_threads scenario n valid is = omega (arith, is, valid.few_threads, threads_l
 
 -- it is one of a machine
 pub machine_opening : (scenario : Scenario) (waiters : ℕ) (inherit : Inheritance) (parts replies changes : ℕ) → IsScenario scenario → waiters ≡ length (opening scenario).threads → inherit ≡ inheritance_of (opening scenario)
-    → parts ≡ scenario.shape.parts → most_commands ≤ replies → changes_of_a_run ≤ changes → IsMachine (opening scenario) waiters inherit parts replies changes
+    → parts ≡ scenario.shape.parts → most_commands ≤ replies → changes_of_a_run ≤ changes → IsCoreMachine (opening scenario) waiters inherit parts replies changes
 machine_opening scenario waiters inherit parts replies changes valid all inherits same room more = record {
   shape = valid.shape;
   few_threads = omega (arith, threads_length scenario.shape 0 0 scenario.threads, valid.few_threads);

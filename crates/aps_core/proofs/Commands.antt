@@ -29,9 +29,9 @@ use Rattle.aps_model.specs.Valid.{IsCall, IsCommand, IsScenario, IsWindow}
 use Rattle.laws_runs.proofs.Performed.{performed_by}
 use Rattle.aps_ctl.specs.Pending.{all_at, given, next_at, without_next}
 use Rattle.aps_ctl.proofs.InTurn.{next_first, next_left, none_next}
-use Rattle.aps_core.specs.Calls.{AreInRange, IsInRange, all_done, command_at}
+use Rattle.aps_core.specs.Calls.{AreInRange, IsCallInRange, all_done, command_at}
 use Rattle.aps_core.specs.Counts.{Counts}
-use Rattle.aps_core.specs.Machine.{IsMachine}
+use Rattle.aps_core.specs.Machine.{IsCoreMachine}
 use Rattle.aps_core.specs.Room.{HasRoomToWake, changes_of_a_run}
 use Rattle.aps_core.proofs.Counting.{counts_resized}
 use Rattle.aps_window.specs.Window.{Window, resized}
@@ -71,8 +71,8 @@ performed_kept parts threads call rows shape view fits m =
 
 -- the machine keeps its ranges
 pub performed_machine : (parts threads : ℕ) (call : Call) (view : CtlView) (s : SchedulerState) (rows : List PartitionRow) (shape : Shape) (waiters : ℕ) (inherit : Inheritance) (tree_parts tree_parts' replies changes : ℕ)
-    → IsCall parts threads call → IsMachine s waiters inherit tree_parts replies changes → shape ≡ (perform call s.rows s.shape view).shape → tree_parts' ≡ tree_parts
-    → IsMachine (record s { rows = rows; shape = shape }) waiters inherit tree_parts' replies changes
+    → IsCall parts threads call → IsCoreMachine s waiters inherit tree_parts replies changes → shape ≡ (perform call s.rows s.shape view).shape → tree_parts' ≡ tree_parts
+    → IsCoreMachine (record s { rows = rows; shape = shape }) waiters inherit tree_parts' replies changes
 performed_machine parts threads call view s rows shape waiters inherit tree_parts tree_parts' replies changes fits m left same =
     let kept : IsShapeKept s.shape shape = subst (IsShapeKept s.shape) (sym left) (performed_kept parts threads call s.rows s.shape view fits m.shape) in
     record {
@@ -200,7 +200,7 @@ no_call a e = cc
 -- the next command of a tick is the first one that is still to come
 pub record IsNext (h : List Entry) (j : ℕ) (s : SchedulerState) (pending : List (ℕ × CommandRow)) (place : ℕ) (call : Call) : Type 0 where
   pub done : all_done h j s pending ≡ all_done h j (do_command h j s (command_at j place call)) (without_next j pending)
-  pub range : AreInRange (all_at j pending) → IsInRange call
+  pub range : AreInRange (all_at j pending) → IsCallInRange call
   pub left : AreInRange (all_at j pending) → AreInRange (all_at j (without_next j pending))
   pub fewer : length (all_at j (without_next j pending)) < length (all_at j pending)
 
@@ -217,8 +217,8 @@ next_of h j s pending place call is = by (all_at j pending) refl
               ap (fold (do_command h j) s) e
               ∙ ap (λ (c : ℕ × Call). fold (do_command h j) (do_command h j s (command_at j c.0 c.1)) later) (sym same)
               ∙ ap (fold (do_command h j) (do_command h j s (command_at j place call))) (sym rest);
-          range = λ all. subst (λ (c : ℕ × Call). IsInRange c.1) (sym same) (All-head (λ (c : ℕ × CommandRow). IsInRange c.1.call) next later (subst AreInRange e all));
-          left = λ all. subst AreInRange (sym rest) (All-tail (λ (c : ℕ × CommandRow). IsInRange c.1.call) next later (subst AreInRange e all));
+          range = λ all. subst (λ (c : ℕ × Call). IsCallInRange c.1) (sym same) (All-head (λ (c : ℕ × CommandRow). IsCallInRange c.1.call) next later (subst AreInRange e all));
+          left = λ all. subst AreInRange (sym rest) (All-tail (λ (c : ℕ × CommandRow). IsCallInRange c.1.call) next later (subst AreInRange e all));
           fewer = omega (arith, ap length rest, ap length e);
         }
 
@@ -278,18 +278,18 @@ commands_room place stamp h j (c ∷ cs) s m = commands_room place stamp h j cs 
 
 -- ---- what the commands of a tick rest on
 
-numbered_in_range : (n : ℕ) (rows : List CommandRow) → All (λ (row : CommandRow). IsInRange row.call) rows → AreInRange (enumerate_from n rows)
-numbered_in_range n [] all = All-nil (λ (c : ℕ × CommandRow). IsInRange c.1.call)
+numbered_in_range : (n : ℕ) (rows : List CommandRow) → All (λ (row : CommandRow). IsCallInRange row.call) rows → AreInRange (enumerate_from n rows)
+numbered_in_range n [] all = All-nil (λ (c : ℕ × CommandRow). IsCallInRange c.1.call)
 numbered_in_range n (row ∷ rows) all =
-    All-cons (λ (c : ℕ × CommandRow). IsInRange c.1.call) (n, row) (enumerate_from (n + 1) rows)
-    (All-head (λ (r : CommandRow). IsInRange r.call) row rows all)
-    (numbered_in_range (n + 1) rows (All-tail (λ (r : CommandRow). IsInRange r.call) row rows all))
+    All-cons (λ (c : ℕ × CommandRow). IsCallInRange c.1.call) (n, row) (enumerate_from (n + 1) rows)
+    (All-head (λ (r : CommandRow). IsCallInRange r.call) row rows all)
+    (numbered_in_range (n + 1) rows (All-tail (λ (r : CommandRow). IsCallInRange r.call) row rows all))
 
 pub in_range : (scenario : Scenario) (j : ℕ) → IsScenario scenario → AreInRange (commands_of scenario j)
 in_range scenario j valid =
-    All-filter (λ (c : ℕ × CommandRow). nat_eq c.1.tick j) (λ (c : ℕ × CommandRow). IsInRange c.1.call) (enumerate_from 0 scenario.commands)
+    All-filter (λ (c : ℕ × CommandRow). nat_eq c.1.tick j) (λ (c : ℕ × CommandRow). IsCallInRange c.1.call) (enumerate_from 0 scenario.commands)
     (numbered_in_range 0 scenario.commands
-    (All-weaker (IsCommand scenario.shape.parts scenario.shape.ticks (length scenario.threads)) (λ (r : CommandRow). IsInRange r.call)
+    (All-weaker (IsCommand scenario.shape.parts scenario.shape.ticks (length scenario.threads)) (λ (r : CommandRow). IsCallInRange r.call)
     (λ row fits. (scenario.shape.parts, length scenario.threads, fits.call)) scenario.commands valid.commands))
 
 -- where no reply comes, no command does

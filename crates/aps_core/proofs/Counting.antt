@@ -26,12 +26,12 @@ use Rattle.aps_model.specs.Shape.{IsShape}
 use Rattle.aps_model.specs.Usage.{billed_by, names, overlap, used, window_critical, window_used}
 use Rattle.laws_runs.specs.Moments.{moment}
 use Rattle.aps_window.specs.Bills.{Bill, bills_critical, bills_used}
-use Rattle.aps_window.specs.Entries.{AreInOneTick, IsInOneTick, bill_to, bills_of, with_billed, with_entry}
+use Rattle.aps_window.specs.Entries.{AreInOneTick, IsInOneTick, bill_to, bills_of, with_billed, bills_with_entry}
 use Rattle.aps_window.specs.declared.slot.Slot.{Slot}
 use Rattle.aps_window.specs.Slots.{no_slot, slot_at}
 use Rattle.aps_window.specs.StandsFor.{StandsFor}
-use Rattle.aps_window.specs.Whole.{IsWhole}
-use Rattle.aps_window.specs.Window.{Window, advanced, billed, billed_on, opened, resized, total_of}
+use Rattle.aps_window.specs.Whole.{IsWholeWindow}
+use Rattle.aps_window.specs.Window.{Window, advanced, window_billed, billed_on, opened, resized, total_of}
 use Rattle.aps_window.proofs.Entries.{critical_same, overlap_whole, used_same}
 use Rattle.aps_window.proofs.Moves.{advanced_is}
 use Rattle.aps_window.proofs.Stands.{advanced_stands, advanced_whole, billed_on_is, billed_whole, opened_stands, opened_whole, resized_stands, total_stands}
@@ -93,8 +93,8 @@ counts_resized shape other h j w c same short = record {
 
 -- ---- one entry more
 
-bills_more : (tick : ℕ) (h : List Entry) (e : Entry) → bills_of tick (h ++ e ∷ []) ≡ with_entry tick (bills_of tick h) e
-bills_more tick h e = fold-append (with_entry tick) [] h (e ∷ [])
+bills_more : (tick : ℕ) (h : List Entry) (e : Entry) → bills_of tick (h ++ e ∷ []) ≡ bills_with_entry tick (bills_of tick h) e
+bills_more tick h e = fold-append (bills_with_entry tick) [] h (e ∷ [])
 
 -- an entry that bills no time
 unbilled : (tick : ℕ) (bills : List Bill) (e : Entry) (o : Option ℕ) → ((p : ℕ) → o ≡ Some p → e.to ≤ e.from) → with_billed tick bills e o ≡ bills
@@ -116,13 +116,13 @@ counts_unbilled shape h j w e c whole none = record {
 }
 
 -- one that does
-with_time : (tick : ℕ) (bills : List Bill) (e : Entry) (p : ℕ) → e.from < e.to → e.billed ≡ Some p → with_entry tick bills e ≡ bill_to tick e p ∷ bills
+with_time : (tick : ℕ) (bills : List Bill) (e : Entry) (p : ℕ) → e.from < e.to → e.billed ≡ Some p → bills_with_entry tick bills e ≡ bill_to tick e p ∷ bills
 with_time tick bills e p some is =
     let test : nat_lt e.from e.to ≡ true = grind (arith, nat_tests) in
     ap (with_billed tick bills e) is ∙ ap (λ t. cond t (bill_to tick e p ∷ bills) bills) test
 
 pub counts_billed : (shape : Shape) (h : List Entry) (j : ℕ) (w new : Window) (e : Entry) (p : ℕ) → Counts shape h j w → IsInOneTick shape.tick e → e.from < e.to → e.billed ≡ Some p
-    → new ≡ billed w p (e.from / shape.tick) (e.to - e.from) e.critical
+    → new ≡ window_billed w p (e.from / shape.tick) (e.to - e.from) e.critical
     → ((bills : List Bill) → StandsFor w bills → StandsFor new (bill_to shape.tick e p ∷ bills))
     → Counts shape (h ++ e ∷ []) j new
 counts_billed shape h j w new e p c whole some is new_is stands = record {
@@ -130,7 +130,7 @@ counts_billed shape h j w new e p c whole some is new_is stands = record {
   span = ap (λ (v : Window). v.span) new_is ∙ c.span;
   short = c.short;
   stands = subst (StandsFor new) (sym (bills_more shape.tick h e ∙ with_time shape.tick (bills_of shape.tick h) e p some is)) (stands (bills_of shape.tick h) c.stands);
-  whole = subst IsWhole (sym new_is) (billed_whole w p (e.from / shape.tick) (e.to - e.from) e.critical c.whole);
+  whole = subst IsWholeWindow (sym new_is) (billed_whole w p (e.from / shape.tick) (e.to - e.from) e.critical c.whole);
   each = All-push (IsInOneTick shape.tick) h e c.each whole;
 }
 
@@ -138,7 +138,7 @@ counts_billed shape h j w new e p c whole some is new_is stands = record {
 
 -- the same time, billed to the same partition
 pub record IsSameBill (e other : Entry) : Type 0 where
-  pub billed : other.billed ≡ e.billed
+  pub window_billed : other.billed ≡ e.billed
   pub from : other.from ≡ e.from
   pub to : other.to ≡ e.to
   pub critical : other.critical ≡ e.critical

@@ -11,16 +11,16 @@ use Rattle.aps_model.proofs.AfterLaws.{after_none}
 use Rattle.laws_runs.specs.Runs.{finished}
 use Rattle.laws_runs.proofs.FixedRun.{finish_steps, finish_stops}
 use Rattle.aps_core.specs.Core.{IsUnderWay}
-use Rattle.aps_core.specs.Run.{IsLater, Run, end_of_run, finished_run, state_of}
+use Rattle.aps_core.specs.Run.{IsLater, Run, end_of_run, finished_run, state_of_run}
 use Rattle.aps_core.specs.Turn.{with_entry}
 
 -- one step of the lowest processor that has the turn
-pub finish_more : (run next : Run) (c : ℕ) (e : Entry) → IsUnderWay run → length run.entries < run.setup.limit → end_of_run run ≡ None → c ≡ first_due (state_of run) run.entries (state_of run).shape.cpus
-    → e ≡ (step run.setup.scenario (state_of run) run.entries c).entry → next ≡ with_entry run e → finished_run next ≡ finished_run run
+pub finish_more : (run next : Run) (c : ℕ) (e : Entry) → IsUnderWay run → length run.entries < run.setup.limit → end_of_run run ≡ None → c ≡ first_due (state_of_run run) run.entries (state_of_run run).shape.cpus
+    → e ≡ (step run.setup.scenario (state_of_run run) run.entries c).entry → next ≡ with_entry run e → finished_run next ≡ finished_run run
 finish_more run next c e r room goes_on lowest is same =
     let scenario = run.setup.scenario in
-    let first : e ≡ (step scenario (state_of run) run.entries (first_due (state_of run) run.entries (state_of run).shape.cpus)).entry =
-    is ∙ ap (λ d. (step scenario (state_of run) run.entries d).entry) lowest in
+    let first : e ≡ (step scenario (state_of_run run) run.entries (first_due (state_of_run run) run.entries (state_of_run run).shape.cpus)).entry =
+    is ∙ ap (λ d. (step scenario (state_of_run run) run.entries d).entry) lowest in
     ap finished_run same
     ∙ ap (λ x. record run { entries = finished scenario run.setup.limit (run.entries ++ x ∷ []) }) first
     ∙ ap (λ es. record run { entries = es }) (sym (finish_steps scenario run.setup.order run.setup.limit run.entries r.setup.valid r.legal room goes_on))

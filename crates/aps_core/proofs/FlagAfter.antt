@@ -27,11 +27,11 @@ use Rattle.aps_model.specs.Step.{chosen}
 use Rattle.aps_model.proofs.Ranges.{fold_more}
 use Rattle.aps_model.proofs.GreatestLaws.{IsUnbeaten, beats, greatest-is, greatest-unbeaten}
 use Rattle.laws_runs.proofs.PickSays.{chosen_shape}
-use Rattle.aps_ready.specs.Ready.{members, without}
+use Rattle.aps_ready.specs.Ready.{members, contenders_without}
 use Rattle.aps_ready.specs.declared.ahead.Ahead.{Ahead}
 use Rattle.aps_ready.specs.Ahead.{IsAhead, IsAheadOf}
 use Rattle.aps_ready.specs.Gates.{is_first}
-use Rattle.aps_core.specs.Lowest.{IsNoLess, IsRank, IsTold, IsKey, IsLeast, IsLeastOf, height, limit, lowest, rank_now, ranked_at, height_past_all, key_past_all}
+use Rattle.aps_core.specs.Lowest.{IsNoLess, IsRank, IsFoundLowest, IsKey, IsLeastKey, IsLeastOf, height, limit, lowest, rank_now, ranked_at, height_past_all, key_past_all}
 use Rattle.aps_core.specs.Seats.{seats_of}
 use Rattle.aps_core.proofs.Seats.{missing_in}
 
@@ -119,8 +119,8 @@ rank_of_look s h parts c now d is = by_test (not (nat_eq d c) && nat_lt now (due
     by_test false = tt
 
 -- with one processor more
-pub least_more : (d : ℕ) (o : Option Rank) (best : Option (ℕ × Rank)) (least key next : ℕ) → d < most_cpus → IsLeast best d least → IsRank o → IsKey o d key → next ≡ min least key
-    → IsLeast (lower_ranked d o best) (d + 1) next
+pub least_more : (d : ℕ) (o : Option Rank) (best : Option (ℕ × Rank)) (least key next : ℕ) → d < most_cpus → IsLeastKey best d least → IsRank o → IsKey o d key → next ≡ min least key
+    → IsLeastKey (lower_ranked d o best) (d + 1) next
 least_more d None None least key next inside told rank is more = omega (arith, told, is, more)
 least_more d None (Some b) least key next inside told rank is more =
     let small = height_small b.1 told.2 in
@@ -134,11 +134,11 @@ least_more d (Some r) (Some b) least key next inside told rank is more =
     let below = told.0 in
     let there = told.1 in
     elim (cases_lt (height b.1) (height r)) [
-      | inl less ↦ subst (λ t. IsLeast (cond t (Some (d, r)) (Some b)) (d + 1) next) (sym (height_higher r b.1 rank told.2 less)) (omega (arith, below), omega (arith, inside, below, there, is, more, less), told.2)
-      | inr most ↦ subst (λ t. IsLeast (cond t (Some (d, r)) (Some b)) (d + 1) next) (sym (height_lower r b.1 rank told.2 most)) (omega arith, omega (arith, inside, below, there, is, more, most), rank)
+      | inl less ↦ subst (λ t. IsLeastKey (cond t (Some (d, r)) (Some b)) (d + 1) next) (sym (height_higher r b.1 rank told.2 less)) (omega (arith, below), omega (arith, inside, below, there, is, more, less), told.2)
+      | inr most ↦ subst (λ t. IsLeastKey (cond t (Some (d, r)) (Some b)) (d + 1) next) (sym (height_lower r b.1 rank told.2 most)) (omega arith, omega (arith, inside, below, there, is, more, most), rank)
     ]
 
-pub least_small : (best : Option (ℕ × Rank)) (count least : ℕ) → IsLeast best count least → least ≤ key_past_all
+pub least_small : (best : Option (ℕ × Rank)) (count least : ℕ) → IsLeastKey best count least → least ≤ key_past_all
 least_small None count least told = omega (arith, told)
 least_small (Some b) count least told =
     let small = height_small b.1 told.2 in
@@ -155,26 +155,26 @@ least_of_more s h parts c now d least key next below told rank is past more = el
       let after : min (d + 1) (length s.cpus) ≡ d + 1 = omega (arith, inside) in
       let one : lowest s h parts c now (d + 1) ≡ lower_ranked d (ranked_at s h parts c now d) (lowest s h parts c now d) =
       fold_more (λ (best : Option (ℕ × Rank)) k. lower_ranked k (ranked_at s h parts c now k) best) _ 0 d d (omega arith) in
-      subst (λ k. IsLeast (lowest s h parts c now k) k next) (sym after)
-      (subst (λ o. IsLeast o (d + 1) next) (sym one)
-      (least_more d (ranked_at s h parts c now d) (lowest s h parts c now d) least key next below (subst (λ k. IsLeast (lowest s h parts c now k) k least) before told) (rank inside) (is inside) more))
+      subst (λ k. IsLeastKey (lowest s h parts c now k) k next) (sym after)
+      (subst (λ o. IsLeastKey o (d + 1) next) (sym one)
+      (least_more d (ranked_at s h parts c now d) (lowest s h parts c now d) least key next below (subst (λ k. IsLeastKey (lowest s h parts c now k) k least) before told) (rank inside) (is inside) more))
   | inr outside ↦
       let same : min (d + 1) (length s.cpus) ≡ min d (length s.cpus) = omega (arith, outside) in
       let small = least_small (lowest s h parts c now (min d (length s.cpus))) (min d (length s.cpus)) least told in
       let great = past outside in
       let stays : next ≡ least = omega (arith, more, small, great) in
-      subst (λ k. IsLeast (lowest s h parts c now k) k next) (sym same) (subst (IsLeast (lowest s h parts c now (min d (length s.cpus))) (min d (length s.cpus))) (sym stays) told)
+      subst (λ k. IsLeastKey (lowest s h parts c now k) k next) (sym same) (subst (IsLeastKey (lowest s h parts c now (min d (length s.cpus))) (min d (length s.cpus))) (sym stays) told)
 ]
 
 -- the processor and its height are read from its key
-pub least_told : (best : Option (ℕ × Rank)) (count least : ℕ) → count ≤ most_cpus → IsLeast best count least → IsTold best (last_cpu - least % most_cpus) (least / most_cpus)
+pub least_told : (best : Option (ℕ × Rank)) (count least : ℕ) → count ≤ most_cpus → IsLeastKey best count least → IsFoundLowest best (last_cpu - least % most_cpus) (least / most_cpus)
 least_told None count least few told = omega (arith, told)
 least_told (Some b) count least few told =
     let below = told.0 in
     let there = told.1 in
     (omega (arith, few, below, there), omega (arith, few, below, there), told.2)
 
-pub least_within : (best : Option (ℕ × Rank)) (count least : ℕ) → count ≤ most_cpus → IsLeast best count least → least / most_cpus < height_past_all → last_cpu - least % most_cpus < count
+pub least_within : (best : Option (ℕ × Rank)) (count least : ℕ) → count ≤ most_cpus → IsLeastKey best count least → least / most_cpus < height_past_all → last_cpu - least % most_cpus < count
 least_within None count least few told low = absurd (omega (arith, told, low))
 least_within (Some b) count least few told low =
     let below = told.0 in
@@ -367,10 +367,10 @@ looked_all s h parts c now left =
 
 -- who stands below it is flagged
 pub told_flagged : (s : SchedulerState) (h : List Entry) (parts : List PartFacts) (c now at least : ℕ) (left : Contender)
-    → IsTold (lowest s h parts c now s.shape.cpus) at least → IsShort s.shape.free (is_first (part_at parts left.facts.partition) left.facts.critical) left.facts.priority → least < limit_among s.shape.free parts left → flag_for s h parts c now (Some left) ≡ Some at
+    → IsFoundLowest (lowest s h parts c now s.shape.cpus) at least → IsShort s.shape.free (is_first (part_at parts left.facts.partition) left.facts.critical) left.facts.priority → least < limit_among s.shape.free parts left → flag_for s h parts c now (Some left) ≡ Some at
 told_flagged s h parts c now at least left told few low = looked_all s h parts c now left ∙ by_best (lowest s h parts c now s.shape.cpus) told
   where
-    by_best : (best : Option (ℕ × Rank)) → IsTold best at least → option_map (λ (best : ℕ × Rank). best.0) (best_if_lower s.shape.free (merit_among parts left) best) ≡ Some at
+    by_best : (best : Option (ℕ × Rank)) → IsFoundLowest best at least → option_map (λ (best : ℕ × Rank). best.0) (best_if_lower s.shape.free (merit_among parts left) best) ≡ Some at
     by_best None there =
         let most = limit_small s.shape.free (is_first (part_at parts left.facts.partition) left.facts.critical) left.facts.priority few in
         absurd (omega (arith, there, low, most))
@@ -383,23 +383,23 @@ told_flagged s h parts c now at least left told few low = looked_all s h parts c
 
 -- where the lowest doesn't stand below it nobody is
 not_lower : (s : SchedulerState) (h : List Entry) (parts : List PartFacts) (c now at least : ℕ) (left : Contender) (b : ℕ × Rank)
-    → IsTold (Some b) at least → IsShort s.shape.free (is_first (part_at parts left.facts.partition) left.facts.critical) left.facts.priority → limit_among s.shape.free parts left ≤ least → is_lower s.shape.free (merit_among parts left) b.1 ≡ false
+    → IsFoundLowest (Some b) at least → IsShort s.shape.free (is_first (part_at parts left.facts.partition) left.facts.critical) left.facts.priority → limit_among s.shape.free parts left ≤ least → is_lower s.shape.free (merit_among parts left) b.1 ≡ false
 not_lower s h parts c now at least left b there few high =
     let same = there.1 in
     below_limit s.shape.free b.1 (merit_among parts left) (is_first (part_at parts left.facts.partition) left.facts.critical) there.2 few (class_is parts left)
     ∙ lt_false (height b.1) (limit_among s.shape.free parts left) (omega (arith, same, high))
 
 pub nobody_told : (s : SchedulerState) (h : List Entry) (parts : List PartFacts) (c now at least : ℕ) (left : Contender)
-    → IsTold (lowest s h parts c now s.shape.cpus) at least → IsShort s.shape.free (is_first (part_at parts left.facts.partition) left.facts.critical) left.facts.priority → limit_among s.shape.free parts left ≤ least → flag_for s h parts c now (Some left) ≡ None
+    → IsFoundLowest (lowest s h parts c now s.shape.cpus) at least → IsShort s.shape.free (is_first (part_at parts left.facts.partition) left.facts.critical) left.facts.priority → limit_among s.shape.free parts left ≤ least → flag_for s h parts c now (Some left) ≡ None
 nobody_told s h parts c now at least left told few high = looked_all s h parts c now left ∙ by_best (lowest s h parts c now s.shape.cpus) told
   where
-    by_best : (best : Option (ℕ × Rank)) → IsTold best at least → option_map (λ (best : ℕ × Rank). best.0) (best_if_lower s.shape.free (merit_among parts left) best) ≡ None
+    by_best : (best : Option (ℕ × Rank)) → IsFoundLowest best at least → option_map (λ (best : ℕ × Rank). best.0) (best_if_lower s.shape.free (merit_among parts left) best) ≡ None
     by_best None there = refl
     by_best (Some b) there = ap (λ t. option_map (λ (best : ℕ × Rank). best.0) (cond t (Some b) None)) (not_lower s h parts c now at least left b there few high)
 
 -- who is flagged for the greatest of these, by what that is ahead by
 pub flagged_ahead : (s : SchedulerState) (h : List Entry) (parts : List PartFacts) (c now at least : ℕ) (o : Option Contender) (ahead : Ahead)
-    → IsTold (lowest s h parts c now s.shape.cpus) at least → IsAhead s.shape.free parts o (Some ahead) → ahead.priority ≤ greatest_priority
+    → IsFoundLowest (lowest s h parts c now s.shape.cpus) at least → IsAhead s.shape.free parts o (Some ahead) → ahead.priority ≤ greatest_priority
     → least < limit s.shape.free (nat_eq ahead.class 1) ahead.priority → flag_for s h parts c now o ≡ Some at
 flagged_ahead s h parts c now at least None ahead told is few low = absurd is
 flagged_ahead s h parts c now at least (Some left) ahead told is few low =
@@ -407,7 +407,7 @@ flagged_ahead s h parts c now at least (Some left) ahead told is few low =
     told_flagged s h parts c now at least left told (short_ahead s.shape.free parts left ahead is few) (omega (arith, low, same))
 
 pub nobody_ahead : (s : SchedulerState) (h : List Entry) (parts : List PartFacts) (c now at least : ℕ) (o : Option Contender) (ahead : Ahead)
-    → IsTold (lowest s h parts c now s.shape.cpus) at least → IsAhead s.shape.free parts o (Some ahead) → ahead.priority ≤ greatest_priority
+    → IsFoundLowest (lowest s h parts c now s.shape.cpus) at least → IsAhead s.shape.free parts o (Some ahead) → ahead.priority ≤ greatest_priority
     → limit s.shape.free (nat_eq ahead.class 1) ahead.priority ≤ least → flag_for s h parts c now o ≡ None
 nobody_ahead s h parts c now at least None ahead told is few high = refl
 nobody_ahead s h parts c now at least (Some left) ahead told is few high =
@@ -421,11 +421,11 @@ nobody_left s h parts c now (Some left) is = absurd is
 
 -- nor for the greatest of these, than which that one is no less
 pub nobody_flagged : (s : SchedulerState) (h : List Entry) (parts : List PartFacts) (c now at least : ℕ) (cs : List Contender) (picked : Contender)
-    → IsTold (lowest s h parts c now s.shape.cpus) at least → IsShort s.shape.free (is_first (part_at parts picked.facts.partition) picked.facts.critical) picked.facts.priority → limit_among s.shape.free parts picked ≤ least → IsNoLess s.shape.free parts cs (Some picked)
+    → IsFoundLowest (lowest s h parts c now s.shape.cpus) at least → IsShort s.shape.free (is_first (part_at parts picked.facts.partition) picked.facts.critical) picked.facts.priority → limit_among s.shape.free parts picked ≤ least → IsNoLess s.shape.free parts cs (Some picked)
     → flag_for s h parts c now (greatest s.shape.free parts cs) ≡ None
 nobody_flagged s h parts c now at least cs picked told few high none_less = by_left (greatest s.shape.free parts cs) refl
   where
-    by_best : (left : Contender) → greatest s.shape.free parts cs ≡ Some left → (best : Option (ℕ × Rank)) → IsTold best at least
+    by_best : (left : Contender) → greatest s.shape.free parts cs ≡ Some left → (best : Option (ℕ × Rank)) → IsFoundLowest best at least
         → option_map (λ (best : ℕ × Rank). best.0) (best_if_lower s.shape.free (merit_among parts left) best) ≡ None
     by_best left is None there = refl
     by_best left is (Some b) there =
@@ -462,7 +462,7 @@ module _ (q : Contender → Bool) (P : Contender → Type 0) where
   all_without (Some c ∷ seats) (suc x) all = later_out c seats (set seats x None) (q c) (all_without seats x) all
 
 left_no_less : (free : Free) (parts : List PartFacts) (seats : List (Option Contender)) (best : Option Contender)
-    → greatest free parts (members seats) ≡ best → IsNoLess free parts (members (without best seats)) best
+    → greatest free parts (members seats) ≡ best → IsNoLess free parts (members (contenders_without best seats)) best
 left_no_less free parts seats None is = is
 left_no_less free parts seats (Some best) is = λ c left.
     let all : IsUnbeaten free parts (candidates parts (members seats)) best = greatest-unbeaten free parts (members seats) best is in
@@ -473,10 +473,10 @@ left_no_less free parts seats (Some best) is = λ c left.
 
 -- after the pick the greatest of those who are ready is no greater than who was picked
 pub picked_no_less : (s s1 : SchedulerState) (free : Free) (parts : List PartFacts) (c : ℕ) (best : Option Contender) (seats rest : List (Option Contender))
-    → free ≡ s.shape.free → best ≡ greatest free parts (members seats) → rest ≡ without best seats → rest ≡ seats_of s1 → s1 ≡ chosen s parts c best
+    → free ≡ s.shape.free → best ≡ greatest free parts (members seats) → rest ≡ contenders_without best seats → rest ≡ seats_of s1 → s1 ≡ chosen s parts c best
     → IsNoLess s1.shape.free parts (contenders s1) best
 picked_no_less s s1 free parts c best seats rest same is out are chose =
     let free1 : free ≡ s1.shape.free = same ∙ sym (ap (λ (t : SchedulerState). t.shape.free) chose ∙ ap (λ (shape : Shape). shape.free) (chosen_shape s parts c best)) in
-    let ready : members (without best seats) ≡ contenders s1 = ap members (sym out) ∙ missing_in s1 rest are in
+    let ready : members (contenders_without best seats) ≡ contenders s1 = ap members (sym out) ∙ missing_in s1 rest are in
     subst (λ cs. IsNoLess s1.shape.free parts cs best) ready
-    (subst (λ f. IsNoLess f parts (members (without best seats)) best) free1 (left_no_less free parts seats best (sym is)))
+    (subst (λ f. IsNoLess f parts (members (contenders_without best seats)) best) free1 (left_no_less free parts seats best (sym is)))

@@ -7,7 +7,7 @@ use Rattle.aps_model.specs.Budget.{part_at}
 use Rattle.aps_model.specs.Inherit.{facts_of}
 use Rattle.aps_model.specs.Limits.{last_partition}
 use Rattle.aps_model.specs.SchedulerState.{SchedulerState}
-use Rattle.aps_levels.specs.Bits.{has}
+use Rattle.aps_levels.specs.Bits.{set_has}
 use Rattle.aps_ready.specs.Gates.{is_first}
 use Rattle.aps_core.specs.declared.classes.Classes.{Classes}
 use Rattle.aps_core.specs.declared.posts.Post.{Post}
@@ -31,7 +31,7 @@ small_post (Some f) post is = record {
 pub key_few : (classes : Classes) (d : ℕ) (post : Post) → IsHigh classes d post → post.key ≤ 8207
 key_few classes d post is =
     let same = is.same in
-    let few = by_test (has classes.first post.group) in
+    let few = by_test (set_has classes.first post.group) in
     omega (arith, same, few)
   where
     by_test : (t : Bool) → cond t (post.base + post.more) post.base ≤ 512
@@ -39,8 +39,8 @@ key_few classes d post is =
     by_test false = let base = is.small.base in omega (arith, base)
 
 pub post_height : (s : SchedulerState) (parts : List PartFacts) (classes : Classes) (o : Option Pick) (post : Post) → AreClasses parts classes → IsPost (facts_now s o) post
-    → cond (has classes.first post.group) (post.base + post.more) post.base ≡ height (rank_now s parts o)
-post_height s parts classes None post are is = by_test (has classes.first post.group)
+    → cond (set_has classes.first post.group) (post.base + post.more) post.base ≡ height (rank_now s parts o)
+post_height s parts classes None post are is = by_test (set_has classes.first post.group)
   where
     by_test : (t : Bool) → cond t (post.base + post.more) post.base ≡ 0
     by_test true = let base = is.base in let more = is.more in omega (arith, base, more)

@@ -28,10 +28,10 @@ use Rattle.laws_runs.proofs.RowLaws.{in_order, in_range, rows_stay}
 use Rattle.laws_runs.proofs.Turns.{any_turn, one_turn}
 use Rattle.laws_runs.proofs.WaitFacts.{test_eq, test_ne}
 use Rattle.laws_runs.specs.Runs.{EndsNoSooner}
-use Rattle.aps_core.specs.Core.{IsCore, IsSetup, IsUnderWay}
+use Rattle.aps_core.specs.Core.{StandsForRun, IsSetup, IsUnderWay}
 use Rattle.aps_core.specs.CanRecord.{CanRecord, HasTold}
-use Rattle.aps_core.specs.Kept.{IsKept}
-use Rattle.aps_core.specs.Run.{Run, Setup, end_of_run, history_of, rooms_of, state_of, with_last}
+use Rattle.aps_core.specs.Kept.{KeepsFrame}
+use Rattle.aps_core.specs.Run.{Run, Setup, end_of_run, history_of_run, rooms_of, state_of_run, with_last}
 use Rattle.aps_core.specs.declared.turn.Turn.TheVariants.{Took}
 use Rattle.aps_core.specs.Turn.{HasTurnIn, IsFed, with_entry}
 use Rattle.aps_core.specs.Ready.{IsReady}
@@ -71,7 +71,7 @@ starts setup s =
 pub begun_core : (setup : Setup) (kept : History) (state : SchedulerState) → IsSetup setup
     → kept ≡ record { scenario = setup.scenario; entries = []; replies = []; changes = []; rows = setup.scenario.partitions; shape = setup.scenario.shape; end = None; room = rooms_of setup }
     → state ≡ opening setup.scenario
-    → IsCore (record { setup = setup; entries = [] }) kept state
+    → StandsForRun (record { setup = setup; entries = [] }) kept state
 begun_core setup kept state s kept_is state_is =
     let run : Run = record { setup = setup; entries = [] } in
     let start = after_none setup.scenario in
@@ -92,18 +92,18 @@ begun_core setup kept state s kept_is state_is =
 
 -- ---- what the core's parts have at a step
 
-pub cpu_exists : (run : Run) (kept : History) (state : SchedulerState) (c : ℕ) → IsCore run kept state → c < run.setup.scenario.shape.cpus → c < length state.cpus
+pub cpu_exists : (run : Run) (kept : History) (state : SchedulerState) (c : ℕ) → StandsForRun run kept state → c < run.setup.scenario.shape.cpus → c < length state.cpus
 cpu_exists run kept state c core lt =
     omega (arith, lt, ap (λ (t : SchedulerState). length t.cpus) core.machine, (counts_law run.setup.scenario run.setup.order run.entries core.keeps.setup.valid core.keeps.legal).cpus)
 
-pub due_in : (run : Run) (kept : History) (state : SchedulerState) (c : ℕ) → IsCore run kept state → end_of_run run ≡ None → HasTurnIn run c
+pub due_in : (run : Run) (kept : History) (state : SchedulerState) (c : ℕ) → StandsForRun run kept state → end_of_run run ≡ None → HasTurnIn run c
     → IsDueNow run.setup.scenario run.setup.order state run.entries c
 due_in run kept state c core goes_on turn =
     subst (λ s. IsDueNow run.setup.scenario run.setup.order s run.entries c) (sym core.machine)
     (due_now run.setup.scenario run.setup.order run.entries c core.keeps.setup.valid core.keeps.legal (not_over run goes_on) turn)
 
 -- and of that the step rests on
-pub ready_in : (run : Run) (kept : History) (state : SchedulerState) (c : ℕ) → IsCore run kept state → end_of_run run ≡ None → HasTurnIn run c
+pub ready_in : (run : Run) (kept : History) (state : SchedulerState) (c : ℕ) → StandsForRun run kept state → end_of_run run ≡ None → HasTurnIn run c
     → IsReady run.setup.scenario state run.entries c
 ready_in run kept state c core goes_on turn =
     subst (λ s. IsReady run.setup.scenario s run.entries c) (sym core.machine)
@@ -149,7 +149,7 @@ pub record IsMore (run : Run) (kept : History) (state : SchedulerState) (c : ℕ
   pub steps : step run.setup.scenario state run.entries c ≡ record { entry = e; state = left.state; reboot = left.reboot }
   pub added : kept' ≡ with_last kept run.setup.limit left.reboot left.state e
 
-pub own_entry : (run : Run) (kept : History) (state : SchedulerState) (c : ℕ) (e : Entry) (left : After) → IsCore run kept state → end_of_run run ≡ None → HasTurnIn run c
+pub own_entry : (run : Run) (kept : History) (state : SchedulerState) (c : ℕ) (e : Entry) (left : After) → StandsForRun run kept state → end_of_run run ≡ None → HasTurnIn run c
     → step run.setup.scenario state run.entries c ≡ record { entry = e; state = left.state; reboot = left.reboot } → e.cpu ≡ c
 own_entry run kept state c e left core goes_on turn steps =
     sym (ap (λ (out : Step). out.entry.cpu) steps) ∙ (due_in run kept state c core goes_on turn).own
@@ -159,12 +159,12 @@ pub record IsOneMore (run : Run) (e : Entry) (left : After) : Type 0 where
   pub legal : IsLegal run.setup.scenario run.setup.order (run.entries ++ e ∷ [])
   pub leaves : after run.setup.scenario (run.entries ++ e ∷ []) ≡ left
 
-pub one_more : (run : Run) (kept : History) (state : SchedulerState) (c : ℕ) (e : Entry) (left : After) → IsCore run kept state → end_of_run run ≡ None → HasTurnIn run c
+pub one_more : (run : Run) (kept : History) (state : SchedulerState) (c : ℕ) (e : Entry) (left : After) → StandsForRun run kept state → end_of_run run ≡ None → HasTurnIn run c
     → step run.setup.scenario state run.entries c ≡ record { entry = e; state = left.state; reboot = left.reboot } → IsOneMore run e left
 one_more run kept state c e left core goes_on turn steps =
     let own = own_entry run kept state c e left core goes_on turn steps in
     let scenario = run.setup.scenario in
-    let s = state_of run in
+    let s = state_of_run run in
     let at : (step scenario s run.entries e.cpu).entry ≡ e =
     ap (λ d. (step scenario s run.entries d).entry) own ∙ ap (λ t. (step scenario t run.entries c).entry) (sym core.machine) ∙ ap (λ (out : Step). out.entry) steps in
     record {
@@ -177,15 +177,15 @@ one_more run kept state c e left core goes_on turn steps =
     }
 
 -- enough threads of each partition with a budget feed it at the entry
-pub fed_in : (run : Run) (kept : History) (state : SchedulerState) (c : ℕ) (e : Entry) (left : After) → IsCore run kept state → end_of_run run ≡ None → HasTurnIn run c
+pub fed_in : (run : Run) (kept : History) (state : SchedulerState) (c : ℕ) (e : Entry) (left : After) → StandsForRun run kept state → end_of_run run ≡ None → HasTurnIn run c
     → step run.setup.scenario state run.entries c ≡ record { entry = e; state = left.state; reboot = left.reboot } → IsFed run (Took e)
 fed_in run kept state c e left core goes_on turn steps =
     let more = one_more run kept state c e left core goes_on turn steps in
     enough_law run.setup.scenario run.setup.order run.entries e core.keeps.setup.valid more.legal
 
 core_more : (run : Run) (kept : History) (state : SchedulerState) (c : ℕ) (e : Entry) (kept' : History) (left : After)
-    → IsCore run kept state → end_of_run run ≡ None → HasTurnIn run c → IsMore run kept state c e kept' left
-    → IsCore (with_entry run e) kept' left.state
+    → StandsForRun run kept state → end_of_run run ≡ None → HasTurnIn run c → IsMore run kept state c e kept' left
+    → StandsForRun (with_entry run e) kept' left.state
 core_more run kept state c e kept' left core goes_on turn m =
     let more = one_more run kept state c e left core goes_on turn m.steps in
     let scenario = run.setup.scenario in
@@ -224,16 +224,16 @@ can_record scenario order h e limit valid legal =
       shape = order'.shape;
     }
 
-pub can_record_in : (run : Run) (kept : History) (state : SchedulerState) (c : ℕ) (e : Entry) (left : After) → IsCore run kept state → end_of_run run ≡ None → HasTurnIn run c
+pub can_record_in : (run : Run) (kept : History) (state : SchedulerState) (c : ℕ) (e : Entry) (left : After) → StandsForRun run kept state → end_of_run run ≡ None → HasTurnIn run c
     → step run.setup.scenario state run.entries c ≡ record { entry = e; state = left.state; reboot = left.reboot } → CanRecord kept left.state
 can_record_in run kept state c e left core goes_on turn steps =
     let more = one_more run kept state c e left core goes_on turn steps in
     subst (λ (k : History). CanRecord k left.state) (sym core.recorded)
-    (subst (λ (a : After). CanRecord (history_of run) a.state) more.leaves
+    (subst (λ (a : After). CanRecord (history_of_run run) a.state) more.leaves
     (can_record run.setup.scenario run.setup.order run.entries e run.setup.limit core.keeps.setup.valid more.legal))
 
 -- where the state keeps rows and lists, the history has them
-pub told_in : (run : Run) (kept : History) (state next : SchedulerState) → IsCore run kept state → IsKept state next → HasTold kept next
+pub told_in : (run : Run) (kept : History) (state next : SchedulerState) → StandsForRun run kept state → KeepsFrame state next → HasTold kept next
 told_in run kept state next core k = record {
   replies = k.replies ∙ ap (λ (s : SchedulerState). s.replies) core.machine ∙ sym (ap (λ (h : History). h.replies) core.recorded);
   changes = k.changes ∙ ap (λ (s : SchedulerState). s.changes) core.machine ∙ sym (ap (λ (h : History). h.changes) core.recorded);
@@ -243,24 +243,24 @@ told_in run kept state next core k = record {
 
 -- ---- turns
 
-pub cpus_of : (run : Run) → IsUnderWay run → (state_of run).shape.cpus ≡ run.setup.scenario.shape.cpus
+pub cpus_of : (run : Run) → IsUnderWay run → (state_of_run run).shape.cpus ≡ run.setup.scenario.shape.cpus
 cpus_of run r = (counts_law run.setup.scenario run.setup.order run.entries r.setup.valid r.legal).sizes.cpus
 
-pub cpu_within : (run : Run) (kept : History) (state : SchedulerState) (c : ℕ) → IsCore run kept state → c < length state.cpus → c < run.setup.scenario.shape.cpus
+pub cpu_within : (run : Run) (kept : History) (state : SchedulerState) (c : ℕ) → StandsForRun run kept state → c < length state.cpus → c < run.setup.scenario.shape.cpus
 cpu_within run kept state c core lt =
     omega (arith, lt, ap (λ (t : SchedulerState). length t.cpus) core.machine, (counts_law run.setup.scenario run.setup.order run.entries core.keeps.setup.valid core.keeps.legal).cpus)
 
-pub first_lowest : (run : Run) (kept : History) (state : SchedulerState) (order : Order) (c : ℕ) → IsCore run kept state → c ≡ first_due state run.entries state.shape.cpus
-    → HasTurn order (state_of run) run.entries c
+pub first_lowest : (run : Run) (kept : History) (state : SchedulerState) (order : Order) (c : ℕ) → StandsForRun run kept state → c ≡ first_due state run.entries state.shape.cpus
+    → HasTurn order (state_of_run run) run.entries c
 first_lowest run kept state order c core is =
-    let s = state_of run in
+    let s = state_of_run run in
     let there : c ≡ first_due s run.entries s.shape.cpus = is ∙ ap (λ (t : SchedulerState). first_due t run.entries t.shape.cpus) core.machine in
     subst (HasTurn order s run.entries) (sym there)
     (any_turn order s run.entries (first_due s run.entries s.shape.cpus) (one_turn s run.entries (omega (arith, cpus_of run core.keeps, core.keeps.setup.valid.shape.some_cpu))).has)
 
 -- in free order, who is due with the lowest that has the turn
-pub free_turn : (run : Run) (c first : ℕ) → IsUnderWay run → run.setup.order ≡ Free → c < run.setup.scenario.shape.cpus → HasTurn Fixed (state_of run) run.entries first
-    → due (state_of run) run.entries c ≡ due (state_of run) run.entries first → HasTurnIn run c
+pub free_turn : (run : Run) (c first : ℕ) → IsUnderWay run → run.setup.order ≡ Free → c < run.setup.scenario.shape.cpus → HasTurn Fixed (state_of_run run) run.entries first
+    → due (state_of_run run) run.entries c ≡ due (state_of_run run) run.entries first → HasTurnIn run c
 free_turn run c first r free lt lowest same = record {
   exists = omega (arith, lt, cpus_of run r);
   least = λ d below. omega (arith, same, lowest.least d below);
@@ -271,7 +271,7 @@ free_turn run c first r free lt lowest same = record {
     other e = cc
 
 -- the moments of the entry
-pub entry_fits : (run : Run) (kept : History) (state : SchedulerState) (c : ℕ) (e : Entry) (left : After) → IsCore run kept state → end_of_run run ≡ None → HasTurnIn run c
+pub entry_fits : (run : Run) (kept : History) (state : SchedulerState) (c : ℕ) (e : Entry) (left : After) → StandsForRun run kept state → end_of_run run ≡ None → HasTurnIn run c
     → step run.setup.scenario state run.entries c ≡ record { entry = e; state = left.state; reboot = left.reboot } → IsEntry e
 entry_fits run kept state c e left core goes_on turn steps =
     subst (λ (out : Step). IsEntry out.entry) steps (due_in run kept state c core goes_on turn).fits
@@ -286,8 +286,8 @@ step_read scenario scenario' state h h' c out e f steps =
 
 -- the same core, whose run is read from its history
 pub core_kept : (run : Run) (kept : History) (state : SchedulerState) (c : ℕ) (e : Entry) (kept' : History) (left : After)
-    → IsCore run kept state → end_of_run run ≡ None → HasTurnIn run c → IsMore run kept state c e kept' left
-    → IsCore (record { setup = record run.setup { scenario = kept'.scenario }; entries = kept'.entries }) kept' left.state
+    → StandsForRun run kept state → end_of_run run ≡ None → HasTurnIn run c → IsMore run kept state c e kept' left
+    → StandsForRun (record { setup = record run.setup { scenario = kept'.scenario }; entries = kept'.entries }) kept' left.state
 core_kept run kept state c e kept' left core goes_on turn m =
     let added = m.added ∙ ap (λ (k : History). with_last k run.setup.limit left.reboot left.state e) core.recorded in
     let scenario : kept'.scenario ≡ run.setup.scenario = ap (λ (k : History). k.scenario) added in
@@ -295,10 +295,10 @@ core_kept run kept state c e kept' left core goes_on turn m =
     let same : with_entry run e ≡ record { setup = record run.setup { scenario = kept'.scenario }; entries = kept'.entries } =
     ap (λ z. record { setup = record run.setup { scenario = z }; entries = run.entries ++ e ∷ [] }) (sym scenario)
     ∙ ap (λ z. record { setup = record run.setup { scenario = kept'.scenario }; entries = z }) (sym entries) in
-    subst (λ r. IsCore r kept' left.state) same (core_more run kept state c e kept' left core goes_on turn m)
+    subst (λ r. StandsForRun r kept' left.state) same (core_more run kept state c e kept' left core goes_on turn m)
 
 -- ---- the commands that are still to come
 
-pub tick_of_core : (run : Run) (kept : History) (state : SchedulerState) → IsCore run kept state → state.shape.tick ≡ run.setup.scenario.shape.tick
+pub tick_of_core : (run : Run) (kept : History) (state : SchedulerState) → StandsForRun run kept state → state.shape.tick ≡ run.setup.scenario.shape.tick
 tick_of_core run kept state core =
     ap (λ (t : SchedulerState). t.shape.tick) core.machine ∙ (counts_law run.setup.scenario run.setup.order run.entries core.keeps.setup.valid core.keeps.legal).sizes.tick

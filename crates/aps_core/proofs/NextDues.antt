@@ -21,7 +21,7 @@ use Rattle.aps_model.specs.Shape.{horizon}
 use Rattle.aps_model.specs.Step.{Step, chosen, pick, settled, step}
 use Rattle.laws_runs.specs.Bears.{NamesChannels}
 use Rattle.laws_runs.specs.Sizes.{IsSameSizes}
-use Rattle.laws_runs.specs.Untouched.{IsKept, IsStepOf}
+use Rattle.laws_runs.specs.Untouched.{AgreesOnRunning, IsStepOf}
 use Rattle.laws_runs.specs.Waits.{IsPlain}
 use Rattle.laws_runs.proofs.Mid.{back_mid, test_mid}
 use Rattle.laws_runs.proofs.MomentLaws.{last_other}
@@ -73,7 +73,7 @@ others_chosen s q parts c best h dues others is =
 
 -- ---- before the pick they are due as at the beginning
 
-pub cpu_before : (scenario : Scenario) (s : SchedulerState) (h : List Entry) (c : ℕ) → NamesChannels scenario → IsPlain scenario s → IsKept s
+pub cpu_before : (scenario : Scenario) (s : SchedulerState) (h : List Entry) (c : ℕ) → NamesChannels scenario → IsPlain scenario s → AgreesOnRunning s
     → (d : ℕ) → d ≢ c → cpu_at (settled scenario (tested_at scenario s h c).state (due s h c) (cpu_at s c).running).state d ≡ cpu_at s d
 cpu_before scenario s h c names plain k d ne =
     let now = due s h c in
@@ -82,7 +82,7 @@ cpu_before scenario s h c names plain k d ne =
     let mid = (back_mid scenario s (tested_at scenario s h c).state c now running names k refl (test_mid scenario s h c now (bill_at s h c) running plain k refl)).mid in
     mid_cpu scenario s c r mid d ne
 
-pub due_before : (scenario : Scenario) (s : SchedulerState) (h : List Entry) (c : ℕ) → NamesChannels scenario → IsPlain scenario s → IsKept s
+pub due_before : (scenario : Scenario) (s : SchedulerState) (h : List Entry) (c : ℕ) → NamesChannels scenario → IsPlain scenario s → AgreesOnRunning s
     → (d : ℕ) → d ≢ c → due (settled scenario (tested_at scenario s h c).state (due s h c) (cpu_at s c).running).state h d ≡ due s h d
 due_before scenario s h c names plain k d ne =
     let now = due s h c in
@@ -127,7 +127,7 @@ picked_flags s r h c now d e same inside ne =
       kept = λ none. flag_left q now other d none ∙ ap (λ (z : CpuNow). z.flag) (chosen_cpu r ps c best d ne) ∙ ap (λ (z : CpuNow). z.flag) same;
     }
 
-pub flags_after : (scenario : Scenario) (s : SchedulerState) (h : List Entry) (c d : ℕ) → NamesChannels scenario → IsPlain scenario s → IsKept s → d ≢ c → d < length s.cpus
+pub flags_after : (scenario : Scenario) (s : SchedulerState) (h : List Entry) (c d : ℕ) → NamesChannels scenario → IsPlain scenario s → AgreesOnRunning s → d ≢ c → d < length s.cpus
     → IsFlagged s (due s h c) d (step scenario s h c)
 flags_after scenario s h c d names plain k ne inside =
     let now = due s h c in

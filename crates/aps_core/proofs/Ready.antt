@@ -38,7 +38,7 @@ use Rattle.aps_core.proofs.NextDues.{cpu_before, due_before}
 use Rattle.laws_runs.proofs.StampCounts.{few_stamps}
 use Rattle.laws_runs.proofs.StepOf.{horizon_same}
 use Rattle.laws_runs.proofs.ThreadFit.{fits_law}
-use Rattle.aps_core.specs.Kept.{IsKept}
+use Rattle.aps_core.specs.Kept.{KeepsFrame}
 use Rattle.aps_core.specs.Ready.{IsReady}
 use Rattle.aps_core.specs.Room.{CanFinish, changes_of_a_run, last_place, stamps_within}
 use Rattle.aps_core.proofs.Frame.{chosen_kept, flagged_kept, kept_self, kept_then, settled_kept, spent_kept}
@@ -83,7 +83,7 @@ room_at scenario now x c s valid well few runs =
 -- ---- what the steps in between leave
 
 -- after the bill only the pick and the operation come
-stepped_kept : (scenario : Scenario) (s : SchedulerState) (h : List Entry) (c : ℕ) → IsKept (after_bill scenario s h c) (step scenario s h c).state
+stepped_kept : (scenario : Scenario) (s : SchedulerState) (h : List Entry) (c : ℕ) → KeepsFrame (after_bill scenario s h c) (step scenario s h c).state
 stepped_kept scenario s h c =
     let now = due s h c in
     let running = (cpu_at s c).running in
@@ -91,15 +91,15 @@ stepped_kept scenario s h c =
     let test = tested (billed (after_tick scenario s h c) e running) h e in
     by_reboot test now running e test.reboot
   where
-    kept_pick : (t : SchedulerState) (now : ℕ) (e : Entry) → IsKept t (pick t h c now e).state
+    kept_pick : (t : SchedulerState) (now : ℕ) (e : Entry) → KeepsFrame t (pick t h c now e).state
     kept_pick t now e = kept_then (chosen_kept t _ c _) (flagged_kept _ now _)
 
     by_horizon : (t : SchedulerState) (now : ℕ) (running : Option Pick) (e : Entry) (at_end : Bool)
-        → IsKept t (elim at_end as (λ _. Step) [ true ↦ record { entry = e; state = t; reboot = None } | false ↦ pick (settled scenario t now running).state h c now (record e { done = (settled scenario t now running).done }) ]).state
+        → KeepsFrame t (elim at_end as (λ _. Step) [ true ↦ record { entry = e; state = t; reboot = None } | false ↦ pick (settled scenario t now running).state h c now (record e { done = (settled scenario t now running).done }) ]).state
     by_horizon t now running e true = kept_self t
     by_horizon t now running e false = kept_then (settled_kept scenario t now running) (kept_pick (settled scenario t now running).state now (record e { done = (settled scenario t now running).done }))
 
-    by_reboot : (test : Tested) (now : ℕ) (running : Option Pick) (e : Entry) (o : Option ℕ) → IsKept test.state (unless_rebooted scenario test h c now e running o).state
+    by_reboot : (test : Tested) (now : ℕ) (running : Option Pick) (e : Entry) (o : Option ℕ) → KeepsFrame test.state (unless_rebooted scenario test h c now e running o).state
     by_reboot test now running e (Some p) = kept_self test.state
     by_reboot test now running e None = by_horizon test.state now running e (nat_eq now (horizon test.state.shape))
 

@@ -5,14 +5,14 @@ use Rattle.std.proofs.lemmas.Option.{unwrap_or-slice_get}
 use Rattle.aps_model.specs.declared.partition.PartitionRow.{PartitionRow}
 use Rattle.aps_model.specs.Limits.{percent, thousandths}
 use Rattle.aps_model.specs.Partition.{IsFundedRow, IsRow, no_row, row_or_none}
-use Rattle.aps_tree.specs.Tree.{IsTree, Tree}
+use Rattle.aps_tree.specs.Tree.{IsBudgetTree, Tree}
 
 few_parts : (parts : ℕ) → (parts ≡ percent) ⊎ (parts ≡ thousandths) → parts ≤ thousandths
 few_parts parts (inl e) = omega (arith, e)
 few_parts parts (inr e) = omega (arith, e)
 
 -- the rows of a tree have their ranges
-pub row_ranges : (tree : Tree) → IsTree tree → All IsRow tree.rows
+pub row_ranges : (tree : Tree) → IsBudgetTree tree → All IsRow tree.rows
 row_ranges tree m =
     let few = few_parts tree.parts m.parts in
     All-weaker (IsFundedRow tree.parts) IsRow

@@ -16,7 +16,7 @@ use Rattle.aps_model.specs.SchedulerState.{SchedulerState, no_facts, no_thread, 
 use Rattle.aps_model.specs.Step.{chosen}
 use Rattle.laws_runs.proofs.Chains.{own_at}
 use Rattle.laws_runs.proofs.ThreadFacts.{set_same, set_other}
-use Rattle.aps_ready.specs.Ready.{members, without}
+use Rattle.aps_ready.specs.Ready.{members, contenders_without}
 use Rattle.aps_core.specs.Seats.{seat_at, seats_of, who_at}
 
 -- ---- the seats of a state
@@ -77,10 +77,10 @@ seat_stays s x y t other same =
 
 -- after the pick those who were in are, but for the picked thread
 pub chosen_seats : (s : SchedulerState) (parts : List PartFacts) (c : ℕ) (best : Option Contender) (seats : List (Option Contender))
-    → seats ≡ seats_of s → without best seats ≡ seats_of (chosen s parts c best)
+    → seats ≡ seats_of s → contenders_without best seats ≡ seats_of (chosen s parts c best)
 chosen_seats s parts c best seats are = by_best best
   where
-    by_best : (best : Option Contender) → without best seats ≡ seats_of (chosen s parts c best)
+    by_best : (best : Option Contender) → contenders_without best seats ≡ seats_of (chosen s parts c best)
     by_best None = are
     by_best (Some b) =
         let x = b.thread in
@@ -99,7 +99,7 @@ chosen_seats s parts c best seats are = by_best best
 
 -- so the queues without the picked thread are those of the state after the choice
 pub taken_seats : (s s1 : SchedulerState) (parts : List PartFacts) (c : ℕ) (best : Option Contender) (seats rest : List (Option Contender))
-    → seats ≡ seats_of s → rest ≡ without best seats → s1 ≡ chosen s parts c best → rest ≡ seats_of s1
+    → seats ≡ seats_of s → rest ≡ contenders_without best seats → s1 ≡ chosen s parts c best → rest ≡ seats_of s1
 taken_seats s s1 parts c best seats rest are out chose = out ∙ chosen_seats s parts c best seats are ∙ ap seats_of (sym chose)
 
 -- a flag changes nobody's seat

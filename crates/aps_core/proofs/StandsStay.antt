@@ -19,7 +19,7 @@ use Rattle.aps_model.specs.Step.{billed, tested}
 use Rattle.aps_model.specs.Tree.{rows_cancelled}
 use Rattle.aps_window.specs.Window.{Window, total_of}
 use Rattle.aps_core.specs.Counts.{part_in, parts_in}
-use Rattle.aps_core.specs.Kept.{IsKept}
+use Rattle.aps_core.specs.Kept.{KeepsFrame}
 use Rattle.aps_core.specs.Part.{part_of}
 use Rattle.aps_core.specs.Standing.{DoOthersStand}
 use Rattle.aps_core.proofs.Frame.{kept_self, kept_then, spent_kept}
@@ -114,10 +114,10 @@ calm_test s h e t reboot few is =
 
 -- what the parts of a step before the operation leave, where no command was done and the test recorded no change
 pub calm_kept : (s : SchedulerState) (h : List Entry) (c : ℕ) (running : Option Pick) (s1 s2 t0 t : SchedulerState) (e : Entry) (reboot : Option ℕ)
-    → s1 ≡ with_cpu s c (record (cpu_at s c) { flag = None }) → IsKept s1 s2 → t0 ≡ billed s2 e running → tested t0 h e ≡ record { state = t; reboot = reboot } → length t.changes ≤ length t0.changes
-    → IsKept s t
+    → s1 ≡ with_cpu s c (record (cpu_at s c) { flag = None }) → KeepsFrame s1 s2 → t0 ≡ billed s2 e running → tested t0 h e ≡ record { state = t; reboot = reboot } → length t.changes ≤ length t0.changes
+    → KeepsFrame s t
 calm_kept s h c running s1 s2 t0 t e reboot begun ticked spent test calm =
-    let first : IsKept s s1 = subst (IsKept s) (sym begun) (record { rows = refl; shape = refl; threads = refl; cpus = length-set s.cpus c _; replies = refl; changes = refl }) in
-    let paid : IsKept s2 t0 = subst (IsKept s2) (sym spent) (spent_kept s2 _ running) in
-    let last : IsKept t0 t = subst (IsKept t0) (sym (calm_test t0 h e t reboot calm test)) (kept_self t0) in
+    let first : KeepsFrame s s1 = subst (KeepsFrame s) (sym begun) (record { rows = refl; shape = refl; threads = refl; cpus = length-set s.cpus c _; replies = refl; changes = refl }) in
+    let paid : KeepsFrame s2 t0 = subst (KeepsFrame s2) (sym spent) (spent_kept s2 _ running) in
+    let last : KeepsFrame t0 t = subst (KeepsFrame t0) (sym (calm_test t0 h e t reboot calm test)) (kept_self t0) in
     kept_then first (kept_then ticked (kept_then paid last))

@@ -15,13 +15,13 @@ use Rattle.aps_model.specs.Bill.{spend}
 use Rattle.aps_model.specs.Inherit.{Inheritance, inheritance_of}
 use Rattle.aps_model.specs.Operation.{enter, go_on, is_slice_over, place_after, state_in, with_ready, with_stamped}
 use Rattle.aps_model.specs.Scenario.{Scenario, op_at, thread_row}
-use Rattle.aps_model.specs.SchedulerState.{SchedulerState, no_thread, thread_at, with_own as put_own, with_state, with_thread}
+use Rattle.aps_model.specs.SchedulerState.{SchedulerState, no_thread, thread_at, with_own_values as put_own, with_state, with_thread}
 use Rattle.aps_model.specs.Step.{enter_next, give_back}
 use Rattle.laws_runs.proofs.ThreadFacts.{set_same}
-use Rattle.aps_inherit.specs.Own.{own_of, with_own}
+use Rattle.aps_inherit.specs.Own.{own_of, with_own_values}
 use Rattle.aps_tasks.specs.declared.task.Task.{Task}
 use Rattle.aps_tasks.specs.Table.{Table, entering, put_back, put_entered, put_given, put_on, put_ready, put_spent, put_stamped, put_state, put_task, task_in}
-use Rattle.aps_core.specs.Machine.{IsMachine}
+use Rattle.aps_core.specs.Machine.{IsCoreMachine}
 use Rattle.aps_core.specs.Threads.{thread_of, threads_of}
 use Rattle.aps_core.proofs.Threads.{own_put, owns_read, task_put, task_read, threads_count, with_tasks}
 
@@ -117,7 +117,7 @@ spent s t u own ns pick leaves =
     (λ b. record b { left = option_map (λ left. left - ns) b.left; since = b.since + ns }) (λ a o. refl) leaves
 
 -- the thread has other own values
-pub told : (s : SchedulerState) (t : Table) (i j : Inheritance) (x : ℕ) (h : Facts → Facts) → length i.own ≡ length t.tasks → j ≡ with_own i x (h (own_of i x))
+pub told : (s : SchedulerState) (t : Table) (i j : Inheritance) (x : ℕ) (h : Facts → Facts) → length i.own ≡ length t.tasks → j ≡ with_own_values i x (h (own_of i x))
     → with_tasks s t j.own ≡ put_own (with_tasks s t i.own) x (h (thread_at (with_tasks s t i.own) x).own)
 told s t i j x h each leaves =
     ap (λ (k : Inheritance). with_tasks s t k.own) leaves
@@ -138,14 +138,14 @@ stamped_again s x own =
 -- ---- the machine
 
 -- there are as many own values as tasks
-pub one_each : (s : SchedulerState) (t : Table) (own : List Facts) (n : ℕ) (i : Inheritance) (parts replies changes : ℕ) → IsMachine (with_tasks s t own) n i parts replies changes
+pub one_each : (s : SchedulerState) (t : Table) (own : List Facts) (n : ℕ) (i : Inheritance) (parts replies changes : ℕ) → IsCoreMachine (with_tasks s t own) n i parts replies changes
     → length i.own ≡ length t.tasks
 one_each s t own n i parts replies changes m =
     ap (λ (k : Inheritance). length k.own) m.inherits ∙ length-map (threads_of t.tasks own) (λ (u : ThreadNow). u.own) ∙ threads_count t.tasks own
 
 -- it stays one with other tasks, of as many threads, and other own values; it goes by them
-pub refilled : (s : SchedulerState) (t u : Table) (own : List Facts) (n : ℕ) (i j : Inheritance) (parts replies changes : ℕ) → IsMachine (with_tasks s t own) n i parts replies changes
-    → length u.tasks ≡ length t.tasks → length j.own ≡ length t.tasks → j ≡ record i { own = j.own } → IsMachine (with_tasks s u j.own) n j parts replies changes
+pub refilled : (s : SchedulerState) (t u : Table) (own : List Facts) (n : ℕ) (i j : Inheritance) (parts replies changes : ℕ) → IsCoreMachine (with_tasks s t own) n i parts replies changes
+    → length u.tasks ≡ length t.tasks → length j.own ≡ length t.tasks → j ≡ record i { own = j.own } → IsCoreMachine (with_tasks s u j.own) n j parts replies changes
 refilled s t u own n i j parts replies changes m count each other = record {
   shape = m.shape;
   few_threads = omega (arith, m.few_threads, threads_count t.tasks own, threads_count u.tasks j.own, count);
@@ -160,13 +160,13 @@ refilled s t u own n i j parts replies changes m count each other = record {
 }
 
 -- with other tasks alone
-pub tasked_machine : (s : SchedulerState) (t u : Table) (n : ℕ) (i : Inheritance) (parts replies changes : ℕ) → IsMachine (with_tasks s t i.own) n i parts replies changes
-    → length u.tasks ≡ length t.tasks → IsMachine (with_tasks s u i.own) n i parts replies changes
+pub tasked_machine : (s : SchedulerState) (t u : Table) (n : ℕ) (i : Inheritance) (parts replies changes : ℕ) → IsCoreMachine (with_tasks s t i.own) n i parts replies changes
+    → length u.tasks ≡ length t.tasks → IsCoreMachine (with_tasks s u i.own) n i parts replies changes
 tasked_machine s t u n i parts replies changes m count = refilled s t u i.own n i i parts replies changes m count (one_each s t i.own n i parts replies changes m) refl
 
 -- where a thread has other own values alone
-pub told_machine : (s : SchedulerState) (t : Table) (n : ℕ) (i j : Inheritance) (x : ℕ) (facts : Facts) (parts replies changes : ℕ) → IsMachine (with_tasks s t i.own) n i parts replies changes
-    → j ≡ with_own i x facts → IsMachine (with_tasks s t j.own) n j parts replies changes
+pub told_machine : (s : SchedulerState) (t : Table) (n : ℕ) (i j : Inheritance) (x : ℕ) (facts : Facts) (parts replies changes : ℕ) → IsCoreMachine (with_tasks s t i.own) n i parts replies changes
+    → j ≡ with_own_values i x facts → IsCoreMachine (with_tasks s t j.own) n j parts replies changes
 told_machine s t n i j x facts parts replies changes m leaves =
     let own : j.own ≡ set i.own x facts = ap (λ (k : Inheritance). k.own) leaves in
     refilled s t t i.own n i j parts replies changes m refl

@@ -9,12 +9,12 @@ use Rattle.aps_model.specs.Valid.{IsCall}
 use Rattle.aps_ctl.specs.Pending.{all_at}
 
 -- the numbers and names of a command have their ranges, for some parts and number of threads
-abbrev pub IsInRange : Call → Type 0
-IsInRange call = (parts : ℕ) × (threads : ℕ) × IsCall parts threads call
+abbrev pub IsCallInRange : Call → Type 0
+IsCallInRange call = (parts : ℕ) × (threads : ℕ) × IsCall parts threads call
 
 -- and those of each of these commands
 abbrev pub AreInRange : List (ℕ × CommandRow) → Type 0
-AreInRange commands = All (λ (c : ℕ × CommandRow). IsInRange c.1.call) commands
+AreInRange commands = All (λ (c : ℕ × CommandRow). IsCallInRange c.1.call) commands
 
 -- the command of this tick and this place of the scenario
 abbrev pub command_at : ℕ → ℕ → Call → ℕ × CommandRow

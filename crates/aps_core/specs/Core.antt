@@ -6,7 +6,7 @@ use Rattle.aps_model.specs.SchedulerState.{SchedulerState}
 use Rattle.aps_model.specs.Valid.{IsScenario}
 use Rattle.laws_runs.specs.Runs.{EndsNoSooner}
 use Rattle.aps_core.specs.declared.scheduler.Scheduler.{Scheduler}
-use Rattle.aps_core.specs.Run.{Run, Setup, history_of, state_of}
+use Rattle.aps_core.specs.Run.{Run, Setup, history_of_run, state_of_run}
 use Rattle.aps_core.specs.Scheduler.{IsSchedulerAfter}
 
 -- what a core can be set up with
@@ -23,12 +23,12 @@ pub record IsUnderWay (run : Run) : Type 0 where
   pub fits : length run.entries ≤ run.setup.limit
 
 -- what the run and the parts that stand for it have to do with each other
-pub record IsCore (run : Run) (kept : History) (state : SchedulerState) : Type 0 where
+pub record StandsForRun (run : Run) (kept : History) (state : SchedulerState) : Type 0 where
   pub keeps : IsUnderWay run
-  pub recorded : kept ≡ history_of run
-  pub machine : state ≡ state_of run
+  pub recorded : kept ≡ history_of_run run
+  pub machine : state ≡ state_of_run run
 
 -- what each core keeps: its parts stand for its run, and its scheduler stands after the entries
 pub record IsCoreWith (run : Run) (kept : History) (s : Scheduler) : Type 0 where
-  pub core : IsCore run kept s.machine
+  pub core : StandsForRun run kept s.machine
   pub after : IsSchedulerAfter run.setup.scenario run.entries s

@@ -3,11 +3,11 @@ use Rattle.aps_core.specs.Core.{IsCoreWith}
 use Rattle.aps_core.specs.Run.{Run}
 
 -- the run that the fields stand for
-abbrev pub run_of : Inside → Run
-run_of core = record {
+abbrev pub run_of_core : Inside → Run
+run_of_core core = record {
   setup = record { scenario = core.history.scenario; order = core.order; limit = core.limit };
   entries = core.history.entries;
 }
 
-abbrev pub keeps : Inside → Type 0
-keeps core = IsCoreWith (run_of core) core.history core.scheduler
+abbrev pub KeepsCore : Inside → Type 0
+KeepsCore core = IsCoreWith (run_of_core core) core.history core.scheduler

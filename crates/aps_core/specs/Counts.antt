@@ -9,7 +9,7 @@ use Rattle.aps_model.specs.declared.shape.Shape.{Shape}
 use Rattle.aps_model.specs.Partition.{row_or_none}
 use Rattle.aps_window.specs.Entries.{AreInOneTick, IsInOneTick, bills_of}
 use Rattle.aps_window.specs.StandsFor.{StandsFor}
-use Rattle.aps_window.specs.Whole.{IsWhole}
+use Rattle.aps_window.specs.Whole.{IsWholeWindow}
 use Rattle.aps_window.specs.Window.{Window, billed_on, total_of}
 use Rattle.aps_core.specs.Part.{part_of}
 
@@ -20,7 +20,7 @@ pub record Counts (shape : Shape) (h : List Entry) (j : ℕ) (window : Window) :
   pub span : window.span ≡ shape.window
   pub short : shape.window ≤ longest_window
   pub stands : StandsFor window (bills_of shape.tick h)
-  pub whole : IsWhole window
+  pub whole : IsWholeWindow window
   pub each : AreInOneTick shape.tick h
 
 -- the partition by its row and its totals

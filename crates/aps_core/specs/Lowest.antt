@@ -74,18 +74,18 @@ IsRank (Some Idle) = ⊤
 IsRank (Some (Running class priority)) = (class ≤ 1) × (priority ≤ greatest_priority)
 
 -- the processor and the height are those of this one, if there is one; else the height is past all ranks
-abbrev pub IsTold : Option (ℕ × Rank) → ℕ → ℕ → Type 0
-IsTold None d least = least ≡ height_past_all
-IsTold (Some best) d least = (best.0 ≡ d) × (least ≡ height best.1) × IsRank (Some best.1)
+abbrev pub IsFoundLowest : Option (ℕ × Rank) → ℕ → ℕ → Type 0
+IsFoundLowest None d least = least ≡ height_past_all
+IsFoundLowest (Some best) d least = (best.0 ≡ d) × (least ≡ height best.1) × IsRank (Some best.1)
 
 -- this is the least key of the first processors, among which this one, if there is one, is lowest
-abbrev pub IsLeast : Option (ℕ × Rank) → ℕ → ℕ → Type 0
-IsLeast None count least = least ≡ key_past_all
-IsLeast (Some best) count least = (best.0 < count) × (least ≡ height best.1 * most_cpus + (last_cpu - best.0)) × IsRank (Some best.1)
+abbrev pub IsLeastKey : Option (ℕ × Rank) → ℕ → ℕ → Type 0
+IsLeastKey None count least = least ≡ key_past_all
+IsLeastKey (Some best) count least = (best.0 < count) × (least ≡ height best.1 * most_cpus + (last_cpu - best.0)) × IsRank (Some best.1)
 
 -- the same, among as many of the first as there are
 abbrev pub IsLeastOf : SchedulerState → List Entry → List PartFacts → ℕ → ℕ → ℕ → ℕ → Type 0
-IsLeastOf s h parts c now count least = IsLeast (lowest s h parts c now (min count (length s.cpus))) (min count (length s.cpus)) least
+IsLeastOf s h parts c now count least = IsLeastKey (lowest s h parts c now (min count (length s.cpus))) (min count (length s.cpus)) least
 
 -- a processor is flagged for a candidate of this class and priority where it stands lower than this; under the policy by ratio
 -- only an idle one is for a candidate of class 0

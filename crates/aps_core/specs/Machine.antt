@@ -8,7 +8,7 @@ use Rattle.aps_core.specs.Room.{changes_of_a_run}
 -- what each machine keeps: its numbers have their ranges, its channels are those of its threads, the values that it keeps
 -- beside each thread go by its state, its tree counts in the parts of the shape, and there is room for all replies and
 -- changes of a run
-pub record IsMachine (s : SchedulerState) (channel_threads : ℕ) (inherit : Inheritance)
+pub record IsCoreMachine (s : SchedulerState) (channel_threads : ℕ) (inherit : Inheritance)
     (tree_parts reply_space change_space : ℕ) : Type 0 where
   pub shape : IsShape s.shape
   pub few_threads : length s.threads ≤ most_threads

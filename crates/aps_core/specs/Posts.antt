@@ -5,7 +5,7 @@ use Rattle.aps_model.specs.declared.state.Pick.{Pick}
 use Rattle.aps_model.specs.Inherit.{facts_of}
 use Rattle.aps_model.specs.Limits.{greatest_priority, last_cpu, last_partition, most_cpus, most_partitions}
 use Rattle.aps_model.specs.SchedulerState.{SchedulerState, cpu_at}
-use Rattle.aps_levels.specs.Bits.{has}
+use Rattle.aps_levels.specs.Bits.{set_has}
 use Rattle.aps_core.specs.declared.classes.Classes.{Classes}
 use Rattle.aps_core.specs.declared.posts.Post.{Post}
 use Rattle.aps_levels.specs.Levels.{level_count}
@@ -61,7 +61,7 @@ AreSmall posts = (d : ℕ) → d < most_cpus → IsSmallPost (post_at posts d)
 
 -- where the thread stands by these classes
 abbrev pub height_by : Classes → Post → ℕ
-height_by classes post = if has classes.first post.group then post.base + post.more else post.base
+height_by classes post = if set_has classes.first post.group then post.base + post.more else post.base
 
 -- what is kept of the processor d has its ranges, and its key goes by these classes
 pub record IsHigh (classes : Classes) (d : ℕ) (post : Post) : Type 0 where

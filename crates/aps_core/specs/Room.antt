@@ -30,7 +30,7 @@ pub record HasRoomToWake (place stamp : ℕ) (s : SchedulerState) : Type 0 where
 
 -- the numbers that an operation of the thread raises have room; the thread runs, and each thread waits where its state says,
 -- so that this one waits nowhere
-pub record HasRoom (s : SchedulerState) (x : ℕ) : Type 0 where
+pub record HasRoomForOperation (s : SchedulerState) (x : ℕ) : Type 0 where
   pub numbers : HasRoomToWake last_place stamps_within s
   pub cpu : ℕ
   pub runs : state_at s x ≡ Running cpu
@@ -43,5 +43,5 @@ pub record NamesIn (channels : ℕ) (op : Op) : Type 0 where
 
 -- the thread can end its operation
 pub record CanFinish (scenario : Scenario) (s : SchedulerState) (x : ℕ) : Type 0 where
-  pub room : HasRoom s x
+  pub room : HasRoomForOperation s x
   pub named : NamesIn (length s.channels) (op_at scenario x (thread_at s x).place)

@@ -37,16 +37,16 @@ rooms_of setup = record {
 }
 
 -- the state that the entries leave
-abbrev pub state_of : Run → SchedulerState
-state_of run = state_after run.setup.scenario run.entries
+abbrev pub state_of_run : Run → SchedulerState
+state_of_run run = state_after run.setup.scenario run.entries
 
 -- the end of the run, if it has come
 abbrev pub end_of_run : Run → Option End
 end_of_run run = end_of run.setup.scenario run.setup.limit run.entries
 
 -- all that the run has recorded, with its end
-abbrev pub history_of : Run → History
-history_of run = recorded run.setup.scenario run.setup.limit (rooms_of run.setup) run.entries
+abbrev pub history_of_run : Run → History
+history_of_run run = recorded run.setup.scenario run.setup.limit (rooms_of run.setup) run.entries
 
 -- the run after the steps of the lowest processor that has the turn, until it has ended
 abbrev pub finished_run : Run → Run

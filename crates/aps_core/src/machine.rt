@@ -69,15 +69,15 @@ impl Drop for Machine {
 impl Model for Machine {
     ghost use Rattle.std.specs.Prelude.{vec_capacity};
     ghost use Rattle.aps_model.specs.SchedulerState.{SchedulerState};
-    ghost use Rattle.aps_core.specs.Machine.{IsMachine};
+    ghost use Rattle.aps_core.specs.Machine.{IsCoreMachine};
 
     ghost Value = { SchedulerState };
 
-    ghost use Rattle.aps_core.specs.MachineView.{state_of};
+    ghost use Rattle.aps_core.specs.MachineView.{state_of_machine};
 
-    ghost view = { state_of };
+    ghost view = { state_of_machine };
 
-    ghost invariant = { λ m. IsMachine (state_of m) m.channels.threads m.inherit m.tree.parts
+    ghost invariant = { λ m. IsCoreMachine (state_of_machine m) m.channels.threads m.inherit m.tree.parts
         (vec_capacity m.replies) (vec_capacity m.changes) };
 }
 

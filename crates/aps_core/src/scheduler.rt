@@ -7,7 +7,7 @@ ghost use Rattle.aps_model.specs.Opening.{opening};
 ghost use Rattle.aps_model.specs.Step.{step};
 ghost use Rattle.aps_model.specs.Valid.{IsScenario};
 ghost use Rattle.aps_core.specs.Counts.{Counts, parts_in};
-ghost use Rattle.aps_core.specs.Kept.{IsKept};
+ghost use Rattle.aps_core.specs.Kept.{KeepsFrame};
 ghost use Rattle.aps_core.specs.LastEnds.{AreEnds};
 ghost use Rattle.aps_core.specs.NextDues.{dues_after};
 ghost use Rattle.aps_core.specs.Pending.{IsPending};
@@ -113,7 +113,7 @@ impl Scheduler {
         ensures counts { Counts self.new.machine.shape (entries.now ++ result.entry ∷ [])
             (result.entry.to / self.new.machine.shape.tick) self.new.window }
         ensures stands { self.new.standing ≡ parts_in self.new.machine.shape self.new.machine.rows self.new.window }
-        ensures kept { result.is_changed ≡ false → IsKept self.old.machine self.new.machine }
+        ensures kept { result.is_changed ≡ false → KeepsFrame self.old.machine self.new.machine }
         ensures seats { self.new.ready ≡ seats_of self.new.machine }
         ensures timed { self.new.timer ≡ sleepers_of self.new.machine }
         ensures posts { ArePosts self.new.machine self.new.posts }

@@ -13,8 +13,8 @@ ghost use Rattle.laws_runs.specs.Choices.{EachPickIsGreatest};
 ghost use Rattle.laws_runs.specs.Runs.{EndsNoSooner};
 ghost use Rattle.aps_core.specs.declared.turn.Turn.TheVariants.{Took};
 ghost use Rattle.aps_core.specs.Core.{IsUnderWay};
-ghost use Rattle.aps_core.specs.Run.{IsLater, end_of_run, finished_run, history_of, most_changes, rooms_of, state_of};
-ghost use Rattle.aps_core.specs.Turn.{HasTurnIn, IsFed, IsOwn, IsTaken, IsTurn, after_turn, with_entry};
+ghost use Rattle.aps_core.specs.Run.{IsLater, end_of_run, finished_run, history_of_run, most_changes, rooms_of, state_of_run};
+ghost use Rattle.aps_core.specs.Turn.{HasTurnIn, IsFed, IsOwnEntry, IsTurnTaken, IsTurn, after_turn, with_entry};
 
 mod asking;
 mod reading;
@@ -53,11 +53,11 @@ impl Model for Core {
 
     ghost Value = { Run };
 
-    ghost use Rattle.aps_core.specs.CoreView.{run_of, keeps};
+    ghost use Rattle.aps_core.specs.CoreView.{run_of_core, KeepsCore};
 
-    ghost view = { run_of };
+    ghost view = { run_of_core };
 
-    ghost invariant = { keeps };
+    ghost invariant = { KeepsCore };
 }
 
 impl Core {
@@ -89,7 +89,7 @@ impl Core {
     /// When the processor steps next, in ns.
     pub fn due(&self, cpu: CpuId) -> Nanos
         requires { cpu < self.now.setup.scenario.shape.cpus }
-        ensures { result ≡ due (state_of self.now) self.now.entries cpu }
+        ensures { result ≡ due (state_of_run self.now) self.now.entries cpu }
     {
         self.scheduler.dues.of(cpu)
     }
@@ -113,7 +113,7 @@ impl Core {
     /// The history so far, with its end where it has ended. It is legal in the core's order, and no shorter prefix of
     /// it has ended; what follows for its entries stands beside.
     pub fn history(&self) -> &History
-        ensures same { result.now ≡ history_of self.now }
+        ensures same { result.now ≡ history_of_run self.now }
         ensures valid { IsScenario self.now.setup.scenario }
         ensures legal { IsLegal self.now.setup.scenario self.now.setup.order self.now.entries }
         ensures no_sooner { EndsNoSooner self.now.setup.scenario self.now.setup.limit self.now.entries }
@@ -129,7 +129,7 @@ impl Core {
 
     /// The same, taken out of the core.
     pub fn into_history(self) -> History
-        ensures same { result ≡ history_of self }
+        ensures same { result ≡ history_of_run self }
         ensures valid { IsScenario self.setup.scenario }
         ensures legal { IsLegal self.setup.scenario self.setup.order self.entries }
         ensures no_sooner { EndsNoSooner self.setup.scenario self.setup.limit self.entries }
@@ -155,7 +155,7 @@ impl Core {
         ensures entries { result.entries ≡ (rooms_of self.now.setup).entries }
         ensures replies { result.replies ≡ (rooms_of self.now.setup).replies }
         ensures changes { result.changes ≡ (rooms_of self.now.setup).changes }
-        ensures taken { (history_of self.now).room
+        ensures taken { (history_of_run self.now).room
             ≡ record { entries = result.entries; replies = result.replies; changes = result.changes } }
     {
         let scenario = self.history.scenario();
@@ -174,7 +174,7 @@ impl Core {
         requires { cpu < self.old.setup.scenario.shape.cpus }
         ensures turn { IsTurn self.old cpu result }
         ensures run { self.new ≡ after_turn self.old result }
-        ensures own { IsOwn cpu result }
+        ensures own { IsOwnEntry cpu result }
         ensures fed { IsFed self.old result }
     {
         if let Some(end) = self.ended() {
@@ -209,8 +209,8 @@ impl Core {
 
     /// The lowest of the processors that are due least.
     fn first_due(&self) -> CpuId
-        ensures same { result ≡ first_due (state_of self.now) self.now.entries (state_of self.now).shape.cpus }
-        ensures lowest { HasTurn Fixed (state_of self.now) self.now.entries result }
+        ensures same { result ≡ first_due (state_of_run self.now) self.now.entries (state_of_run self.now).shape.cpus }
+        ensures lowest { HasTurn Fixed (state_of_run self.now) self.now.entries result }
         ensures exists { result < self.now.setup.scenario.shape.cpus }
         ensures keeps { IsUnderWay self.now }
     {
@@ -223,7 +223,7 @@ impl Core {
     fn has_turn(&self, cpu: CpuId, first: CpuId) -> bool
         requires cpu { cpu < self.now.setup.scenario.shape.cpus }
         requires first { first < self.now.setup.scenario.shape.cpus }
-        requires lowest { HasTurn Fixed (state_of self.now) self.now.entries first }
+        requires lowest { HasTurn Fixed (state_of_run self.now) self.now.entries first }
         ensures yes { result ≡ true → HasTurnIn self.now cpu }
         ensures no { result ≡ false → HasTurnIn self.now cpu → ⊥ }
     {
@@ -238,7 +238,7 @@ impl Core {
     fn take_turn(&mut self, cpu: CpuId) -> Entry
         requires goes_on { end_of_run self.old ≡ None }
         requires turn { HasTurnIn self.old cpu }
-        ensures taken { IsTaken self.old cpu result }
+        ensures taken { IsTurnTaken self.old cpu result }
         ensures run { self.new ≡ with_entry self.old result }
         ensures own { result.cpu ≡ cpu }
         ensures fed { IsFed self.old (Took result) }

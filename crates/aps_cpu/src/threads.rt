@@ -5,7 +5,7 @@ ghost use Rattle.laws_runs.specs.Runs.{EndsNoSooner};
 ghost use Rattle.aps_core.specs.Run.{IsLater, end_of_run};
 ghost use Rattle.aps_lock.specs.Seats.{HasAllCpus, IsSeatOf};
 ghost use Rattle.aps_cpu.specs.Driven.{IsOnFrom};
-ghost use Rattle.aps_cpu.specs.Row.{HasSeenFrom, IsFresh, IsReady, IsRow};
+ghost use Rattle.aps_cpu.specs.Row.{HasSeenFrom, IsFresh, IsDrivable, AreSeatsInRow};
 
 use crate::driver::drive;
 use crate::gate::Gate;
@@ -63,7 +63,7 @@ fn drive_all<R: Threads + Wait + Sync, G: Gate + Sync>(
     mut seats: Vec<CpuSeat>,
     gate: &G,
 ) -> CpuSeat
-    requires seat { IsReady dispatch.now seat }
+    requires seat { IsDrivable dispatch.now seat }
     requires room { (seats.items ≡ []) × (seat.last + 1 - seat.first ≤ vec_capacity seats) }
     ensures of { IsSeatOf dispatch.now result }
     ensures later { IsOnFrom seat result }
@@ -76,9 +76,9 @@ fn drive_all<R: Threads + Wait + Sync, G: Gate + Sync>(
 
 /// Splits the seat into one for each processor, the last one first.
 fn split_all(dispatch: &Dispatch, mut seat: CpuSeat, seats: &mut Vec<CpuSeat>)
-    requires seat { IsReady dispatch.now seat }
+    requires seat { IsDrivable dispatch.now seat }
     requires room { (seats.old.items ≡ []) × (seat.last + 1 - seat.first ≤ vec_capacity seats.old) }
-    ensures row { IsRow dispatch.now (IsFresh seat.seen) seats.new.items (seat.last + 1) seat.first }
+    ensures row { AreSeatsInRow dispatch.now (IsFresh seat.seen) seats.new.items (seat.last + 1) seat.first }
     ensures some { 0 < length seats.new.items }
 {
     while seat.first() < seat.last() {
@@ -96,7 +96,7 @@ fn drive_each<R: Threads + Wait + Sync, G: Gate + Sync>(
     gate: &G,
 )
     requires some { 0 < length seats.old }
-    requires ready { All (IsReady dispatch.now) seats.old }
+    requires ready { All (IsDrivable dispatch.now) seats.old }
     ensures { (length seats.new ≡ length seats.old)
         × ((i : ℕ) (d : _) → i < length seats.old → IsOnFrom (slice_index_or seats.old i d) (slice_index_or seats.new i d)) }
 {
@@ -106,7 +106,7 @@ fn drive_each<R: Threads + Wait + Sync, G: Gate + Sync>(
         seats,
         threads,
         &|_, seat: &mut CpuSeat|
-            requires { IsReady dispatch.now seat.now }
+            requires { IsDrivable dispatch.now seat.now }
             ensures { IsOnFrom seat.entry.now seat.exit.now }
         {
             drive(rt, dispatch, seat, gate);
@@ -116,7 +116,7 @@ fn drive_each<R: Threads + Wait + Sync, G: Gate + Sync>(
 
 /// Joins the seats again to the one that they were split from.
 fn join_all(dispatch: &Dispatch, mut seats: Vec<CpuSeat>, whole: Snapshot<CpuSeat>) -> CpuSeat
-    requires row { IsRow dispatch.now (HasSeenFrom whole.value.seen) seats.items (whole.value.last + 1) whole.value.first }
+    requires row { AreSeatsInRow dispatch.now (HasSeenFrom whole.value.seen) seats.items (whole.value.last + 1) whole.value.first }
     requires some { 0 < length seats.items }
     requires of { IsSeatOf dispatch.now whole.value }
     ensures of { IsSeatOf dispatch.now result }

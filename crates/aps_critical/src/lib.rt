@@ -6,7 +6,7 @@ ghost use Rattle.aps_model.specs.Budget.{has_standing};
 ghost use Rattle.aps_window.specs.Bills.{Bill as WindowBill, bills_critical};
 ghost use Rattle.aps_window.specs.StandsFor.{StandsFor};
 ghost use Rattle.aps_window.specs.Window.{total_of};
-ghost use Rattle.aps_tree.specs.Tree.{IsTree};
+ghost use Rattle.aps_tree.specs.Tree.{IsBudgetTree};
 ghost use Rattle.aps_critical.specs.Critical.{effect_of, rows_after, verdict};
 
 use aps_model::{Bankruptcy, PartitionId};

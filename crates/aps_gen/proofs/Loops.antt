@@ -6,7 +6,7 @@ use Rattle.std.proofs.lemmas.List.FromFn.{map-range_with_len_more}
 use Rattle.aps_model.specs.declared.partition.PartitionRow.{PartitionRow}
 use Rattle.aps_model.specs.declared.scenario.ThreadRow.{ThreadRow}
 use Rattle.aps_gen.specs.Draws.{next}
-use Rattle.aps_gen.specs.Generated.{endless, endless_from, after_endless, partition_threads, after_partition, threads_from}
+use Rattle.aps_gen.specs.Generated.{endless, endless_from, after_endless, partition_threads, after_partition, generated_threads}
 
 -- ---- rows
 
@@ -47,22 +47,22 @@ after_all j m state whole past so_far = let none : m - j ≡ 0 = omega arith in 
 
 -- ---- partitions
 
-partition_step : (m i k state : ℕ) → i < k → threads_from m i (k - i) state ≡ partition_threads m i state ++ threads_from m (i + 1) (k - (i + 1)) (after_partition m i state)
-unfolding threads_from
+partition_step : (m i k state : ℕ) → i < k → generated_threads m i (k - i) state ≡ partition_threads m i state ++ generated_threads m (i + 1) (k - (i + 1)) (after_partition m i state)
+unfolding generated_threads
 partition_step m i k state within = let count : k - i ≡ suc (k - (i + 1)) = omega arith in rw count refl
 
 pub partition_more : (m i k state after : ℕ) (before threads whole : List ThreadRow) → i < k
-    → before ++ threads_from m i (k - i) state ≡ whole → threads ≡ before ++ partition_threads m i state → after ≡ after_partition m i state
-    → threads ++ threads_from m (i + 1) (k - (i + 1)) after ≡ whole
+    → before ++ generated_threads m i (k - i) state ≡ whole → threads ≡ before ++ partition_threads m i state → after ≡ after_partition m i state
+    → threads ++ generated_threads m (i + 1) (k - (i + 1)) after ≡ whole
 partition_more m i k state after before threads whole within so_far added drawn =
     let step = partition_step m i k state within in
-    let rest : List ThreadRow = threads_from m (i + 1) (k - (i + 1)) (after_partition m i state) in
+    let rest : List ThreadRow = generated_threads m (i + 1) (k - (i + 1)) (after_partition m i state) in
     let all : before ++ (partition_threads m i state ++ rest) ≡ whole = rw step at so_far in
     let one : (before ++ partition_threads m i state) ++ rest ≡ before ++ (partition_threads m i state ++ rest) = append_assoc before (partition_threads m i state) rest in
     rw (added, drawn) (one ∙ all)
 
-pub partition_all : (m i k state : ℕ) (threads whole : List ThreadRow) → k ≤ i → threads ++ threads_from m i (k - i) state ≡ whole → threads ≡ whole
-unfolding threads_from
+pub partition_all : (m i k state : ℕ) (threads whole : List ThreadRow) → k ≤ i → threads ++ generated_threads m i (k - i) state ≡ whole → threads ≡ whole
+unfolding generated_threads
 partition_all m i k state threads whole past so_far =
     let none : k - i ≡ 0 = omega arith in
     sym (append-nil threads) ∙ (rw none at so_far)

@@ -11,7 +11,7 @@ use Rattle.aps_model.specs.Limits.{last_cpu, most_cpus, most_partitions, most_th
 use Rattle.aps_model.specs.Program.{IsOp}
 use Rattle.aps_model.specs.Valid.{IsThreadRow}
 use Rattle.aps_gen.specs.Draws.{next, drawn}
-use Rattle.aps_gen.specs.Generated.{server, endless, endless_from, after_endless, worker, client, clients, after_worker, after_partition, partition_threads, threads_from}
+use Rattle.aps_gen.specs.Generated.{server, endless, endless_from, after_endless, worker, client, clients, after_worker, after_partition, partition_threads, generated_threads}
 use Rattle.aps_gen.proofs.NameFacts.{thread_place, is_worker_name, is_client_name, is_endless_name, worker_place, client_place, endless_place}
 use Rattle.aps_gen.proofs.Rising.{Rising, Rising-append, Rising-lower, IsDistinct-from_Rising}
 
@@ -122,12 +122,12 @@ module _ (k : ℕ) (few : k ≤ most_partitions) (names : List (List ℕ)) where
       let count = all.count in
       record { each = all.each; rising = Rising-lower thread_place (1 + 100 * i) (1 + 100 * i + 0) _ _ (omega arith) all.rising; count = omega arith }
 
-  threads-good : (m left i state : ℕ) → m ≤ most_cpus → i + left ≤ k → AreGood (1 + 100 * i) (1 + 100 * (i + left)) (18 * left) (threads_from m i left state)
-  unfolding threads_from
+  threads-good : (m left i state : ℕ) → m ≤ most_cpus → i + left ≤ k → AreGood (1 + 100 * i) (1 + 100 * (i + left)) (18 * left) (generated_threads m i left state)
+  unfolding generated_threads
   threads-good m zero i state few_m within = record { each = All-nil (IsThreadRow k 1 names); rising = omega arith; count = omega arith }
   threads-good m (suc left) i state few_m within =
       let first = partition-good m i state (omega arith) few_m in
-      let rest : AreGood (1 + 100 * (i + 1)) (1 + 100 * (i + 1 + left)) (18 * left) (threads_from m (i + 1) left (after_partition m i state)) =
+      let rest : AreGood (1 + 100 * (i + 1)) (1 + 100 * (i + 1 + left)) (18 * left) (generated_threads m (i + 1) left (after_partition m i state)) =
       threads-good m left (i + 1) (after_partition m i state) few_m (omega arith) in
       let all = good-append _ _ _ 18 (18 * left) (partition_threads m i state) _ first rest in
       let count = all.count in
@@ -139,7 +139,7 @@ module _ (k : ℕ) (few : k ≤ most_partitions) (names : List (List ℕ)) where
     pub distinct : IsDistinct bytes_eq (map name_of rows)
     pub count : length rows ≤ most_threads
 
-  pub threads-valid : (m state : ℕ) → m ≤ most_cpus → 1 ≤ k → AreThreads (server ∷ threads_from m 0 k state)
+  pub threads-valid : (m state : ℕ) → m ≤ most_cpus → 1 ≤ k → AreThreads (server ∷ generated_threads m 0 k state)
   threads-valid m state few_m some =
       let named : IsName server.name = record { some = omega arith; few = omega arith; bytes = refl } in
       let valid : IsThreadRow k 1 names server = record {

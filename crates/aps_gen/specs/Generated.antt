@@ -77,9 +77,9 @@ abbrev pub after_partition : ℕ → ℕ → ℕ → ℕ
 after_partition m i state = after_clients i (after_worker (after_endless m state))
 
 -- the threads of so many partitions, from partition i on
-unfoldable pub threads_from : ℕ → ℕ → ℕ → ℕ → List ThreadRow
-threads_from m i zero state = []
-threads_from m i (suc left) state = partition_threads m i state ++ threads_from m (i + 1) left (after_partition m i state)
+unfoldable pub generated_threads : ℕ → ℕ → ℕ → ℕ → List ThreadRow
+generated_threads m i zero state = []
+generated_threads m i (suc left) state = partition_threads m i state ++ generated_threads m (i + 1) left (after_partition m i state)
 
 -- ---- partitions
 
@@ -114,6 +114,6 @@ generated seed m k ticks = record {
   };
   partitions = rows k;
   channels = codes "c" ∷ [];
-  threads = server ∷ threads_from m 0 k seed;
+  threads = server ∷ generated_threads m 0 k seed;
   commands = [];
 }

@@ -157,7 +157,7 @@ pub fn thread_rows(
 ) -> Result<Vec<ThreadRow>, NoMemory>
     requires cpus { cpus ≤ most_cpus }
     requires partitions { partitions ≤ most_partitions }
-    ensures { IfOk result (λ v. v.items ≡ spec.server ∷ spec.threads_from cpus 0 partitions seed) }
+    ensures { IfOk result (λ v. v.items ≡ spec.server ∷ spec.generated_threads cpus 0 partitions seed) }
 {
     let mut draws = Draws { state: seed };
     let mut threads = Vec::new(alloc);

@@ -3,7 +3,7 @@ use Rattle.std.proofs.Common.{◌≡◌, ℕ, zero, suc, ◌+◌, ◌≤◌, ◌
 use Rattle.std.specs.List.{list_all}
 use Rattle.std.proofs.lemmas.List.{take_all, take-append-le, map_more, map-append}
 use Rattle.std.proofs.lemmas.List.Folds.{list_all-append}
-use Rattle.aps_hints.specs.Line.{is_shown, shown, shown_text, most_bytes, cut, IsLine}
+use Rattle.aps_hints.specs.Line.{is_shown, shown, shown_text, most_bytes, cut, IsHintLine}
 
 -- one byte more, where there is room
 pub cut_more : (old : List ℕ) (x : ℕ) → length old < most_bytes → cut (old ++ (x ∷ [])) ≡ old ++ (x ∷ [])
@@ -33,13 +33,13 @@ pub shown_more : (old : List ℕ) (x : ℕ) → list_all is_shown old ≡ true �
 shown_more old x h = list_all-append is_shown old (shown x ∷ []) ∙ grind (arith, h, shown_is_shown x)
 
 -- a line to which such a byte was written, if there was memory
-pub line_more : (old new : List ℕ) (x : ℕ) (written : Bool) → IsLine old → length old < most_bytes
-    → new ≡ (if written then old ++ (shown x ∷ []) else old) → IsLine new
-line_more old new x true is room same = subst IsLine (sym same) (record {
+pub line_more : (old new : List ℕ) (x : ℕ) (written : Bool) → IsHintLine old → length old < most_bytes
+    → new ≡ (if written then old ++ (shown x ∷ []) else old) → IsHintLine new
+line_more old new x true is room same = subst IsHintLine (sym same) (record {
   short = omega (arith, room, length-append old (shown x ∷ []));
   printable = shown_more old x is.printable;
 })
-line_more old new x false is room same = subst IsLine (sym same) is
+line_more old new x false is room same = subst IsHintLine (sym same) is
 
 -- the text as far as it was written, and one byte more
 pub text_more : (old text : List ℕ) (i : ℕ) (mid new : List ℕ) → i < length text
@@ -51,12 +51,12 @@ text_more old text i mid new h was now =
     ∙ ap cut (append_assoc old (shown_text (take i text)) (shown x ∷ []) ∙ ap (λ t. old ++ t) (sym (map_more shown text i 0 h)))
 
 -- nothing written so far
-pub text_none : (old items : List ℕ) → old ≡ items → IsLine items → old ≡ cut (old ++ [])
+pub text_none : (old items : List ℕ) → old ≡ items → IsHintLine items → old ≡ cut (old ++ [])
 text_none old items same is =
     sym (ap cut (append-nil old) ∙ take_all most_bytes old (subst (λ (l : List ℕ). length l ≤ most_bytes) (sym same) is.short))
 
 -- a full line
-pub line_full : (old items more : List ℕ) → old ≡ items → IsLine items → most_bytes ≤ length items → old ≡ cut (old ++ more)
+pub line_full : (old items more : List ℕ) → old ≡ items → IsHintLine items → most_bytes ≤ length items → old ≡ cut (old ++ more)
 line_full old items more same is full =
     sym (cut_full old more (subst (λ (l : List ℕ). most_bytes ≤ length l) (sym same) full)
     (subst (λ (l : List ℕ). length l ≤ most_bytes) (sym same) is.short))

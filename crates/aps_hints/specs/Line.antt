@@ -22,6 +22,6 @@ abbrev pub cut : List ℕ → List ℕ
 cut text = take most_bytes text
 
 -- at most 600 bytes, each of which can be printed
-pub record IsLine (text : List ℕ) : Type 0 where
+pub record IsHintLine (text : List ℕ) : Type 0 where
   pub short : length text ≤ most_bytes
   pub printable : list_all is_shown text ≡ true

@@ -16,8 +16,8 @@ picture_meant word =
     if bytes_eq word (codes "timeline") then Timeline
     else (if bytes_eq word (codes "threads") then Threads else (if bytes_eq word (codes "usage") then Usage else trace_meant word))
 
-abbrev pub text_meant : List ℕ → ViewUsage
-text_meant word =
+abbrev pub view_text_meant : List ℕ → ViewUsage
+view_text_meant word =
     if bytes_eq word (codes "shares") then Shares
     else (if bytes_eq word (codes "latency") then Latency
     else (if bytes_eq word (codes "explain") then Explain
@@ -26,7 +26,7 @@ text_meant word =
 -- the usage of the report that the first word names, else that of all reports
 abbrev pub view_usage_meant : List (List ℕ) → ViewUsage
 view_usage_meant [] = All
-view_usage_meant (word ∷ words) = text_meant word
+view_usage_meant (word ∷ words) = view_text_meant word
 
 -- the word of the report
 abbrev pub report_word : ViewUsage → List ℕ

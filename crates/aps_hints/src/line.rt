@@ -19,13 +19,13 @@ pub struct Line {
 
 impl Model for Line {
     ghost use Rattle.std.specs.Prelude.{ℕ, List};
-    ghost use Rattle.aps_hints.specs.Line.{IsLine};
+    ghost use Rattle.aps_hints.specs.Line.{IsHintLine};
 
     ghost Value = { List ℕ };
 
     ghost view = { λ line. line.bytes.items };
 
-    ghost invariant = { λ line. IsLine line.bytes.items };
+    ghost invariant = { λ line. IsHintLine line.bytes.items };
 }
 
 impl Line {

@@ -103,7 +103,7 @@ pub fn view_usage_meant(words: &[String]) -> ViewUsage
 
 /// The usage of the report that is a text, by its word.
 fn text_meant(word: &str) -> ViewUsage
-    ensures { result ≡ spec.text_meant word.now }
+    ensures { result ≡ spec.view_text_meant word.now }
 {
     match word {
         "shares" => ViewUsage::Shares,

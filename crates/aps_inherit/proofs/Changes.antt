@@ -6,10 +6,10 @@ use Rattle.std.proofs.lemmas.List.{get_or-set_other}
 use Rattle.aps_model.specs.declared.state.Facts.{Facts}
 use Rattle.aps_model.specs.SchedulerState.{Triple, no_facts}
 use Rattle.aps_model.specs.Inherit.{Inheritance, follow, inherited, raised, top_at}
-use Rattle.aps_inherit.specs.Chains.{end_of, passes}
+use Rattle.aps_inherit.specs.Chains.{end_of_chain, passes}
 use Rattle.aps_inherit.proofs.Ordering.{ne_from_test}
 
-follow-own : (i : Inheritance) (ts : List Triple) (x y priority : ℕ) (own : Facts) → end_of ts y ≢ x
+follow-own : (i : Inheritance) (ts : List Triple) (x y priority : ℕ) (own : Facts) → end_of_chain ts y ≢ x
     → follow (record i { own = slice_set i.own x own }) ts y priority ≡ follow i ts y priority
 follow-own i [] x y priority own ne = ap (raised priority) (get_or-set_other i.own x y own no_facts ne)
 follow-own i (t ∷ older) x y priority own ne =
@@ -17,7 +17,7 @@ follow-own i (t ∷ older) x y priority own ne =
     (cond (nat_eq t.server y) (max priority (top_at i.tops t.channel)) priority) own ne
 
 -- a thread whose chain doesn't end at x
-pub inherited-own_other : (i : Inheritance) (x y : ℕ) (own : Facts) → end_of i.triples y ≢ x
+pub inherited-own_other : (i : Inheritance) (x y : ℕ) (own : Facts) → end_of_chain i.triples y ≢ x
     → inherited (record i { own = slice_set i.own x own }) y ≡ inherited i y
 inherited-own_other i x y own ne = follow-own i i.triples x y 0 own ne
 

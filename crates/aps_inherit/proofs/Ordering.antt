@@ -2,7 +2,7 @@
 use Rattle.std.proofs.Common.{◌≡◌, ◌≢◌, ℕ, ◌+◌, List, [], ◌∷◌, length, sym, ◌∙◌, ap, refl, Bool, true, false, cond, nat_eq, ◌||◌, arith, inl, inr, Option, Some, None}
 use Rattle.std.proofs.lemmas.Bool.{cases_eq, or_parts}
 use Rattle.std.proofs.lemmas.Bool.Decides.{nat_tests}
-use Rattle.aps_inherit.specs.Order.{AreApart, after_in, first_of, from_on, has, rest_of, without}
+use Rattle.aps_inherit.specs.Order.{AreApart, after_in, first_of, from_on, has, rest_of, order_without}
 
 pub test_ne : (a b : ℕ) → a ≢ b → nat_eq a b ≡ false
 test_ne a b ne = grind (arith, nat_tests)
@@ -33,43 +33,43 @@ has-here x y xs e = ap (λ b. b || has xs y) (test_eq x y e)
 pub has-past : (x y : ℕ) (xs : List ℕ) → x ≢ y → has (x ∷ xs) y ≡ has xs y
 has-past x y xs ne = ap (λ b. b || has xs y) (test_ne x y ne)
 
-pub without-here : (x y : ℕ) (xs : List ℕ) → x ≡ y → without (x ∷ xs) y ≡ xs
-without-here x y xs e = ap (λ b. cond b xs (x ∷ without xs y)) (test_eq x y e)
+pub without-here : (x y : ℕ) (xs : List ℕ) → x ≡ y → order_without (x ∷ xs) y ≡ xs
+without-here x y xs e = ap (λ b. cond b xs (x ∷ order_without xs y)) (test_eq x y e)
 
-pub without-past : (x y : ℕ) (xs : List ℕ) → x ≢ y → without (x ∷ xs) y ≡ x ∷ without xs y
-without-past x y xs ne = ap (λ b. cond b xs (x ∷ without xs y)) (test_ne x y ne)
+pub without-past : (x y : ℕ) (xs : List ℕ) → x ≢ y → order_without (x ∷ xs) y ≡ x ∷ order_without xs y
+without-past x y xs ne = ap (λ b. cond b xs (x ∷ order_without xs y)) (test_ne x y ne)
 
 -- what is not in a list is in no part of it
-pub has-without : (xs : List ℕ) (x y : ℕ) → has xs y ≡ false → has (without xs x) y ≡ false
+pub has-without : (xs : List ℕ) (x y : ℕ) → has xs y ≡ false → has (order_without xs x) y ≡ false
 has-without [] x y h = refl
-has-without (z ∷ zs) x y h = elim (cases_eq z x) as (λ _. has (without (z ∷ zs) x) y ≡ false) [
+has-without (z ∷ zs) x y h = elim (cases_eq z x) as (λ _. has (order_without (z ∷ zs) x) y ≡ false) [
   | inl e ↦ ap (λ l. has l y) (without-here z x zs e) ∙ tail_has_not z y zs h
   | inr ne ↦
       ap (λ l. has l y) (without-past z x zs ne)
-      ∙ has-past z y (without zs x) (head_ne z y zs h)
+      ∙ has-past z y (order_without zs x) (head_ne z y zs h)
       ∙ has-without zs x y (tail_has_not z y zs h)
 ]
 
-pub has_not-without : (xs : List ℕ) (x : ℕ) → AreApart xs → has (without xs x) x ≡ false
+pub has_not-without : (xs : List ℕ) (x : ℕ) → AreApart xs → has (order_without xs x) x ≡ false
 has_not-without [] x h = refl
-has_not-without (z ∷ zs) x h = elim (cases_eq z x) as (λ _. has (without (z ∷ zs) x) x ≡ false) [
+has_not-without (z ∷ zs) x h = elim (cases_eq z x) as (λ _. has (order_without (z ∷ zs) x) x ≡ false) [
   | inl e ↦ ap (λ l. has l x) (without-here z x zs e) ∙ ap (has zs) (sym e) ∙ h.0
   | inr ne ↦
       ap (λ l. has l x) (without-past z x zs ne)
-      ∙ has-past z x (without zs x) ne
+      ∙ has-past z x (order_without zs x) ne
       ∙ has_not-without zs x h.1
 ]
 
-pub AreApart-without : (xs : List ℕ) (x : ℕ) → AreApart xs → AreApart (without xs x)
+pub AreApart-without : (xs : List ℕ) (x : ℕ) → AreApart xs → AreApart (order_without xs x)
 AreApart-without [] x h = tt
-AreApart-without (z ∷ zs) x h = elim (cases_eq z x) as (λ _. AreApart (without (z ∷ zs) x)) [
+AreApart-without (z ∷ zs) x h = elim (cases_eq z x) as (λ _. AreApart (order_without (z ∷ zs) x)) [
   | inl e ↦ rw (without-here z x zs e) h.1
   | inr ne ↦ rw (without-past z x zs ne) (has-without zs x z h.0, AreApart-without zs x h.1)
 ]
 
-pub length-without : (xs : List ℕ) (x : ℕ) → has xs x ≡ true → length (without xs x) + 1 ≡ length xs
+pub length-without : (xs : List ℕ) (x : ℕ) → has xs x ≡ true → length (order_without xs x) + 1 ≡ length xs
 length-without [] x h = cc
-length-without (z ∷ zs) x h = elim (cases_eq z x) as (λ _. length (without (z ∷ zs) x) + 1 ≡ length (z ∷ zs)) [
+length-without (z ∷ zs) x h = elim (cases_eq z x) as (λ _. length (order_without (z ∷ zs) x) + 1 ≡ length (z ∷ zs)) [
   | inl e ↦ rw (without-here z x zs e) (omega arith)
   | inr ne ↦
       let more = length-without zs x (sym (has-past z x zs ne) ∙ h) in

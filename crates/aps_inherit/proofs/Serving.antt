@@ -3,7 +3,7 @@ use Rattle.std.proofs.Common.{◌≡◌, ◌≢◌, ℕ, suc, ◌<◌, ◌≤◌
 use Rattle.std.proofs.lemmas.Bool.{cases_eq}
 use Rattle.aps_model.specs.SchedulerState.{Triple}
 use Rattle.aps_model.specs.Inherit.{IsFree, IsMade, triple_of, without_server}
-use Rattle.aps_inherit.specs.Order.{AreApart, has, without}
+use Rattle.aps_inherit.specs.Order.{AreApart, has, order_without}
 use Rattle.aps_inherit.specs.Serving.{AreChains, AreServedOnce, server_of, servers}
 use Rattle.aps_inherit.proofs.Ordering.{test_eq, test_ne}
 
@@ -251,15 +251,15 @@ server_of-without (first ∷ older) x y t once h =
         ap (λ b. cond b (Some first.server) (cond (nat_eq t.client y) None (server_of older y))) (test_ne first.client y ne)
         ∙ sym (ap (λ b. cond (nat_eq t.client y) None (cond b (Some first.server) (server_of older y))) (test_ne first.client y ne))
 
-pub servers-without : (ts : List Triple) (x : ℕ) → without (servers ts) x ≡ servers (without_server ts x)
+pub servers-without : (ts : List Triple) (x : ℕ) → order_without (servers ts) x ≡ servers (without_server ts x)
 servers-without [] x = refl
 servers-without (t ∷ older) x = elim (cases_eq t.server x) as
-    (λ _. without (servers (t ∷ older)) x ≡ servers (without_server (t ∷ older) x)) [
+    (λ _. order_without (servers (t ∷ older)) x ≡ servers (without_server (t ∷ older) x)) [
       | inl e ↦
-          ap (λ b. cond b (servers older) (t.server ∷ without (servers older) x)) (test_eq t.server x e)
+          ap (λ b. cond b (servers older) (t.server ∷ order_without (servers older) x)) (test_eq t.server x e)
           ∙ ap servers (sym (without_server-here t older x e))
       | inr ne ↦
-          ap (λ b. cond b (servers older) (t.server ∷ without (servers older) x)) (test_ne t.server x ne)
+          ap (λ b. cond b (servers older) (t.server ∷ order_without (servers older) x)) (test_ne t.server x ne)
           ∙ ap (λ l. t.server ∷ l) (servers-without older x)
           ∙ ap servers (sym (without_server-past t older x ne))
     ]

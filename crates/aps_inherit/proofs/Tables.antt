@@ -5,7 +5,7 @@ use Rattle.std.proofs.lemmas.List.{get_or-set_same, get_or-set_other, length-set
 use Rattle.aps_model.specs.SchedulerState.{Triple}
 use Rattle.aps_model.specs.Inherit.{IsFree, triple_of, without_server}
 use Rattle.aps_model.specs.Limits.{last_thread}
-use Rattle.aps_inherit.specs.Order.{AreApart, has, without}
+use Rattle.aps_inherit.specs.Order.{AreApart, has, order_without}
 use Rattle.aps_inherit.specs.Serving.{server_of, servers}
 use Rattle.aps_inherit.specs.Table.{IsTable, no_triple, tabled}
 use Rattle.aps_inherit.proofs.Ordering.{has_ne, test_eq, test_ne}
@@ -87,12 +87,12 @@ pub IsTable-without : (order order' : List ℕ) (by_server : List (Option Triple
     (x : ℕ) (t : Triple)
     (server_place client_place : ℕ)
     → IsTable order by_server by_client (tabled by_server order) → tabled by_server order ≡ ts
-    → triple_of ts x ≡ Some t → order' ≡ without order x
+    → triple_of ts x ≡ Some t → order' ≡ order_without order x
     → server_place ≡ x → server_place ≤ last_thread → client_place ≡ t.client → client_place ≤ last_thread
     → IsTable order' (slice_set by_server server_place None) (slice_set by_client client_place None) (without_server ts x)
 IsTable-without order order' by_server by_client ts x t server_place client_place table is found e1 e2 small_s e3 small_c =
     rw (e2, e3) (record {
-      ordered = e1 ∙ ap (λ l. without l x) here.ordered ∙ servers-without ts x;
+      ordered = e1 ∙ ap (λ l. order_without l x) here.ordered ∙ servers-without ts x;
       rows = λ y.
           row-set by_server x y None (omega (arith, here.rows_size))
           ∙ ap (λ (o : Option Triple). cond (nat_eq x y) None o) (here.rows y)

@@ -3,9 +3,9 @@ use Rattle.std.specs.Prelude.{ℕ, List, [], ◌∷◌, Bool, false, ◌&&◌, �
 use Rattle.aps_model.specs.SchedulerState.{Triple}
 
 -- the thread at which the chain ends
-abbrev pub end_of : List Triple → ℕ → ℕ
-end_of [] x = x
-end_of (t ∷ older) x = end_of older (if nat_eq t.server x then t.client else x)
+abbrev pub end_of_chain : List Triple → ℕ → ℕ
+end_of_chain [] x = x
+end_of_chain (t ∷ older) x = end_of_chain older (if nat_eq t.server x then t.client else x)
 
 -- the chain passes a triple by the channel
 abbrev pub passes : List Triple → ℕ → ℕ → Bool

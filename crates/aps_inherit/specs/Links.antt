@@ -5,8 +5,8 @@ use Rattle.aps_inherit.specs.declared.order.Link.{Link}
 use Rattle.aps_inherit.specs.Order.{AreApart, first_of}
 use Rattle.aps_model.specs.Limits.{most_threads}
 
-abbrev pub link_at : List (Option Link) → ℕ → Option Link
-link_at links x = slice_index_or links x None
+abbrev pub order_link_at : List (Option Link) → ℕ → Option Link
+order_link_at links x = slice_index_or links x None
 
 abbrev pub after_link : Option Link → Option ℕ
 after_link None = None
@@ -16,7 +16,7 @@ after_link (Some link) = link.after
 abbrev pub chain : ℕ → List (Option Link) → Option ℕ → List ℕ
 chain zero links at = []
 chain (suc most) links None = []
-chain (suc most) links (Some x) = x ∷ chain most links (after_link (link_at links x))
+chain (suc most) links (Some x) = x ∷ chain most links (after_link (order_link_at links x))
 
 -- the order for which the links stand
 abbrev pub listed : List (Option Link) → Option ℕ → List ℕ
@@ -29,9 +29,9 @@ link_in before (x ∷ xs) y =
     if nat_eq x y then Some (record { before = before; after = first_of xs }) else link_in (Some x) xs y
 
 -- the links stand for this list
-pub record IsLinked (links : List (Option Link)) (first : Option ℕ) (xs : List ℕ) : Type 0 where
+pub record LinksStandFor (links : List (Option Link)) (first : Option ℕ) (xs : List ℕ) : Type 0 where
   pub begins : first ≡ first_of xs
-  pub places : (y : ℕ) → link_at links y ≡ link_in None xs y
+  pub places : (y : ℕ) → order_link_at links y ≡ link_in None xs y
   pub apart : AreApart xs
   pub count : length xs ≡ count_by is_some links
   pub size : length links ≡ most_threads
@@ -45,14 +45,14 @@ put_after None after = None
 put_after (Some link) after = Some (record link { after = after })
 
 -- with this number before x, if x has a place
-abbrev pub with_before : List (Option Link) → Option ℕ → Option ℕ → List (Option Link)
-with_before links None before = links
-with_before links (Some x) before = slice_set links x (put_before (link_at links x) before)
+abbrev pub order_with_before : List (Option Link) → Option ℕ → Option ℕ → List (Option Link)
+order_with_before links None before = links
+order_with_before links (Some x) before = slice_set links x (put_before (order_link_at links x) before)
 
 -- with this number after x, if x has a place
-abbrev pub with_after : List (Option Link) → Option ℕ → Option ℕ → List (Option Link)
-with_after links None after = links
-with_after links (Some x) after = slice_set links x (put_after (link_at links x) after)
+abbrev pub order_with_after : List (Option Link) → Option ℕ → Option ℕ → List (Option Link)
+order_with_after links None after = links
+order_with_after links (Some x) after = slice_set links x (put_after (order_link_at links x) after)
 
 -- what is first once the first one, or a later one, with this link has gone
 abbrev pub next_first : Option ℕ → Link → Option ℕ

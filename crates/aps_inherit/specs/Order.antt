@@ -15,9 +15,9 @@ abbrev pub after_in : List ℕ → ℕ → Option ℕ
 after_in [] y = None
 after_in (x ∷ xs) y = if nat_eq x y then first_of xs else after_in xs y
 
-abbrev pub without : List ℕ → ℕ → List ℕ
-without [] y = []
-without (x ∷ xs) y = if nat_eq x y then xs else x ∷ without xs y
+abbrev pub order_without : List ℕ → ℕ → List ℕ
+order_without [] y = []
+order_without (x ∷ xs) y = if nat_eq x y then xs else x ∷ order_without xs y
 
 -- the list from y on
 abbrev pub from_on : List ℕ → ℕ → List ℕ

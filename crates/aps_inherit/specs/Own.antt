@@ -8,5 +8,5 @@ abbrev pub own_of : Inheritance → ℕ → Facts
 own_of i x = slice_index_or i.own x no_facts
 
 -- with these as the own values of the thread, if there is such a thread
-abbrev pub with_own : Inheritance → ℕ → Facts → Inheritance
-with_own i x own = record i { own = slice_set i.own x own }
+abbrev pub with_own_values : Inheritance → ℕ → Facts → Inheritance
+with_own_values i x own = record i { own = slice_set i.own x own }

@@ -6,7 +6,7 @@ ghost use Rattle.aps_model.specs.Opening.{opening};
 ghost use Rattle.aps_model.specs.SchedulerState.{no_facts};
 ghost use Rattle.aps_inherit.specs.Order.{after_in, first_of};
 ghost use Rattle.aps_inherit.specs.Opening.{no_tops, own_values};
-ghost use Rattle.aps_inherit.specs.Own.{own_of, with_own};
+ghost use Rattle.aps_inherit.specs.Own.{own_of, with_own_values};
 ghost use Rattle.aps_inherit.specs.Serving.{AreChains, server_of, servers};
 ghost use Rattle.aps_inherit.specs.Values.{serves_by};
 
@@ -107,7 +107,7 @@ impl Content {
 
     /// The thread's own values are these from now on.
     pub fn set_own(&mut self, x: ThreadId, own: Facts)
-        ensures { self.new ≡ with_own self.old x own }
+        ensures { self.new ≡ with_own_values self.old x own }
     {
         let index = x.index();
         if index < self.own.len() {

@@ -3,7 +3,7 @@ ghost use Rattle.std.specs.Prelude.{◌≡◌, ◌≢◌, ◌∷◌, None, slice
 ghost use Rattle.aps_model.specs.Inherit.{IsFree, client_of, inheritance_of, inherited, without_server};
 ghost use Rattle.aps_model.specs.Opening.{opening};
 ghost use Rattle.aps_inherit.specs.Order.{after_in, first_of};
-ghost use Rattle.aps_inherit.specs.Own.{own_of, with_own};
+ghost use Rattle.aps_inherit.specs.Own.{own_of, with_own_values};
 ghost use Rattle.aps_inherit.specs.Serving.{AreChains, server_of, servers};
 ghost use Rattle.aps_inherit.specs.Values.{serves_by};
 
@@ -133,7 +133,7 @@ impl Inherit {
 
     /// The thread's own partition is this from now on.
     pub fn join(&mut self, x: ThreadId, p: PartitionId)
-        ensures { self.new ≡ with_own self.old x (record (own_of self.old x) { partition = p }) }
+        ensures { self.new ≡ with_own_values self.old x (record (own_of self.old x) { partition = p }) }
     {
         let own = self.own(x);
         let joined = Facts {
@@ -145,7 +145,7 @@ impl Inherit {
 
     /// The thread's own priority is this from now on.
     pub fn set_priority(&mut self, x: ThreadId, priority: u8)
-        ensures { self.new ≡ with_own self.old x (record (own_of self.old x) { priority = priority }) }
+        ensures { self.new ≡ with_own_values self.old x (record (own_of self.old x) { priority = priority }) }
     {
         let own = self.own(x);
         self.set_own(x, Facts { priority, ..own });
@@ -153,7 +153,7 @@ impl Inherit {
 
     /// The thread's own critical mark is this from now on.
     pub fn mark(&mut self, x: ThreadId, on: bool)
-        ensures { self.new ≡ with_own self.old x (record (own_of self.old x) { critical = on }) }
+        ensures { self.new ≡ with_own_values self.old x (record (own_of self.old x) { critical = on }) }
     {
         let own = self.own(x);
         let marked = Facts {
@@ -165,7 +165,7 @@ impl Inherit {
 
     /// The thread's own values are these from now on.
     fn set_own(&mut self, x: ThreadId, own: Facts)
-        ensures { self.new ≡ with_own self.old x own }
+        ensures { self.new ≡ with_own_values self.old x own }
     {
         self.content.set_own(x, own);
         self.kept.settle(&self.content, x);

@@ -1,7 +1,7 @@
 //! Threads in an order, into which one comes and from which one goes in constant time.
 ghost use Rattle.std.specs.Prelude.{◌≡◌, false, [], ◌∷◌, length, None, IfOk};
-ghost use Rattle.aps_inherit.specs.Order.{after_in, first_of, has, without};
-ghost use Rattle.aps_inherit.specs.Links.{link_in, next_first, with_after, with_before};
+ghost use Rattle.aps_inherit.specs.Order.{after_in, first_of, has, order_without};
+ghost use Rattle.aps_inherit.specs.Links.{link_in, next_first, order_with_after, order_with_before};
 ghost use Rattle.aps_model.specs.Limits.{most_threads};
 
 use aps_model::limits::MOST_THREADS;
@@ -28,11 +28,11 @@ impl Model for Order {
 
     ghost Value = { List ℕ };
 
-    ghost use Rattle.aps_inherit.specs.Links.{IsLinked, listed};
+    ghost use Rattle.aps_inherit.specs.Links.{LinksStandFor, listed};
 
     ghost view = { λ o. listed o.links.items o.first };
 
-    ghost invariant = { λ o. IsLinked o.links.items o.first (listed o.links.items o.first) };
+    ghost invariant = { λ o. LinksStandFor o.links.items o.first (listed o.links.items o.first) };
 }
 
 impl Order {
@@ -86,7 +86,7 @@ impl Order {
 
     /// The thread goes, if it is there.
     pub fn take_out(&mut self, x: ThreadId)
-        ensures { self.new ≡ without self.old x }
+        ensures { self.new ≡ order_without self.old x }
     {
         let Some(link) = self.link(x) else {
             return;
@@ -112,7 +112,7 @@ fn next_first(first: Option<ThreadId>, link: &Link) -> Option<ThreadId>
 /// What stands before the thread, if there is such a thread.
 fn set_before(links: &mut Vec<Option<Link>>, x: Option<ThreadId>, before: Option<ThreadId>)
     requires { length links.old.items ≡ most_threads }
-    ensures { links.new.items ≡ with_before links.old.items x before }
+    ensures { links.new.items ≡ order_with_before links.old.items x before }
 {
     if let Some(x) = x {
         if let Some(link) = links[x.index()] {
@@ -124,7 +124,7 @@ fn set_before(links: &mut Vec<Option<Link>>, x: Option<ThreadId>, before: Option
 /// What stands after the thread, if there is such a thread.
 fn set_after(links: &mut Vec<Option<Link>>, x: Option<ThreadId>, after: Option<ThreadId>)
     requires { length links.old.items ≡ most_threads }
-    ensures { links.new.items ≡ with_after links.old.items x after }
+    ensures { links.new.items ≡ order_with_after links.old.items x after }
 {
     if let Some(x) = x {
         if let Some(link) = links[x.index()] {

@@ -32,11 +32,11 @@ abbrev pub is_failing : List ℕ → ℕ → Bool
 is_failing fails call = list_any (nat_eq call) fails
 
 -- what a read into this much room says, and what it puts at the front of the buffer
-abbrev pub given : List ℕ → ℕ → ReadAnswer
-given left room = if nat_eq (min room (length left)) 0 then End else Got (min room (length left))
+abbrev pub answer_to_read : List ℕ → ℕ → ReadAnswer
+answer_to_read left room = if nat_eq (min room (length left)) 0 then End else Got (min room (length left))
 
 abbrev pub read_answer : ScriptedSource → ℕ → ReadAnswer
-read_answer s room = if is_failing s.fails s.calls then Failed else given s.left room
+read_answer s room = if is_failing s.fails s.calls then Failed else answer_to_read s.left room
 
 -- the source after a read into this much room
 abbrev pub after_read : ScriptedSource → ℕ → ScriptedSource

@@ -1,7 +1,7 @@
 //! A source and a sink in memory that never fail.
 ghost use Rattle.std.specs.Prelude.{◌≡◌, ◌≤◌, ◌<◌, ◌+◌, ◌-◌, ◌++◌, ℕ, List, drop, take, min, length, vec_len, Some};
 ghost use Rattle.aps_io.specs.Bytes.{Reads, ReadCause, Writes, WriteCause};
-ghost use Rattle.aps_io.specs.Scripted.{GrowingSink, GrowsOrLacks, given, grown};
+ghost use Rattle.aps_io.specs.Scripted.{GrowingSink, GrowsOrLacks, answer_to_read, grown};
 ghost use Rattle.aps_io.specs.declared.sink.WriteAnswer.TheVariants.{Failed, NoMemory};
 
 use crate::{ReadAnswer, Sink, Source, WriteAnswer};
@@ -66,7 +66,7 @@ impl Source for CalmSource {
     /// As many of the bytes as there are and as fit.
     fn read(&mut self, into: &mut [u8]) -> ReadAnswer
         requires { 0 < length into.old }
-        ensures answer { result ≡ given self.old (length into.old) }
+        ensures answer { result ≡ answer_to_read self.old (length into.old) }
         ensures after { self.new ≡ drop (length into.old) self.old }
         ensures bytes { Reads (Some self.old) (Some self.new) result into.new }
         ensures cause { ReadCause 0 0 result }

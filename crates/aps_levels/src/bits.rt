@@ -1,6 +1,6 @@
 //! Sets of numbers below 64, in one word.
 ghost use Rattle.std.specs.Prelude.{◌≡◌, ℕ, ◌+◌, ◌<◌, ◌||◌, ◌&&◌, not, nat_eq, nat_lt, if◌then◌else◌, IfSome, IfNone, IsTrue, true, false};
-ghost use Rattle.aps_levels.specs.Bits.{has, IsLeast};
+ghost use Rattle.aps_levels.specs.Bits.{set_has, IsLeast};
 
 /// A set of numbers below 64.
 #[derive(Clone, Copy, PartialEq, Eq)]
@@ -12,7 +12,7 @@ impl Bits64 {
     /// The set without any number.
     #[inline(always)]
     pub fn none() -> Bits64
-        ensures { (k : ℕ) → has result k ≡ false }
+        ensures { (k : ℕ) → set_has result k ≡ false }
     {
         Bits64 { word: 0 }
     }
@@ -20,8 +20,8 @@ impl Bits64 {
     /// Whether no number is in.
     #[inline(always)]
     pub fn is_empty(self) -> bool
-        ensures empty { IsTrue result → (k : ℕ) → has self k ≡ false }
-        ensures some { result ≡ false → (k : ℕ) × (k < 64) × (has self k ≡ true) }
+        ensures empty { IsTrue result → (k : ℕ) → set_has self k ≡ false }
+        ensures some { result ≡ false → (k : ℕ) × (k < 64) × (set_has self k ≡ true) }
     {
         match self.least() {
             None => true,
@@ -33,7 +33,7 @@ impl Bits64 {
     #[inline(always)]
     pub fn has(self, i: usize) -> bool
         requires { i < 64 }
-        ensures { result ≡ has self i }
+        ensures { result ≡ set_has self i }
     {
         (self.word >> i) & 1 == 1
     }
@@ -42,7 +42,7 @@ impl Bits64 {
     #[inline(always)]
     pub fn with(self, i: usize) -> Bits64
         requires { i < 64 }
-        ensures { (k : ℕ) → has result k ≡ (nat_eq k i || has self k) }
+        ensures { (k : ℕ) → set_has result k ≡ (nat_eq k i || set_has self k) }
     {
         Bits64 {
             word: self.word | 1 << i,
@@ -53,7 +53,7 @@ impl Bits64 {
     #[inline(always)]
     pub fn without(self, i: usize) -> Bits64
         requires { i < 64 }
-        ensures { (k : ℕ) → has result k ≡ (not (nat_eq k i) && has self k) }
+        ensures { (k : ℕ) → set_has result k ≡ (not (nat_eq k i) && set_has self k) }
     {
         Bits64 {
             word: self.word & !(1 << i),
@@ -63,7 +63,7 @@ impl Bits64 {
     /// The set without its least number.
     #[inline(always)]
     pub fn without_least(self) -> Bits64
-        ensures { (i : ℕ) → IsLeast 64 (has self) i → (k : ℕ) → has result k ≡ (not (nat_eq k i) && has self k) }
+        ensures { (i : ℕ) → IsLeast 64 (set_has self) i → (k : ℕ) → set_has result k ≡ (not (nat_eq k i) && set_has self k) }
     {
         if self.word == 0 {
             self
@@ -78,7 +78,7 @@ impl Bits64 {
     #[inline(always)]
     pub fn put(self, i: usize, is_in: bool) -> Bits64
         requires { i < 64 }
-        ensures { (k : ℕ) → has result k ≡ (if nat_eq k i then is_in else has self k) }
+        ensures { (k : ℕ) → set_has result k ≡ (if nat_eq k i then is_in else set_has self k) }
     {
         if is_in { self.with(i) } else { self.without(i) }
     }
@@ -86,7 +86,7 @@ impl Bits64 {
     /// The numbers that both sets have.
     #[inline(always)]
     pub fn meet(self, other: Bits64) -> Bits64
-        ensures { (k : ℕ) → has result k ≡ (has self k && has other k) }
+        ensures { (k : ℕ) → set_has result k ≡ (set_has self k && set_has other k) }
     {
         Bits64 {
             word: self.word & other.word,
@@ -96,7 +96,7 @@ impl Bits64 {
     /// The numbers that either set has.
     #[inline(always)]
     pub fn join(self, other: Bits64) -> Bits64
-        ensures { (k : ℕ) → has result k ≡ (has self k || has other k) }
+        ensures { (k : ℕ) → set_has result k ≡ (set_has self k || set_has other k) }
     {
         Bits64 {
             word: self.word | other.word,
@@ -106,7 +106,7 @@ impl Bits64 {
     /// The numbers of this set that the other hasn't.
     #[inline(always)]
     pub fn minus(self, other: Bits64) -> Bits64
-        ensures { (k : ℕ) → k < 64 → has result k ≡ (has self k && not (has other k)) }
+        ensures { (k : ℕ) → k < 64 → set_has result k ≡ (set_has self k && not (set_has other k)) }
     {
         Bits64 {
             word: self.word & !other.word,
@@ -116,7 +116,7 @@ impl Bits64 {
     /// The numbers from 32 on, each less 32.
     #[inline(always)]
     pub fn upper_half(self) -> Bits64
-        ensures { (k : ℕ) → has result k ≡ has self (k + 32) }
+        ensures { (k : ℕ) → set_has result k ≡ set_has self (k + 32) }
     {
         Bits64 {
             word: self.word >> 32,
@@ -126,7 +126,7 @@ impl Bits64 {
     /// The numbers below 32.
     #[inline(always)]
     pub fn lower_half(self) -> Bits64
-        ensures { (k : ℕ) → has result k ≡ (nat_lt k 32 && has self k) }
+        ensures { (k : ℕ) → set_has result k ≡ (nat_lt k 32 && set_has self k) }
     {
         Bits64 {
             word: self.word & 0xffff_ffff,
@@ -136,7 +136,7 @@ impl Bits64 {
     /// The numbers below `end`.
     #[inline(always)]
     pub fn below(self, end: usize) -> Bits64
-        ensures { (k : ℕ) → has result k ≡ (nat_lt k end && has self k) }
+        ensures { (k : ℕ) → set_has result k ≡ (nat_lt k end && set_has self k) }
     {
         if end < 64 {
             Bits64 {
@@ -150,8 +150,8 @@ impl Bits64 {
     /// The least number of the set; none exactly where the set is empty.
     #[inline(always)]
     pub fn least(self) -> Option<usize>
-        ensures some { IfSome result (IsLeast 64 (has self)) }
-        ensures none { IfNone result ((k : ℕ) → has self k ≡ false) }
+        ensures some { IfSome result (IsLeast 64 (set_has self)) }
+        ensures none { IfNone result ((k : ℕ) → set_has self k ≡ false) }
     {
         if self.word == 0 {
             None

@@ -1,6 +1,6 @@
 //! Sets of levels, which are numbers below 256, in four words.
 ghost use Rattle.std.specs.Prelude.{◌≡◌, ℕ, ◌+◌, ◌*◌, ◌<◌, ◌||◌, ◌&&◌, not, nat_eq, IfSome, IfNone, false};
-ghost use Rattle.aps_levels.specs.Bits.{IsLeast, has};
+ghost use Rattle.aps_levels.specs.Bits.{IsLeast, set_has};
 ghost use Rattle.aps_levels.specs.Levels.{has_level, level_count};
 
 use crate::bits::Bits64;
@@ -54,7 +54,7 @@ impl Levels {
     #[inline(always)]
     pub fn quarter(self, q: usize) -> Bits64
         requires { q < 4 }
-        ensures { (k : ℕ) → k < 64 → has result k ≡ has_level self (64 * q + k) }
+        ensures { (k : ℕ) → k < 64 → set_has result k ≡ has_level self (64 * q + k) }
     {
         if q == 0 {
             self.first

@@ -10,7 +10,7 @@ use Rattle.aps_model.specs.Limits.{longest_window, most_partitions, most_time_of
 use Rattle.aps_model.specs.Usage.{billed_by, critical_by, critical_used, names, overlap, used}
 use Rattle.aps_window.specs.Bills.{Bill, all_time, bills_critical, bills_used, critical_time, time_in}
 use Rattle.aps_window.specs.StandsFor.{StandsFor}
-use Rattle.aps_window.specs.Window.{Window, billed, billed_on}
+use Rattle.aps_window.specs.Window.{Window, window_billed, billed_on}
 use Rattle.aps_live.specs.BilledTo.{IsBilledTo}
 use Rattle.aps_live.specs.Tied.{FitsTicks, IsTied}
 

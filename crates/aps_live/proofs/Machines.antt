@@ -4,7 +4,7 @@ use Rattle.std.proofs.lemmas.Bool.{cases_eq}
 use Rattle.std.proofs.lemmas.List.{get_or-set_other, get_or-set_same}
 use Rattle.aps_model.specs.declared.merit.Contender.{Contender}
 use Rattle.aps_model.specs.declared.state.Pick.{Pick}
-use Rattle.aps_ready.specs.Ready.{IsFree}
+use Rattle.aps_ready.specs.Ready.{IsStampFree}
 use Rattle.aps_live.specs.declared.thread.LiveThread.{LiveThread}
 use Rattle.aps_live.specs.declared.thread.Doing.{Doing}
 use Rattle.aps_live.specs.declared.thread.Doing.TheVariants.{Waiting, Ready, Running}
@@ -83,7 +83,7 @@ numbered_new threads stamps x t m small inside number is =
 
 -- that of a thread that isn't ready
 pub free_own : (threads : List LiveThread) (stamps x stamp : ℕ) → AreNumbered threads stamps → x < length threads → is_waking (at threads x).doing ≡ false → stamp ≡ (at threads x).contender.stamp
-    → All (IsFree stamp) (row_of threads)
+    → All (IsStampFree stamp) (row_of threads)
 free_own threads stamps x stamp m inside out is =
     free_row threads stamp (λ y below waking e. clash (is_waking (at threads x).doing) out (ap (λ z. is_waking (at threads z).doing) (m.distinct x y inside below (sym is ∙ sym e)) ∙ waking))
   where
@@ -91,7 +91,7 @@ free_own threads stamps x stamp m inside out is =
     clash b p q = cc
 
 -- the next one
-pub free_new : (threads : List LiveThread) (stamps stamp : ℕ) → AreNumbered threads stamps → stamps < 2 ^ 63 → stamp ≡ stamps → All (IsFree stamp) (row_of threads)
+pub free_new : (threads : List LiveThread) (stamps stamp : ℕ) → AreNumbered threads stamps → stamps < 2 ^ 63 → stamp ≡ stamps → All (IsStampFree stamp) (row_of threads)
 free_new threads stamps stamp m small is = free_row threads stamp (λ y below waking e. fresh threads stamps y m small below (e ∙ is))
 
 -- ---- who runs

@@ -4,7 +4,7 @@ use Rattle.std.specs.List.{filter}
 use Rattle.std.proofs.lemmas.Bool.{cases_eq}
 use Rattle.std.proofs.lemmas.List.{map-set}
 use Rattle.aps_model.specs.declared.merit.Contender.{Contender}
-use Rattle.aps_ready.specs.Ready.{members, IsFree}
+use Rattle.aps_ready.specs.Ready.{members, IsStampFree}
 use Rattle.aps_live.specs.declared.thread.LiveThread.{LiveThread}
 use Rattle.aps_live.specs.LiveState.{no_live_thread}
 use Rattle.aps_live.specs.LiveStep.{is_waking}
@@ -70,14 +70,14 @@ row_empty f (x ∷ xs) waits = ap (λ o. o ∷ row_of (map f xs)) (seat_out (f x
 -- no one who is ready has the stamp
 pub free_row : (threads : List LiveThread) (stamp : ℕ)
     → ((y : ℕ) → y < length threads → is_waking (slice_index_or threads y no_live_thread).doing ≡ true → (slice_index_or threads y no_live_thread).contender.stamp ≢ stamp)
-    → All (IsFree stamp) (row_of threads)
+    → All (IsStampFree stamp) (row_of threads)
 free_row [] stamp others = λ k d inside. absurd (omega (arith, inside))
 free_row (t ∷ threads) stamp others = λ k d inside. by_place (free_row threads stamp (λ y below. others (suc y) (omega (arith, below)))) k d inside
   where
-    here : (b : Bool) → is_waking t.doing ≡ b → IsFree stamp (cond b (Some t.contender) None)
+    here : (b : Bool) → is_waking t.doing ≡ b → IsStampFree stamp (cond b (Some t.contender) None)
     here true is = others 0 (omega arith) is
     here false is = tt
 
-    by_place : All (IsFree stamp) (row_of threads) → (k : ℕ) (d : Option Contender) → k < length (row_of (t ∷ threads)) → IsFree stamp (get_or (row_of (t ∷ threads)) k d)
+    by_place : All (IsStampFree stamp) (row_of threads) → (k : ℕ) (d : Option Contender) → k < length (row_of (t ∷ threads)) → IsStampFree stamp (get_or (row_of (t ∷ threads)) k d)
     by_place rest zero d inside = here (is_waking t.doing) refl
     by_place rest (suc k) d inside = rest k d (omega (arith, inside))

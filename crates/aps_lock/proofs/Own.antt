@@ -7,7 +7,7 @@ use Rattle.aps_model.specs.Seat.{IsSeen, own_entries}
 use Rattle.aps_core.specs.declared.turn.Turn.{Turn}
 use Rattle.aps_core.specs.declared.turn.Turn.TheVariants.{Took, NotYet, Ended}
 use Rattle.aps_core.specs.Run.{Run}
-use Rattle.aps_core.specs.Turn.{IsOwn, after_turn}
+use Rattle.aps_core.specs.Turn.{IsOwnEntry, after_turn}
 use Rattle.aps_lock.specs.Seen.{AreOfOthers, IsOutside, IsSeenIn}
 use Rattle.aps_lock.specs.Seats.{taken}
 
@@ -34,7 +34,7 @@ seen_own first last seen run h =
 pub seen_begins : (first after : ℕ) (seen run : Run) → IsSeenIn first after seen run → IsSeen seen.entries run.entries
 seen_begins first after seen run h = (h.0, ap (λ (x : Run). x.entries) h.1)
 
-own_taken : (first last cpu : ℕ) (found : Run) (turn : Turn) → first ≤ cpu → cpu ≤ last → IsOwn cpu turn → own_entries first last (after_turn found turn).entries ≡ own_entries first last found.entries ++ taken turn
+own_taken : (first last cpu : ℕ) (found : Run) (turn : Turn) → first ≤ cpu → cpu ≤ last → IsOwnEntry cpu turn → own_entries first last (after_turn found turn).entries ≡ own_entries first last found.entries ++ taken turn
 own_taken first last cpu found (Ended end) low high own = sym (append-nil (own_entries first last found.entries))
 own_taken first last cpu found (NotYet c moment) low high own = sym (append-nil (own_entries first last found.entries))
 own_taken first last cpu found (Took e) low high own =
@@ -42,7 +42,7 @@ own_taken first last cpu found (Took e) low high own =
     ∙ ap (λ b. own_entries first last found.entries ++ (if b then e ∷ [] else [])) (keeps first last e.cpu (rw own low) (rw own high))
 
 -- a turn of one of these processors adds to their entries just what it took
-pub turn_own : (first last cpu : ℕ) (seen found : Run) (turn : Turn) → first ≤ cpu → cpu ≤ last → IsOwn cpu turn → IsSeenIn first (last + 1) seen found
+pub turn_own : (first last cpu : ℕ) (seen found : Run) (turn : Turn) → first ≤ cpu → cpu ≤ last → IsOwnEntry cpu turn → IsSeenIn first (last + 1) seen found
     → own_entries first last (after_turn found turn).entries ≡ own_entries first last seen.entries ++ taken turn
 turn_own first last cpu seen found turn low high own in_run =
     own_taken first last cpu found turn low high own ∙ ap (λ l. l ++ taken turn) (seen_own first last seen found in_run)

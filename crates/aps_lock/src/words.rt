@@ -1,7 +1,7 @@
 //! The steps on the words of the table, and the turn that they make up.
 ghost use Rattle.std.specs.Prelude.{◌≡◌, ℕ, ◌<◌, ◌≤◌, ◌⊎◌, [], ◌∷◌, Some, None, true, length};
 ghost use Rattle.aps_core.specs.Run.{Run};
-ghost use Rattle.aps_core.specs.Turn.{IsOwn, IsTurn, after_turn};
+ghost use Rattle.aps_core.specs.Turn.{IsOwnEntry, IsTurn, after_turn};
 ghost use Rattle.aps_lock.specs.Kinds.{IsStepped, cut_left, cut_right, joined, witness_of};
 ghost use Rattle.aps_lock.specs.Rule.{IsFor, IsServed, room};
 ghost use Rattle.aps_lock.specs.Seen.{IsSeenIn};
@@ -80,7 +80,7 @@ fn step_core(
         × (result.3.value ≡ after_turn run result.0)
         × (place.new.me ≡ (place.old.me.0, (0, Some result.3.value) ∷ [])) }
     ensures len { result.1 ≡ length result.3.value.entries }
-    ensures own { IsOwn cpu result.0 }
+    ensures own { IsOwnEntry cpu result.0 }
 {
     let Some(core) = place.slot_mut(shared, CORE) else {
         unreachable!()
@@ -133,7 +133,7 @@ pub(crate) fn turn_place<R: Wait>(
         × IsTurn found cpu result.0
         × (place.new.me ≡ (record place.old.me.0 { seen = after_turn found result.0 }, []))
         × (result.1 ≡ length (after_turn found result.0).entries) }
-    ensures own { IsOwn cpu result.0 }
+    ensures own { IsOwnEntry cpu result.0 }
 {
     let ticket = take_ticket(shared, place);
     wait_served(rt, shared, place, ticket);

@@ -9,16 +9,16 @@ abbrev pub lasts : Entry → ℕ
 lasts e = e.to - e.from
 
 -- how long the entries last together
-abbrev pub told : List Entry → ℕ
-told entries = sum_by lasts entries
+abbrev pub time_of_entries : List Entry → ℕ
+time_of_entries entries = sum_by lasts entries
 
 -- what the entry bills to the partition
 abbrev pub billed_to : ℕ → Entry → ℕ
 billed_to p e = if names e.billed p then lasts e else 0
 
 -- what the entries bill to the partition
-abbrev pub billed : ℕ → List Entry → ℕ
-billed p entries = sum_by (billed_to p) entries
+abbrev pub time_billed : ℕ → List Entry → ℕ
+time_billed p entries = sum_by (billed_to p) entries
 
 -- 1 where the thread ran in the entry, for longer than no time, else 0
 abbrev pub step_with : ℕ → Entry → ℕ

@@ -1,7 +1,7 @@
 //! What a history says of each partition and of each worker.
 ghost use Rattle.std.specs.Prelude.{◌≡◌, ◌*◌, ◌/◌, ◌≤◌, min};
 ghost use Rattle.aps_model.specs.Limits.{greatest_u64, percent};
-ghost use Rattle.aps_pool.specs.Share.{billed, billed_to, lasts, step_with, steps_with, told};
+ghost use Rattle.aps_pool.specs.Share.{time_billed, billed_to, lasts, step_with, steps_with, time_of_entries};
 
 use aps_model::{Entry, Nanos, PartitionId, ThreadId};
 
@@ -34,7 +34,7 @@ fn step_with(e: &Entry, thread: ThreadId) -> u64
 
 /// How long these entries last together (ns), or 2^64 - 1 where that is more.
 pub fn told_ns(entries: &[Entry]) -> Nanos
-    ensures { result ≡ min (told entries.now) greatest_u64 }
+    ensures { result ≡ min (time_of_entries entries.now) greatest_u64 }
 {
     let mut sum: Nanos = 0;
     for e in entries {
@@ -45,7 +45,7 @@ pub fn told_ns(entries: &[Entry]) -> Nanos
 
 /// What these entries bill to the partition (ns), or 2^64 - 1 where that is more.
 pub fn billed_ns(entries: &[Entry], partition: PartitionId) -> Nanos
-    ensures { result ≡ min (billed partition entries.now) greatest_u64 }
+    ensures { result ≡ min (time_billed partition entries.now) greatest_u64 }
 {
     let mut sum: Nanos = 0;
     for e in entries {

@@ -11,7 +11,7 @@ use Rattle.aps_model.proofs.MeritOrder.{greater_order}
 use Rattle.aps_model.specs.Limits.{greatest_priority, most_partitions}
 use Rattle.aps_ready.specs.declared.entrant.Entrant.{Entrant}
 use Rattle.aps_ready.specs.Entrant.{goes_before}
-use Rattle.aps_ready.specs.Ready.{facts_of, contender_of}
+use Rattle.aps_ready.specs.Ready.{entrant_facts, entrant_contender}
 use Rattle.aps_ready.specs.Choice.{ahead_by, is_ahead, is_ahead_by_level}
 use Rattle.aps_ready.specs.Winner.{is_above}
 
@@ -90,12 +90,12 @@ ahead_in_part parts a b same =
 -- ---- merits
 
 abbrev pub class_at : List PartFacts → Entrant → ℕ
-class_at parts e = class_of (facts_of e) (part_at parts (e.group % most_partitions))
+class_at parts e = class_of (entrant_facts e) (part_at parts (e.group % most_partitions))
 
 with_classes : (free : Free) (parts : List PartFacts) (a b : Entrant) (j k : ℕ) → class_at parts a ≡ j → class_at parts b ≡ k
     → is_above free parts a b ≡ is_greater free (of_class j parts a) (of_class k parts b)
 with_classes free parts a b j k h i =
-    ap (λ (n : ℕ). is_greater free (of_class n parts a) (merit_among parts (contender_of b))) h
+    ap (λ (n : ℕ). is_greater free (of_class n parts a) (merit_among parts (entrant_contender b))) h
     ∙ ap (λ (n : ℕ). is_greater free (of_class j parts a) (of_class n parts b)) i
 
 abbrev numbers : ℕ → ℕ → ℕ → ℕ → ℕ → Merit
@@ -211,4 +211,4 @@ above_second_by_level parts a b h i a_small b_small =
 -- ---- nobody is above whoever isn't below
 
 pub above_one_way : (free : Free) (parts : List PartFacts) (a b : Entrant) → is_above free parts a b ≡ true → is_above free parts b a ≡ false
-above_one_way free parts a b h = (greater_order free).one_way (merit_among parts (contender_of a)) (merit_among parts (contender_of b)) h
+above_one_way free parts a b h = (greater_order free).one_way (merit_among parts (entrant_contender a)) (merit_among parts (entrant_contender b)) h

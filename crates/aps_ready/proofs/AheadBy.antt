@@ -12,7 +12,7 @@ use Rattle.aps_model.specs.Merit.{by_ratio, is_below, is_greater, IsGreater}
 use Rattle.aps_model.specs.Pick.{merit_among, candidates, greatest, IsGreatestCandidate}
 use Rattle.aps_model.proofs.GreatestLaws.{greatest-is, no_greatest}
 use Rattle.aps_model.specs.Limits.{greatest_priority}
-use Rattle.aps_levels.specs.Bits.{has}
+use Rattle.aps_levels.specs.Bits.{set_has}
 use Rattle.aps_levels.specs.Levels.{level_count}
 use Rattle.aps_ready.specs.declared.ahead.Ahead.{Ahead}
 use Rattle.aps_ready.specs.declared.entrant.Entrant.{Entrant}
@@ -22,7 +22,7 @@ use Rattle.aps_ready.specs.Choice.{is_ahead, is_ahead_by_level}
 use Rattle.aps_ready.specs.Entrant.{entrant_at}
 use Rattle.aps_ready.specs.Gates.{AreGates}
 use Rattle.aps_ready.specs.Highest.{HasOneAt, IsHighest}
-use Rattle.aps_ready.specs.Ready.{members, contender_of, seat_of, IsQueued}
+use Rattle.aps_ready.specs.Ready.{members, entrant_contender, entrant_seat, IsQueued}
 use Rattle.aps_ready.specs.Winner.{is_above, is_candidate_at}
 use Rattle.aps_ready.proofs.Above.{class_at, above_first, above_first_by_level, above_second_by_level, above_one_way}
 use Rattle.aps_ready.proofs.Content.{IsOpenAt, open_from, open_group, open_among}
@@ -41,12 +41,12 @@ record IsWon (free : Free) (parts : List PartFacts) (row : List Entrant) (c : Co
   place : ℕ
   within : place < length row
   candidate : is_candidate_at parts (entrant_at row place) ≡ true
-  is : c ≡ contender_of (entrant_at row place)
+  is : c ≡ entrant_contender (entrant_at row place)
   others : (x : ℕ) → x < length row → is_candidate_at parts (entrant_at row x) ≡ true
       → is_above free parts (entrant_at row x) (entrant_at row place) ≡ false
 
 won : (free : Free) (parts : List PartFacts) (row : List Entrant) (c : Contender) → IsQueued row
-    → greatest free parts (members (map seat_of row)) ≡ Some c → IsWon free parts row c
+    → greatest free parts (members (map entrant_seat row)) ≡ Some c → IsWon free parts row c
 won free parts row c queued h = record {
   place = at.place;
   within = at.within;
@@ -55,8 +55,8 @@ won free parts row c queued h = record {
   others = beaten;
 }
   where
-    found : IsGreatestCandidate free parts (members (map seat_of row)) c
-    found = greatest-is free parts (members (map seat_of row)) c h
+    found : IsGreatestCandidate free parts (members (map entrant_seat row)) c
+    found = greatest-is free parts (members (map entrant_seat row)) c h
 
     at : IsOpenAt parts row c
     at = open_from parts row c found.candidate
@@ -75,19 +75,19 @@ won free parts row c queued h = record {
           queued.stamps x at.place within at.within (open_group parts (entrant_at row x) here) (open_group parts e at.open_here) same in
           ap (λ (k : ℕ). is_above free parts (entrant_at row k) e) is ∙ not_itself (is_above free parts e e) refl
       | inr ne ↦
-          let below : IsGreater free (merit_among parts c) (merit_among parts (contender_of (entrant_at row x))) =
+          let below : IsGreater free (merit_among parts c) (merit_among parts (entrant_contender (entrant_at row x))) =
           All-contains (λ (d : Contender). d.stamp ≢ c.stamp → IsGreater free (merit_among parts c) (merit_among parts d))
-          (candidates parts (members (map seat_of row))) (contender_of (entrant_at row x)) found.others (open_among parts row x within here)
+          (candidates parts (members (map entrant_seat row))) (entrant_contender (entrant_at row x)) found.others (open_among parts row x within here)
           (λ same. ne (same ∙ ap (λ (d : Contender). d.stamp) at.is)) in
           above_one_way free parts e (entrant_at row x)
-          (ap (λ (d : Contender). is_greater free (merit_among parts d) (merit_among parts (contender_of (entrant_at row x)))) (sym at.is) ∙ below)
+          (ap (λ (d : Contender). is_greater free (merit_among parts d) (merit_among parts (entrant_contender (entrant_at row x)))) (sym at.is) ∙ below)
     ]
 
 -- where there is none, nobody is a candidate
-none_open : (free : Free) (parts : List PartFacts) (row : List Entrant) (x : ℕ) → greatest free parts (members (map seat_of row)) ≡ None
+none_open : (free : Free) (parts : List PartFacts) (row : List Entrant) (x : ℕ) → greatest free parts (members (map entrant_seat row)) ≡ None
     → x < length row → is_candidate_at parts (entrant_at row x) ≡ true → ⊥
 none_open free parts row x h within here =
-    nothing _ _ (no_greatest free parts (members (map seat_of row)) h) (open_among parts row x within here)
+    nothing _ _ (no_greatest free parts (members (map entrant_seat row)) h) (open_among parts row x within here)
   where
     nothing : (cs : List Contender) (c : Contender) → cs ≡ [] → Contains cs c → ⊥
     nothing cs c none (k, inside, is) = omega (arith, inside, ap length none)
@@ -128,7 +128,7 @@ told_of free parts row c k l w class level = record {
 -- ---- somebody of class 1
 
 first_won : (free : Free) (parts : List PartFacts) (row : List Entrant) (gates : Gates) (c : Contender) (l : ℕ) → AreGates parts gates → IsQueued row
-    → IsHighest row (has gates.first) l → HasOneAt row (has gates.first) l → IsWon free parts row c → IsAheadOf free parts c (told 1 l)
+    → IsHighest row (set_has gates.first) l → HasOneAt row (set_has gates.first) l → IsWon free parts row c → IsAheadOf free parts c (told 1 l)
 first_won free parts row gates c l are queued highest one w = elim (in_one parts gates best are w.candidate) [
   | inr two ↦ absurd (clash (is_above free parts e best)
       (above_first free parts e best stands.class (second_stands parts gates best are below two).class) behind)
@@ -156,13 +156,13 @@ first_won free parts row gates c l are queued highest one w = elim (in_one parts
     behind = w.others one.place one.within stands.candidate
 
 pub first_ahead : (free : Free) (parts : List PartFacts) (row : List Entrant) (gates : Gates) (l : ℕ) → AreGates parts gates → IsQueued row
-    → IsHighest row (has gates.first) l → l < level_count → IsAhead free parts (greatest free parts (members (map seat_of row))) (Some (told 1 l))
-first_ahead free parts row gates l are queued highest low = by_result (greatest free parts (members (map seat_of row))) refl
+    → IsHighest row (set_has gates.first) l → l < level_count → IsAhead free parts (greatest free parts (members (map entrant_seat row))) (Some (told 1 l))
+first_ahead free parts row gates l are queued highest low = by_result (greatest free parts (members (map entrant_seat row))) refl
   where
-    one : HasOneAt row (has gates.first) l
+    one : HasOneAt row (set_has gates.first) l
     one = highest.some low
 
-    by_result : (r : Option Contender) → greatest free parts (members (map seat_of row)) ≡ r → IsAhead free parts r (Some (told 1 l))
+    by_result : (r : Option Contender) → greatest free parts (members (map entrant_seat row)) ≡ r → IsAhead free parts r (Some (told 1 l))
     by_result None h =
         none_open free parts row one.place h one.within (first_stands parts gates (entrant_at row one.place) are one.there one.among).candidate
     by_result (Some c) h = first_won free parts row gates c l are queued highest one (won free parts row c queued h)
@@ -181,10 +181,10 @@ by_level Priority m none h = refl
 by_level Ratio m none h = absurd (clash (by_ratio Ratio m m) (ap (λ (k : ℕ). nat_eq k 0 && nat_eq k 0) none) h)
 
 second_won : (free : Free) (parts : List PartFacts) (row : List Entrant) (gates : Gates) (c : Contender) (past l : ℕ) → AreGates parts gates → IsQueued row
-    → IsHighest row (has gates.first) past → level_count ≤ past → IsHighest row (has gates.second) l → HasOneAt row (has gates.second) l
+    → IsHighest row (set_has gates.first) past → level_count ≤ past → IsHighest row (set_has gates.second) l → HasOneAt row (set_has gates.second) l
     → IsWon free parts row c → IsAheadOf free parts c (told 0 l)
 second_won free parts row gates c past l are queued none over highest one w = elim (in_one parts gates best are w.candidate) [
-  | inl first ↦ absurd (nobody_past parts row (has gates.first) past w.place queued none over w.within w.candidate first)
+  | inl first ↦ absurd (nobody_past parts row (set_has gates.first) past w.place queued none over w.within w.candidate first)
   | inr two ↦
       let class : class_at parts best ≡ 0 = (second_stands parts gates best are below two).class in
       told_of free parts row c 0 l w class (λ h.
@@ -209,31 +209,31 @@ second_won free parts row gates c past l are queued none over highest one w = el
     stands = second_stands parts gates e are one.there one.among
 
 pub second_ahead : (free : Free) (parts : List PartFacts) (row : List Entrant) (gates : Gates) (past l : ℕ) → AreGates parts gates → IsQueued row
-    → IsHighest row (has gates.first) past → level_count ≤ past → IsHighest row (has gates.second) l → l < level_count
-    → IsAhead free parts (greatest free parts (members (map seat_of row))) (Some (told 0 l))
-second_ahead free parts row gates past l are queued none over highest low = by_result (greatest free parts (members (map seat_of row))) refl
+    → IsHighest row (set_has gates.first) past → level_count ≤ past → IsHighest row (set_has gates.second) l → l < level_count
+    → IsAhead free parts (greatest free parts (members (map entrant_seat row))) (Some (told 0 l))
+second_ahead free parts row gates past l are queued none over highest low = by_result (greatest free parts (members (map entrant_seat row))) refl
   where
-    one : HasOneAt row (has gates.second) l
+    one : HasOneAt row (set_has gates.second) l
     one = highest.some low
 
-    by_result : (r : Option Contender) → greatest free parts (members (map seat_of row)) ≡ r → IsAhead free parts r (Some (told 0 l))
+    by_result : (r : Option Contender) → greatest free parts (members (map entrant_seat row)) ≡ r → IsAhead free parts r (Some (told 0 l))
     by_result None h =
         none_open free parts row one.place h one.within (second_stands parts gates (entrant_at row one.place) are one.there one.among).candidate
     by_result (Some c) h = second_won free parts row gates c past l are queued none over highest one (won free parts row c queued h)
 
 pub nobody_ahead : (free : Free) (parts : List PartFacts) (row : List Entrant) (gates : Gates) (past past_too : ℕ) → AreGates parts gates → IsQueued row
-    → IsHighest row (has gates.first) past → level_count ≤ past → IsHighest row (has gates.second) past_too → level_count ≤ past_too
-    → IsAhead free parts (greatest free parts (members (map seat_of row))) None
+    → IsHighest row (set_has gates.first) past → level_count ≤ past → IsHighest row (set_has gates.second) past_too → level_count ≤ past_too
+    → IsAhead free parts (greatest free parts (members (map entrant_seat row))) None
 nobody_ahead free parts row gates past past_too are queued none over none_too over_too =
-    by_result (greatest free parts (members (map seat_of row))) refl
+    by_result (greatest free parts (members (map entrant_seat row))) refl
   where
-    by_result : (r : Option Contender) → greatest free parts (members (map seat_of row)) ≡ r → IsAhead free parts r None
+    by_result : (r : Option Contender) → greatest free parts (members (map entrant_seat row)) ≡ r → IsAhead free parts r None
     by_result None h = tt
     by_result (Some c) h =
         let w = won free parts row c queued h in
         elim (in_one parts gates (entrant_at row w.place) are w.candidate) [
-          | inl first ↦ nobody_past parts row (has gates.first) past w.place queued none over w.within w.candidate first
-          | inr two ↦ nobody_past parts row (has gates.second) past_too w.place queued none_too over_too w.within w.candidate two
+          | inl first ↦ nobody_past parts row (set_has gates.first) past w.place queued none over w.within w.candidate first
+          | inr two ↦ nobody_past parts row (set_has gates.second) past_too w.place queued none_too over_too w.within w.candidate two
         ]
 
 -- ---- who is below it

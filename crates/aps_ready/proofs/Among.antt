@@ -3,7 +3,7 @@ use Rattle.std.proofs.lemmas.Bool.Decides.{nat_tests}
 use Rattle.aps_model.specs.declared.merit.PartFacts.{PartFacts}
 use Rattle.aps_model.specs.Budget.{part_at}
 use Rattle.aps_model.specs.Limits.{most_partitions}
-use Rattle.aps_levels.specs.Bits.{has}
+use Rattle.aps_levels.specs.Bits.{set_has}
 use Rattle.aps_levels.specs.Levels.{level_count}
 use Rattle.aps_ready.specs.declared.entrant.Entrant.{Entrant}
 use Rattle.aps_ready.specs.declared.leaders.Leaders.{Leaders}
@@ -59,7 +59,7 @@ behind_by_rest p q rest h k =
 
 pub best_of_leaders : (parts : List PartFacts) (row : List Entrant) (firsts : List Entrant)
     (wanted found : ℕ → Bool) (leaders : Leaders) (best : Entrant) → IsKept row firsts → AreLeaders parts wanted leaders
-    → AreLeast firsts (has leaders.groups) found → IsEarliest firsts found best → IsBest parts row wanted best
+    → AreLeast firsts (set_has leaders.groups) found → IsEarliest firsts found best → IsBest parts row wanted best
 best_of_leaders parts row firsts wanted found leaders best kept are least earliest = record {
   inside = λ _. subst (λ (g : ℕ). wanted g ≡ true) (sym own_group) leads.0;
   sits = λ _. subst (Sits row) (sym earliest.is) (top.sits top_there);
@@ -74,8 +74,8 @@ best_of_leaders parts row firsts wanted found leaders best kept are least earlie
     top = top_of row firsts b kept earliest.below
 
     -- the group of the best is at the least level, and leads
-    parted : (nat_eq (level_of firsts b) least.level ≡ true) × (has leaders.groups b ≡ true)
-    parted = both (nat_eq (level_of firsts b) least.level) (has leaders.groups b) (sym (least.these b earliest.below) ∙ earliest.among)
+    parted : (nat_eq (level_of firsts b) least.level ≡ true) × (set_has leaders.groups b ≡ true)
+    parted = both (nat_eq (level_of firsts b) least.level) (set_has leaders.groups b) (sym (least.these b earliest.below) ∙ earliest.among)
 
     level : level_of firsts b ≡ least.level
     level = same_of (level_of firsts b) least.level parted.0
@@ -116,14 +116,14 @@ best_of_leaders parts row firsts wanted found leaders best kept are least earlie
     behind_b x within here among false h =
         let g = (entrant_at row x).group in
         let part = part_at parts (g % most_partitions) in
-        let led : has leaders.groups g ≡ true = are.these g here ∙ pair (wanted g) (not (is_less_than parts leaders.used leaders.budget g)) among (ap not h) in
+        let led : set_has leaders.groups g ≡ true = are.these g here ∙ pair (wanted g) (not (is_less_than parts leaders.used leaders.budget g)) among (ap not h) in
         let first = (top_of row firsts g kept here).first x within refl in
         let low : best.level ≤ level_of firsts g = omega (arith, best_level, least.least g here led) in
         behind_by_rest part part_b (goes_before (entrant_at row x) best)
         (smaller_chain part.used part.budget leaders.used leaders.budget part_b.used part_b.budget (are.least g here among) not_less)
         (behind_first (entrant_at row x) best (entrant_at firsts g) low
         (λ high. earliest.least g here (least.these g here
-        ∙ pair (nat_eq (level_of firsts g) least.level) (has leaders.groups g)
+        ∙ pair (nat_eq (level_of firsts g) least.level) (set_has leaders.groups g)
         (equal (level_of firsts g) least.level (omega (arith, high, low, best_level))) led))
         first.1)
 
@@ -210,7 +210,7 @@ best_of_nobody parts row firsts wanted leaders best is are occupied empty = reco
   others = λ x within here among. absurd (nobody_led (entrant_at row x).group here among (is_less_than parts leaders.used leaders.budget (entrant_at row x).group) refl);
 }
   where
-    no_leader : (g : ℕ) → g < group_count → has leaders.groups g ≡ true → ⊥
+    no_leader : (g : ℕ) → g < group_count → set_has leaders.groups g ≡ true → ⊥
     no_leader g below led =
         let own = both (wanted g) (not (is_less_than parts leaders.used leaders.budget g)) (sym (are.these g below) ∙ led) in
         omega (arith, empty g below led, occupied g below own.0)

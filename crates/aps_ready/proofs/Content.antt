@@ -10,7 +10,7 @@ use Rattle.aps_model.specs.Budget.{part_at}
 use Rattle.aps_model.specs.Limits.{most_partitions}
 use Rattle.aps_model.specs.Pick.{candidates}
 use Rattle.aps_ready.specs.declared.entrant.Entrant.{Entrant}
-use Rattle.aps_ready.specs.Ready.{members, contender_of, facts_of, seat_of}
+use Rattle.aps_ready.specs.Ready.{members, entrant_contender, entrant_facts, entrant_seat}
 use Rattle.aps_ready.specs.Entrant.{entrant_at}
 use Rattle.aps_ready.specs.Winner.{is_candidate_at}
 use Rattle.aps_ready.proofs.Queued.{seat_at, seat_in}
@@ -70,30 +70,30 @@ to_candidates parts (Some d ∷ seats) (suc k) c within is h = by_test (passes p
 pub record IsOpenAt (parts : List PartFacts) (row : List Entrant) (c : Contender) : Type 0 where
   pub place : ℕ
   pub within : place < length row
-  pub is : c ≡ contender_of (entrant_at row place)
+  pub is : c ≡ entrant_contender (entrant_at row place)
   pub open_here : is_candidate_at parts (entrant_at row place) ≡ true
 
-seen_is : (e : Entrant) (c : Contender) → seat_of e ≡ Some c → (nat_lt e.group group_count ≡ true) × (c ≡ contender_of e)
+seen_is : (e : Entrant) (c : Contender) → entrant_seat e ≡ Some c → (nat_lt e.group group_count ≡ true) × (c ≡ entrant_contender e)
 seen_is e c is = by_test (nat_lt e.group group_count) is
   where
-    by_test : (t : Bool) → cond t (Some (contender_of e)) None ≡ Some c → (t ≡ true) × (c ≡ contender_of e)
+    by_test : (t : Bool) → cond t (Some (entrant_contender e)) None ≡ Some c → (t ≡ true) × (c ≡ entrant_contender e)
     by_test true h = (refl, cc)
     by_test false h = absurd cc
 
 both : (a b : Bool) → a ≡ true → b ≡ true → (a && b) ≡ true
 both a b h k = rw (h, k) refl
 
-pub open_from : (parts : List PartFacts) (row : List Entrant) (c : Contender) → Contains (candidates parts (members (map seat_of row))) c → IsOpenAt parts row c
+pub open_from : (parts : List PartFacts) (row : List Entrant) (c : Contender) → Contains (candidates parts (members (map entrant_seat row))) c → IsOpenAt parts row c
 open_from parts row c among =
-    let sits = from_candidates parts (map seat_of row) c among in
-    let within : sits.place < length row = omega (arith, sits.within, length-map row seat_of) in
+    let sits = from_candidates parts (map entrant_seat row) c among in
+    let within : sits.place < length row = omega (arith, sits.within, length-map row entrant_seat) in
     let seen = seen_is (entrant_at row sits.place) c (sym (seat_at row sits.place within) ∙ sits.is) in
-    let passed : passes parts (contender_of (entrant_at row sits.place)) ≡ true = ap (passes parts) (sym seen.1) ∙ sits.passes in
+    let passed : passes parts (entrant_contender (entrant_at row sits.place)) ≡ true = ap (passes parts) (sym seen.1) ∙ sits.passes in
     record {
       place = sits.place;
       within = within;
       is = seen.1;
-      open_here = both (nat_lt (entrant_at row sits.place).group group_count) (passes parts (contender_of (entrant_at row sits.place))) seen.0 passed;
+      open_here = both (nat_lt (entrant_at row sits.place).group group_count) (passes parts (entrant_contender (entrant_at row sits.place))) seen.0 passed;
     }
 
 open_parts : (a b : Bool) → (a && b) ≡ true → (a ≡ true) × (b ≡ true)
@@ -102,20 +102,20 @@ open_parts false b h = absurd cc
 
 pub open_group : (parts : List PartFacts) (e : Entrant) → is_candidate_at parts e ≡ true → e.group < group_count
 open_group parts e h =
-    let below : nat_lt e.group group_count ≡ true = (open_parts (nat_lt e.group group_count) (is_candidate (facts_of e) (part_at parts (e.group % most_partitions))) h).0 in
+    let below : nat_lt e.group group_count ≡ true = (open_parts (nat_lt e.group group_count) (is_candidate (entrant_facts e) (part_at parts (e.group % most_partitions))) h).0 in
     grind (arith, nat_tests)
 
 pub open_among : (parts : List PartFacts) (row : List Entrant) (x : ℕ) → x < length row → is_candidate_at parts (entrant_at row x) ≡ true
-    → Contains (candidates parts (members (map seat_of row))) (contender_of (entrant_at row x))
+    → Contains (candidates parts (members (map entrant_seat row))) (entrant_contender (entrant_at row x))
 open_among parts row x within h =
-    to_candidates parts (map seat_of row) x (contender_of (entrant_at row x)) (omega (arith, within, length-map row seat_of))
+    to_candidates parts (map entrant_seat row) x (entrant_contender (entrant_at row x)) (omega (arith, within, length-map row entrant_seat))
     (seat_at row x within ∙ seat_in (entrant_at row x) (open_group parts (entrant_at row x) h))
-    (open_parts (nat_lt (entrant_at row x).group group_count) (passes parts (contender_of (entrant_at row x))) h).1
+    (open_parts (nat_lt (entrant_at row x).group group_count) (passes parts (entrant_contender (entrant_at row x))) h).1
 
 -- what holds of everybody who is there and a candidate holds of the candidates
 pub all_candidates : (P : Contender → Type 0) (parts : List PartFacts) (row : List Entrant)
-    → ((x : ℕ) → x < length row → is_candidate_at parts (entrant_at row x) ≡ true → P (contender_of (entrant_at row x)))
-    → All P (candidates parts (members (map seat_of row)))
+    → ((x : ℕ) → x < length row → is_candidate_at parts (entrant_at row x) ≡ true → P (entrant_contender (entrant_at row x)))
+    → All P (candidates parts (members (map entrant_seat row)))
 all_candidates P parts row each k d within =
-    let at = open_from parts row (get_or (candidates parts (members (map seat_of row))) k d) (Contains-get_or (candidates parts (members (map seat_of row))) k d within) in
+    let at = open_from parts row (get_or (candidates parts (members (map entrant_seat row))) k d) (Contains-get_or (candidates parts (members (map entrant_seat row))) k d within) in
     subst P (sym at.is) (each at.place at.within at.open_here)

@@ -7,7 +7,7 @@ use Rattle.aps_model.specs.declared.merit.PartFacts.{PartFacts}
 use Rattle.aps_model.specs.Budget.{part_at, no_part}
 use Rattle.aps_model.specs.Limits.{last_partition, most_partitions}
 use Rattle.aps_levels.specs.declared.bits.Bits64.{Bits64}
-use Rattle.aps_levels.specs.Bits.{has}
+use Rattle.aps_levels.specs.Bits.{set_has}
 use Rattle.aps_ready.specs.declared.gates.Gates.{Gates}
 use Rattle.aps_ready.specs.Gates.{is_open_first, is_open_second, AreGatesOf}
 use Rattle.aps_ready.specs.Group.{group_count}
@@ -47,36 +47,36 @@ group_of g p below small = elim (cases_eq (g % most_partitions) p) [
 ]
 
 pub gate_set : (test : PartFacts → Bool → Bool) (stands : ℕ → PartFacts) (p : ℕ) (part : PartFacts) (old plain both : Bits64) → p < most_partitions
-    → ((k : ℕ) → has plain k ≡ cond (nat_eq k p) (test part false) (has old k))
-    → ((k : ℕ) → has both k ≡ cond (nat_eq k (p + most_partitions)) (test part true) (has plain k))
-    → ((g : ℕ) → g < group_count → has old g ≡ test (stands (g % most_partitions)) (nat_lt last_partition g))
-    → (g : ℕ) → g < group_count → has both g ≡ test (cond (nat_eq (g % most_partitions) p) part (stands (g % most_partitions))) (nat_lt last_partition g)
+    → ((k : ℕ) → set_has plain k ≡ cond (nat_eq k p) (test part false) (set_has old k))
+    → ((k : ℕ) → set_has both k ≡ cond (nat_eq k (p + most_partitions)) (test part true) (set_has plain k))
+    → ((g : ℕ) → g < group_count → set_has old g ≡ test (stands (g % most_partitions)) (nat_lt last_partition g))
+    → (g : ℕ) → g < group_count → set_has both g ≡ test (cond (nat_eq (g % most_partitions) p) part (stands (g % most_partitions))) (nat_lt last_partition g)
 gate_set test stands p part old plain both small plain_is both_is was g below = elim (group_of g p below small) [
   | inl marked ↦
       let place : g % most_partitions ≡ p = omega (arith, marked.0, small) in
-      let left : has both g ≡ test part true =
-      both_is g ∙ ap (λ (t : Bool). cond t (test part true) (has plain g)) (equal g (p + most_partitions) marked.0) in
+      let left : set_has both g ≡ test part true =
+      both_is g ∙ ap (λ (t : Bool). cond t (test part true) (set_has plain g)) (equal g (p + most_partitions) marked.0) in
       left ∙ sym (now_here place true marked.1)
   | inr rest ↦ elim rest [
     | inl bare ↦
         let place : g % most_partitions ≡ p = omega (arith, bare.0, small) in
         let apart : g ≢ p + most_partitions = λ e. omega (arith, e, bare.0) in
-        let left : has both g ≡ test part false =
-        plain_here apart ∙ ap (λ (t : Bool). cond t (test part false) (has old g)) (equal g p bare.0) in
+        let left : set_has both g ≡ test part false =
+        plain_here apart ∙ ap (λ (t : Bool). cond t (test part false) (set_has old g)) (equal g p bare.0) in
         left ∙ sym (now_here place false bare.1)
     | inr other ↦
         let apart : g ≢ p = λ e. other (omega (arith, e, small)) in
         let far : g ≢ p + most_partitions = λ e. other (omega (arith, e, small)) in
-        let left : has both g ≡ has old g =
-        plain_here far ∙ ap (λ (t : Bool). cond t (test part false) (has old g)) (not_equal g p apart) in
+        let left : set_has both g ≡ set_has old g =
+        plain_here far ∙ ap (λ (t : Bool). cond t (test part false) (set_has old g)) (not_equal g p apart) in
         left ∙ was g below
         ∙ ap (λ (q : PartFacts). test q (nat_lt last_partition g)) (sym (set_there (g % most_partitions) (stands (g % most_partitions)) p part other))
   ]
 ]
   where
-    plain_here : g ≢ p + most_partitions → has both g ≡ cond (nat_eq g p) (test part false) (has old g)
+    plain_here : g ≢ p + most_partitions → set_has both g ≡ cond (nat_eq g p) (test part false) (set_has old g)
     plain_here apart =
-        both_is g ∙ ap (λ (t : Bool). cond t (test part true) (has plain g)) (not_equal g (p + most_partitions) apart) ∙ plain_is g
+        both_is g ∙ ap (λ (t : Bool). cond t (test part true) (set_has plain g)) (not_equal g (p + most_partitions) apart) ∙ plain_is g
 
     now_here : g % most_partitions ≡ p → (t : Bool) → nat_lt last_partition g ≡ t
         → test (cond (nat_eq (g % most_partitions) p) part (stands (g % most_partitions))) (nat_lt last_partition g) ≡ test part t
@@ -84,17 +84,17 @@ gate_set test stands p part old plain both small plain_is both_is was g below = 
         ap (λ (q : PartFacts). test q (nat_lt last_partition g)) (set_here (g % most_partitions) (stands (g % most_partitions)) p part place) ∙ ap (test part) is
 
 pub budget_set : (stands : ℕ → PartFacts) (p : ℕ) (part : PartFacts) (old new : Bits64) → p < most_partitions
-    → ((k : ℕ) → has new k ≡ cond (nat_eq k p) (nat_lt 0 part.budget) (has old k))
-    → ((q : ℕ) → q < 64 → has old q ≡ (nat_lt q most_partitions && nat_lt 0 (stands q).budget))
-    → (q : ℕ) → q < 64 → has new q ≡ (nat_lt q most_partitions && nat_lt 0 (cond (nat_eq q p) part (stands q)).budget)
+    → ((k : ℕ) → set_has new k ≡ cond (nat_eq k p) (nat_lt 0 part.budget) (set_has old k))
+    → ((q : ℕ) → q < 64 → set_has old q ≡ (nat_lt q most_partitions && nat_lt 0 (stands q).budget))
+    → (q : ℕ) → q < 64 → set_has new q ≡ (nat_lt q most_partitions && nat_lt 0 (cond (nat_eq q p) part (stands q)).budget)
 budget_set stands p part old new small put was q below = elim (cases_eq q p) [
   | inl same ↦
-      let left : has new q ≡ nat_lt 0 part.budget =
-      put q ∙ ap (λ (t : Bool). cond t (nat_lt 0 part.budget) (has old q)) (equal q p same) in
+      let left : set_has new q ≡ nat_lt 0 part.budget =
+      put q ∙ ap (λ (t : Bool). cond t (nat_lt 0 part.budget) (set_has old q)) (equal q p same) in
       left ∙ sym (ap (λ (t : Bool). t && nat_lt 0 (cond (nat_eq q p) part (stands q)).budget) (less q most_partitions (omega (arith, same, small)))
       ∙ ap (λ (part : PartFacts). nat_lt 0 part.budget) (set_here q (stands q) p part same))
   | inr other ↦
-      let left : has new q ≡ has old q = put q ∙ ap (λ (t : Bool). cond t (nat_lt 0 part.budget) (has old q)) (not_equal q p other) in
+      let left : set_has new q ≡ set_has old q = put q ∙ ap (λ (t : Bool). cond t (nat_lt 0 part.budget) (set_has old q)) (not_equal q p other) in
       left ∙ was q below ∙ ap (λ (r : PartFacts). nat_lt q most_partitions && nat_lt 0 r.budget) (sym (set_there q (stands q) p part other))
 ]
 

@@ -1,7 +1,7 @@
 use Rattle.std.proofs.Common.{◌≡◌, ℕ, Bool, true, false, ◌&&◌, nat_eq, List, refl, sym, ◌∙◌, ap, arith}
 use Rattle.std.proofs.lemmas.Bool.Decides.{nat_tests}
 use Rattle.aps_levels.specs.declared.bits.Bits64.{Bits64}
-use Rattle.aps_levels.specs.Bits.{has}
+use Rattle.aps_levels.specs.Bits.{set_has}
 use Rattle.aps_levels.specs.Levels.{level_count}
 use Rattle.aps_ready.specs.declared.entrant.Entrant.{Entrant}
 use Rattle.aps_ready.specs.Entrant.{entrant_at}
@@ -41,7 +41,7 @@ highest_at row set found l queued least at = record {
     one : Occupant row least.group (level_of (firsts_of row) least.group)
     one = occupant row (firsts_of row) least.group (kept row queued) least.inside (omega (arith, at.below, at.same least.group least.inside least.some))
 
-pub highest_none : (row : List Entrant) (set : Bits64) → IsQueued row → AreEmpty (firsts_of row) set → IsHighest row (has set) level_count
+pub highest_none : (row : List Entrant) (set : Bits64) → IsQueued row → AreEmpty (firsts_of row) set → IsHighest row (set_has set) level_count
 highest_none row set queued empty = record {
   least = λ x within there among.
       omega (arith, empty (entrant_at row x).group there among, level_at_most row (firsts_of row) x (kept row queued) within there);

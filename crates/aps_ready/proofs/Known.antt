@@ -6,7 +6,7 @@ use Rattle.aps_model.specs.declared.shape.Free.TheVariants.{Priority, Ratio}
 use Rattle.aps_model.specs.Budget.{no_part, part_at}
 use Rattle.aps_model.specs.Limits.{last_partition, most_partitions}
 use Rattle.aps_levels.specs.declared.bits.Bits64.{Bits64}
-use Rattle.aps_levels.specs.Bits.{has}
+use Rattle.aps_levels.specs.Bits.{set_has}
 use Rattle.aps_levels.specs.Levels.{level_count}
 use Rattle.aps_ready.specs.declared.entrant.Entrant.{Entrant}
 use Rattle.aps_ready.specs.declared.gates.Gates.{Gates}
@@ -49,21 +49,21 @@ pub open_known : (parts : List PartFacts) (g : ℕ) → open_first parts g ≡ t
 open_known parts g h = known_by parts (g % most_partitions) (λ (q : PartFacts). is_open_first q (nat_lt last_partition g)) (nobody_open (nat_lt last_partition g)) h
 
 pub first_known : (parts : List PartFacts) (firsts : List Entrant) (gates : Gates) (found : ℕ → Bool) → AreGates parts gates
-    → AreLeast firsts (has gates.first) found → (g : ℕ) → g < group_count → found g ≡ true → g % most_partitions < length parts
+    → AreLeast firsts (set_has gates.first) found → (g : ℕ) → g < group_count → found g ≡ true → g % most_partitions < length parts
 first_known parts firsts gates found are least g below h =
     open_known parts g (sym (are.first g below)
-    ∙ second (nat_eq (level_of firsts g) least.level) (has gates.first g) (sym (least.these g below) ∙ h))
+    ∙ second (nat_eq (level_of firsts g) least.level) (set_has gates.first g) (sym (least.these g below) ∙ h))
 
 -- the groups of class 0 that can have the greatest candidate are of that class
 in_second : (free : Free) (firsts : List Entrant) (gate found : Bits64) → AreLikelySecond free firsts gate found
-    → (g : ℕ) → g < group_count → has found g ≡ true → has gate g ≡ true
-in_second Ratio firsts gate found likely g below h = first (has gate g) (nat_lt (level_of firsts g) level_count) (sym (likely g below) ∙ h)
+    → (g : ℕ) → g < group_count → set_has found g ≡ true → set_has gate g ≡ true
+in_second Ratio firsts gate found likely g below h = first (set_has gate g) (nat_lt (level_of firsts g) level_count) (sym (likely g below) ∙ h)
 in_second Priority firsts gate found (inl least) g below h =
-    second (nat_eq (level_of firsts g) least.level) (has gate g) (sym (least.these g below) ∙ h)
-in_second Priority firsts gate found (inr none) g below h = absurd (clash (has found g) h (none.1 g below))
+    second (nat_eq (level_of firsts g) least.level) (set_has gate g) (sym (least.these g below) ∙ h)
+in_second Priority firsts gate found (inr none) g below h = absurd (clash (set_has found g) h (none.1 g below))
 
 pub second_known : (free : Free) (parts : List PartFacts) (firsts : List Entrant) (gates : Gates) (found : Bits64) → AreGates parts gates
-    → AreLikelySecond free firsts gates.second found → (g : ℕ) → g < group_count → has found g ≡ true → g % most_partitions < length parts
+    → AreLikelySecond free firsts gates.second found → (g : ℕ) → g < group_count → set_has found g ≡ true → g % most_partitions < length parts
 second_known free parts firsts gates found are likely g below h =
     known_by parts (g % most_partitions) (λ (q : PartFacts). is_open_second q (nat_lt last_partition g)) (nobody_second (nat_lt last_partition g))
     (sym (are.second g below) ∙ in_second free firsts gates.second found likely g below h)

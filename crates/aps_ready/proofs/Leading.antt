@@ -5,7 +5,7 @@ use Rattle.aps_model.specs.Merit.{smaller}
 use Rattle.aps_model.specs.Budget.{part_at}
 use Rattle.aps_model.specs.Limits.{most_partitions}
 use Rattle.aps_levels.specs.declared.bits.Bits64.{Bits64}
-use Rattle.aps_levels.specs.Bits.{has}
+use Rattle.aps_levels.specs.Bits.{set_has}
 use Rattle.aps_ready.specs.declared.leaders.Leaders.{Leaders}
 use Rattle.aps_ready.specs.Leaders.{is_less_than, is_more_than, HasGroup, AreLeading, AreLeaders}
 use Rattle.aps_ready.specs.Small.{IsSmall}
@@ -60,9 +60,9 @@ leading_same parts before after leaders same are = record {
 
 -- nobody leads where nobody was seen
 pub none_leading : (parts : List PartFacts) (seen : ℕ → Bool) (leaders : Leaders) → ((g : ℕ) → g < group_count → seen g ≡ false)
-    → ((g : ℕ) → has leaders.groups g ≡ false) → leaders.used ≡ 1 → leaders.budget ≡ 0 → AreLeading parts seen leaders
+    → ((g : ℕ) → set_has leaders.groups g ≡ false) → leaders.used ≡ 1 → leaders.budget ≡ 0 → AreLeading parts seen leaders
 none_leading parts seen leaders unseen none one no_budget = record {
-  level = λ g _ h. absurd (clash (has leaders.groups g) h (none g));
+  level = λ g _ h. absurd (clash (set_has leaders.groups g) h (none g));
   all = λ g below h. absurd (clash (seen g) h (unseen g below));
   least = λ g below h. absurd (clash (seen g) h (unseen g below));
   some = λ have. absurd (omega (arith, have, no_budget));
@@ -96,15 +96,15 @@ more_in set these p g are below h = are g below ∙ second (set g) (nat_eq (g % 
 
 -- the partition has used less
 pub less_more : (parts : List PartFacts) (set seen : ℕ → Bool) (old : Leaders) (part : PartFacts) (p budget : ℕ) (groups : Bits64)
-    → part ≡ part_at parts p → AreOf p (has groups) → HasGroup set p → AreLeading parts seen old → IsSmall part → budget ≡ part.budget
+    → part ≡ part_at parts p → AreOf p (set_has groups) → HasGroup set p → AreLeading parts seen old → IsSmall part → budget ≡ part.budget
     → smaller part.used part.budget old.used old.budget ≡ true
     → AreLeading parts (λ g. seen g || more_of set p g) (record { groups = groups; used = part.used; budget = budget })
 less_more parts set seen old part p budget groups is are_of one are small same less = record {
   level = λ g below h.
-      ap (λ (q : PartFacts). smaller part.used budget q.used q.budget) (part_here parts part p g is (own (has groups) p g are_of below h)) ∙ self;
+      ap (λ (q : PartFacts). smaller part.used budget q.used q.budget) (part_here parts part p g is (own (set_has groups) p g are_of below h)) ∙ self;
   all = λ g below among not_less. elim (either (seen g) (more_of set p g) among) [
     | inl s ↦ absurd (clash (is_less_than parts part.used budget g) (seen_less g below s) not_less)
-    | inr m ↦ more_in set (has groups) p g are_of below m
+    | inr m ↦ more_in set (set_has groups) p g are_of below m
   ];
   least = λ g below among. elim (either (seen g) (more_of set p g) among) [
     | inl s ↦ smaller_one_way part.used budget (part_at parts (g % most_partitions)).used (part_at parts (g % most_partitions)).budget (seen_less g below s)
@@ -145,23 +145,23 @@ not_less_more parts set seen old part p is are h g below among = elim (either (s
 
 -- it has used the same fraction
 pub equal_more : (parts : List PartFacts) (set seen : ℕ → Bool) (old : Leaders) (part : PartFacts) (p : ℕ) (groups joined : Bits64)
-    → part ≡ part_at parts p → AreOf p (has groups) → AreLeading parts seen old
-    → ((g : ℕ) → has joined g ≡ (has old.groups g || has groups g))
+    → part ≡ part_at parts p → AreOf p (set_has groups) → AreLeading parts seen old
+    → ((g : ℕ) → set_has joined g ≡ (set_has old.groups g || set_has groups g))
     → smaller part.used part.budget old.used old.budget ≡ false → smaller old.used old.budget part.used part.budget ≡ false
     → AreLeading parts (λ g. seen g || more_of set p g) (record { groups = joined; used = old.used; budget = old.budget })
 equal_more parts set seen old part p groups joined is are_of are join h i = record {
-  level = λ g below in_joined. elim (either (has old.groups g) (has groups g) (sym (join g) ∙ in_joined)) [
+  level = λ g below in_joined. elim (either (set_has old.groups g) (set_has groups g) (sym (join g) ∙ in_joined)) [
     | inl o ↦ are.level g below o
-    | inr n ↦ ap (λ (q : PartFacts). smaller old.used old.budget q.used q.budget) (part_here parts part p g is (own (has groups) p g are_of below n)) ∙ i
+    | inr n ↦ ap (λ (q : PartFacts). smaller old.used old.budget q.used q.budget) (part_here parts part p g is (own (set_has groups) p g are_of below n)) ∙ i
   ];
   all = λ g below among not_less. join g ∙ (elim (either (seen g) (more_of set p g) among) [
-    | inl s ↦ or_left (has old.groups g) (has groups g) (are.all g below s not_less)
-    | inr m ↦ or_right (has old.groups g) (has groups g) (more_in set (has groups) p g are_of below m)
+    | inl s ↦ or_left (set_has old.groups g) (set_has groups g) (are.all g below s not_less)
+    | inr m ↦ or_right (set_has old.groups g) (set_has groups g) (more_in set (set_has groups) p g are_of below m)
   ]);
   least = not_less_more parts set seen old part p is are h;
   some = λ have.
       let s = are.some have in
-      (s.0, s.1, or_left (seen s.0) (more_of set p s.0) s.2, join s.0 ∙ or_left (has old.groups s.0) (has groups s.0) s.3);
+      (s.0, s.1, or_left (seen s.0) (more_of set p s.0) s.2, join s.0 ∙ or_left (set_has old.groups s.0) (set_has groups s.0) s.3);
   one = are.one;
   used = are.used;
   budget = are.budget;
@@ -188,13 +188,13 @@ more_more parts set seen old part p is are i = record {
 -- ---- where all were seen, those of the set lead
 
 pub leaders_of : (parts : List PartFacts) (set : ℕ → Bool) (leading : Leaders) (groups : Bits64)
-    → AreLeading parts set leading → ((g : ℕ) → has groups g ≡ (has leading.groups g && set g))
+    → AreLeading parts set leading → ((g : ℕ) → set_has groups g ≡ (set_has leading.groups g && set g))
     → AreLeaders parts set (record { groups = groups; used = leading.used; budget = leading.budget })
 leaders_of parts set leading groups are meet = record {
-  these = λ g below. meet g ∙ picked (has leading.groups g) (set g)
+  these = λ g below. meet g ∙ picked (set_has leading.groups g) (set g)
       (is_less_than parts leading.used leading.budget g) (are.level g below) (λ among not_less. are.all g below among not_less);
   least = are.least;
-  some = λ have. let s = are.some have in (s.0, s.1, meet s.0 ∙ pair (has leading.groups s.0) (set s.0) s.3 s.2);
+  some = λ have. let s = are.some have in (s.0, s.1, meet s.0 ∙ pair (set_has leading.groups s.0) (set s.0) s.3 s.2);
 }
   where
     both_true : (w : Bool) → w ≡ (w && not false)

@@ -4,7 +4,7 @@ use Rattle.std.proofs.lemmas.Bool.Decides.{nat_tests}
 use Rattle.std.proofs.lemmas.List.{get_or-replicate, length-replicate, get_or_past}
 use Rattle.aps_model.specs.Limits.{greatest_priority, last_thread, most_threads}
 use Rattle.aps_levels.specs.declared.bits.Bits64.{Bits64}
-use Rattle.aps_levels.specs.Bits.{has}
+use Rattle.aps_levels.specs.Bits.{set_has}
 use Rattle.aps_levels.specs.Levels.{level_count}
 use Rattle.aps_ready.specs.declared.entrant.Entrant.{Entrant}
 use Rattle.aps_ready.specs.Entrant.{entrant_at, vacant}
@@ -327,7 +327,7 @@ pub lists_entered : (row : List Entrant) (after before : List ℕ) (at_level new
     → AreLists row after before at_level → x < length row → x ≤ last_thread → e.group < group_count → e.level ≤ greatest_priority → e.thread ≡ x → group_count ≤ (entrant_at row x).group
     → ((y : ℕ) → (entrant_at row y).group < group_count → (entrant_at row y).stamp ≢ e.stamp)
     → IsPlace row after (head_of e.level e.group) e.stamp place
-    → ((l g : ℕ) → l < level_count → has (bits_at new_levels l) g ≡ ((nat_eq l e.level && nat_eq g e.group) || has (bits_at at_level l) g))
+    → ((l g : ℕ) → l < level_count → set_has (bits_at new_levels l) g ≡ ((nat_eq l e.level && nat_eq g e.group) || set_has (bits_at at_level l) g))
     → AreLists (set row x e) (set (set after place x) x (link after place)) (set (set before (link after place) x) x place) new_levels
 lists_entered row after before at_level new_levels x place e lists within small there level thread out fresh is_place at = record {
   queued = queued_set row x e lists.queued within (λ _. record {
@@ -338,15 +338,15 @@ lists_entered row after before at_level new_levels x place e lists within small 
   rings = rings_entered row after before x place e lists.rings within there level out is_place small;
   used = λ y y_there. elim (cases_eq y x) [
     | inl same ↦
-        subst (λ (f : Entrant). has (bits_at new_levels f.level) f.group ≡ true) (sym (ap (entrant_at new) same ∙ here))
-        (at e.level e.group (omega (arith, level)) ∙ ap (λ (t : Bool). (t && nat_eq e.group e.group) || has (bits_at at_level e.level) e.group) (equal_self e.level)
-        ∙ ap (λ (t : Bool). t || has (bits_at at_level e.level) e.group) (equal_self e.group))
+        subst (λ (f : Entrant). set_has (bits_at new_levels f.level) f.group ≡ true) (sym (ap (entrant_at new) same ∙ here))
+        (at e.level e.group (omega (arith, level)) ∙ ap (λ (t : Bool). (t && nat_eq e.group e.group) || set_has (bits_at at_level e.level) e.group) (equal_self e.level)
+        ∙ ap (λ (t : Bool). t || set_has (bits_at at_level e.level) e.group) (equal_self e.group))
     | inr ne ↦
         let was : (entrant_at row y).group < group_count = subst (λ (f : Entrant). f.group < group_count) (others y ne) y_there in
-        subst (λ (f : Entrant). has (bits_at new_levels f.level) f.group ≡ true) (sym (others y ne))
+        subst (λ (f : Entrant). set_has (bits_at new_levels f.level) f.group ≡ true) (sym (others y ne))
         (at (entrant_at row y).level (entrant_at row y).group (omega (arith, lists.rings.levels y was))
         ∙ right_is (nat_eq (entrant_at row y).level e.level && nat_eq (entrant_at row y).group e.group)
-        (has (bits_at at_level (entrant_at row y).level) (entrant_at row y).group) (lists.used y was))
+        (set_has (bits_at at_level (entrant_at row y).level) (entrant_at row y).group) (lists.used y was))
   ];
   some = λ l g l_below g_below h same.
       let head : most_threads ≤ head_of l g = omega arith in
@@ -357,7 +357,7 @@ lists_entered row after before at_level new_levels x place e lists within small 
             let to : link after_new (head_of l g) ≡ link after (head_of l g) =
             get_or-set_other (set after place x) x (head_of l g) (link after place) 0 (λ s. omega (arith, s, head, low))
             ∙ get_or-set_other after place (head_of l g) x 0 away in
-            elim (either (nat_eq l e.level && nat_eq g e.group) (has (bits_at at_level l) g) (sym (at l g l_below) ∙ h)) [
+            elim (either (nat_eq l e.level && nat_eq g e.group) (set_has (bits_at at_level l) g) (sym (at l g l_below) ∙ h)) [
               | inr old ↦ lists.some l g l_below g_below old (sym to ∙ same)
               | inl this ↦
                   let parts = both (nat_eq l e.level) (nat_eq g e.group) this in
@@ -434,7 +434,7 @@ lists_left row after before at_level x l g going some = record {
   rings = rings_left row after before x going.lists.rings going.there;
   used = λ y y_there.
       let same : entrant_at (set row x vacant) y ≡ entrant_at row y = get_or-set_other row x y vacant vacant (left_there row x y going.there y_there) in
-      subst (λ (f : Entrant). has (bits_at at_level f.level) f.group ≡ true) (sym same)
+      subst (λ (f : Entrant). set_has (bits_at at_level f.level) f.group ≡ true) (sym same)
       (going.lists.used y (subst (λ (f : Entrant). f.group < group_count) same y_there));
   some = λ k h k_below h_below here same. elim (cases_eq (head_of k h) (link before x)) [
     | inl is ↦
@@ -448,14 +448,14 @@ lists_left row after before at_level x l g going some = record {
 -- its list is empty afterwards
 pub lists_emptied : (row : List Entrant) (after before : List ℕ) (at_level new_levels : List Bits64) (x l g : ℕ) → IsGoing row after before at_level x l g
     → link (after_left after before x) (head_of l g) ≡ head_of l g
-    → ((k h : ℕ) → k < level_count → has (bits_at new_levels k) h ≡ (not (nat_eq k l && nat_eq h g) && has (bits_at at_level k) h))
+    → ((k h : ℕ) → k < level_count → set_has (bits_at new_levels k) h ≡ (not (nat_eq k l && nat_eq h g) && set_has (bits_at at_level k) h))
     → AreLists (set row x vacant) (after_left after before x) (before_left after before x) new_levels
 lists_emptied row after before at_level new_levels x l g going none at = record {
   queued = queued_left row x going.lists.queued going.there;
   rings = rings;
   used = used;
   some = λ k h k_below h_below here same.
-      let parts = both (not (nat_eq k l && nat_eq h g)) (has (bits_at at_level k) h) (sym (at k h k_below) ∙ here) in
+      let parts = both (not (nat_eq k l && nat_eq h g)) (set_has (bits_at at_level k) h) (sym (at k h k_below) ∙ here) in
       elim (cases_eq (head_of k h) (link before x)) [
         | inl is ↦
             let own = same_head k h l g h_below (omega (arith, going.there, going.group)) (left_head row after before at_level x l g k h going is) in
@@ -483,26 +483,26 @@ lists_emptied row after before at_level new_levels x l g going none at = record 
         ∙ ap (head_of l) (is_same (entrant_at new y).group g parts.1) in
         omega (arith, (headed new (after_left after before x) (before_left after before x) y rings y_there).thread, ap (link (after_left after before x)) list, none)
 
-    by_test : (k h : ℕ) (t : Bool) → (nat_eq k l && nat_eq h g) ≡ t → (t ≡ true → ⊥) → has (bits_at at_level k) h ≡ true
-        → (not (nat_eq k l && nat_eq h g) && has (bits_at at_level k) h) ≡ true
+    by_test : (k h : ℕ) (t : Bool) → (nat_eq k l && nat_eq h g) ≡ t → (t ≡ true → ⊥) → set_has (bits_at at_level k) h ≡ true
+        → (not (nat_eq k l && nat_eq h g) && set_has (bits_at at_level k) h) ≡ true
     by_test k h true is never here = absurd (never refl)
-    by_test k h false is never here = ap (λ (t : Bool). not t && has (bits_at at_level k) h) is ∙ here
+    by_test k h false is never here = ap (λ (t : Bool). not t && set_has (bits_at at_level k) h) is ∙ here
 
-    used : (y : ℕ) → (entrant_at new y).group < group_count → has (bits_at new_levels (entrant_at new y).level) (entrant_at new y).group ≡ true
+    used : (y : ℕ) → (entrant_at new y).group < group_count → set_has (bits_at new_levels (entrant_at new y).level) (entrant_at new y).group ≡ true
     used y y_there =
         let same : entrant_at new y ≡ entrant_at row y = get_or-set_other row x y vacant vacant (left_there row x y going.there y_there) in
         let k = (entrant_at new y).level in
         let h = (entrant_at new y).group in
         at k h (omega (arith, rings.levels y y_there))
         ∙ by_test k h (nat_eq k l && nat_eq h g) refl (apart y y_there)
-        (subst (λ (f : Entrant). has (bits_at at_level f.level) f.group ≡ true) (sym same)
+        (subst (λ (f : Entrant). set_has (bits_at at_level f.level) f.group ≡ true) (sym same)
         (going.lists.used y (subst (λ (f : Entrant). f.group < group_count) same y_there)))
 
 -- ---- nobody is in
 
 pub lists_empty : (threads : ℕ) (after before : List ℕ) (at_level : List Bits64) → length after ≡ node_count → length before ≡ node_count
     → ((n : ℕ) → n < node_count → link after n ≡ n) → ((n : ℕ) → n < node_count → link before n ≡ n)
-    → ((l g : ℕ) → has (bits_at at_level l) g ≡ false) → AreLists (replicate threads vacant) after before at_level
+    → ((l g : ℕ) → set_has (bits_at at_level l) g ≡ false) → AreLists (replicate threads vacant) after before at_level
 lists_empty threads after before at_level after_size before_size after_own before_own nowhere = record {
   queued = queued_replicate threads;
   rings = record {
@@ -515,7 +515,7 @@ lists_empty threads after before at_level after_size before_size after_own befor
     rising = λ n node low _. absurd (none n (node.there low));
   };
   used = λ x there. absurd (none x there);
-  some = λ l g l_below g_below h. absurd (clash (has (bits_at at_level l) g) h (nowhere l g));
+  some = λ l g l_below g_below h. absurd (clash (set_has (bits_at at_level l) g) h (nowhere l g));
 }
   where
     row : List Entrant

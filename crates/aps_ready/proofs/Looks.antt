@@ -2,14 +2,14 @@ use Rattle.std.proofs.Common.{◌≡◌, ◌≢◌, ◌⊎◌, inl, inr, ℕ, �
 use Rattle.std.proofs.lemmas.Bool.Decides.{nat_tests}
 use Rattle.aps_model.specs.Limits.{most_threads}
 use Rattle.aps_levels.specs.declared.bits.Bits64.{Bits64}
-use Rattle.aps_levels.specs.Bits.{has}
+use Rattle.aps_levels.specs.Bits.{set_has}
 use Rattle.aps_levels.specs.Levels.{level_count}
 use Rattle.aps_ready.specs.declared.entrant.Entrant.{Entrant}
 use Rattle.aps_ready.specs.Best.{Sits}
 use Rattle.aps_ready.specs.Entrant.{entrant_at, goes_before}
 use Rattle.aps_ready.specs.Firsts.{firsts_of, level_of, AreAt, AreEmpty, AreLeast}
 use Rattle.aps_ready.specs.Lists.{head_of, link, list_of, IsNode, IsLinked, AreLists}
-use Rattle.aps_ready.specs.Table.{bits_at, AreAtLeast, HasLevel, IsFree}
+use Rattle.aps_ready.specs.Table.{bits_at, AreAtLeast, HasLevel, IsLevelFree}
 use Rattle.aps_ready.proofs.ListLaws.{headed, same_head, head_low}
 use Rattle.aps_ready.proofs.Rings.{within_row, list_of_thread, list_of_head, head_node}
 use Rattle.aps_ready.proofs.Tops.{IsTop, kept, top_of, Occupant, occupant, level_at_most}
@@ -72,7 +72,7 @@ behind_head row after before at_level l g lists l_below g_below low =
 
 -- somebody is in a list that is known
 somebody : (row : List Entrant) (after before : List ℕ) (at_level : List Bits64) (l g : ℕ) → AreLists row after before at_level → l < level_count → g < group_count
-    → has (bits_at at_level l) g ≡ true → IsIn row l g (link after (head_of l g))
+    → set_has (bits_at at_level l) g ≡ true → IsIn row l g (link after (head_of l g))
 somebody row after before at_level l g lists l_below g_below h =
     let head : most_threads ≤ head_of l g = omega arith in
     let is : IsLinked row after before (head_of l g) =
@@ -87,7 +87,7 @@ somebody row after before at_level l g lists l_below g_below h =
 
 -- a group is at no level below that of its first
 at_most : (row : List Entrant) (after before : List ℕ) (at_level : List Bits64) (l g : ℕ) → AreLists row after before at_level → l < level_count → g < group_count
-    → has (bits_at at_level l) g ≡ true → level_of (firsts_of row) g ≤ l
+    → set_has (bits_at at_level l) g ≡ true → level_of (firsts_of row) g ≤ l
 at_most row after before at_level l g lists l_below g_below h =
     let one = somebody row after before at_level l g lists l_below g_below h in
     let x = link after (head_of l g) in
@@ -97,51 +97,51 @@ at_most row after before at_level l g lists l_below g_below h =
 
 -- and it is at that level
 there_is : (row : List Entrant) (after before : List ℕ) (at_level : List Bits64) (g : ℕ) → AreLists row after before at_level → g < group_count
-    → level_of (firsts_of row) g < level_count → has (bits_at at_level (level_of (firsts_of row) g)) g ≡ true
+    → level_of (firsts_of row) g < level_count → set_has (bits_at at_level (level_of (firsts_of row) g)) g ≡ true
 there_is row after before at_level g lists below some =
     let one = occupant row (firsts_of row) g (kept row lists.queued) below some in
     let there : (entrant_at row one.place).group < group_count = omega (arith, one.group, below) in
-    ap (λ (k : ℕ). has (bits_at at_level k) g) (sym one.level)
-    ∙ ap (has (bits_at at_level (entrant_at row one.place).level)) (sym one.group) ∙ lists.used one.place there
+    ap (λ (k : ℕ). set_has (bits_at at_level k) g) (sym one.level)
+    ∙ ap (set_has (bits_at at_level (entrant_at row one.place).level)) (sym one.group) ∙ lists.used one.place there
 
 pub are_occupied : (row : List Entrant) (after before : List ℕ) (at_level : List Bits64) (occupied : Bits64) → AreLists row after before at_level
-    → ((g : ℕ) → g < group_count → has occupied g ≡ true → HasLevel at_level g)
-    → ((l g : ℕ) → l < level_count → g < group_count → has (bits_at at_level l) g ≡ true → has occupied g ≡ true)
-    → (g : ℕ) → g < group_count → has occupied g ≡ nat_lt (level_of (firsts_of row) g) level_count
-are_occupied row after before at_level occupied lists some all g below = by_test (has occupied g) refl
+    → ((g : ℕ) → g < group_count → set_has occupied g ≡ true → HasLevel at_level g)
+    → ((l g : ℕ) → l < level_count → g < group_count → set_has (bits_at at_level l) g ≡ true → set_has occupied g ≡ true)
+    → (g : ℕ) → g < group_count → set_has occupied g ≡ nat_lt (level_of (firsts_of row) g) level_count
+are_occupied row after before at_level occupied lists some all g below = by_test (set_has occupied g) refl
   where
     level : ℕ
     level = level_of (firsts_of row) g
 
-    by_test : (t : Bool) → has occupied g ≡ t → has occupied g ≡ nat_lt level level_count
+    by_test : (t : Bool) → set_has occupied g ≡ t → set_has occupied g ≡ nat_lt level level_count
     by_test true h =
         let at = some g below h in
         h ∙ sym (less level level_count (omega (arith, at.below, at_most row after before at_level at.level g lists at.below below at.here)))
     by_test false h = elim (below_or_not level level_count) [
-      | inl low ↦ absurd (clash (has occupied g) (all level g low below (there_is row after before at_level g lists below low)) h)
+      | inl low ↦ absurd (clash (set_has occupied g) (all level g low below (there_is row after before at_level g lists below low)) h)
       | inr high ↦ h ∙ sym (not_less level level_count high)
     ]
 
 -- ---- the least level of a set
 
 same_at : (row : List Entrant) (after before : List ℕ) (at_level : List Bits64) (set : ℕ → Bool) (l g : ℕ) → AreLists row after before at_level
-    → l < level_count → g < group_count → ((k : ℕ) → k < l → IsFree at_level set k) → set g ≡ true
-    → has (bits_at at_level l) g ≡ nat_eq (level_of (firsts_of row) g) l
-same_at row after before at_level set l g lists l_below g_below free among = by_test (has (bits_at at_level l) g) refl
+    → l < level_count → g < group_count → ((k : ℕ) → k < l → IsLevelFree at_level set k) → set g ≡ true
+    → set_has (bits_at at_level l) g ≡ nat_eq (level_of (firsts_of row) g) l
+same_at row after before at_level set l g lists l_below g_below free among = by_test (set_has (bits_at at_level l) g) refl
   where
     level : ℕ
     level = level_of (firsts_of row) g
 
-    by_test : (t : Bool) → has (bits_at at_level l) g ≡ t → has (bits_at at_level l) g ≡ nat_eq level l
+    by_test : (t : Bool) → set_has (bits_at at_level l) g ≡ t → set_has (bits_at at_level l) g ≡ nat_eq level l
     by_test true h = elim (below_or_not level l) [
-      | inl low ↦ absurd (clash (has (bits_at at_level level) g && set g)
-          (pair (has (bits_at at_level level) g) (set g) (there_is row after before at_level g lists g_below (omega (arith, low, l_below))) among)
+      | inl low ↦ absurd (clash (set_has (bits_at at_level level) g && set g)
+          (pair (set_has (bits_at at_level level) g) (set g) (there_is row after before at_level g lists g_below (omega (arith, low, l_below))) among)
           (free level low g g_below))
       | inr high ↦ h ∙ sym (equal level l (omega (arith, high, at_most row after before at_level l g lists l_below g_below h)))
     ]
     by_test false h = h ∙ sym (not_equal level l (λ same.
-        clash (has (bits_at at_level l) g)
-        (ap (λ (k : ℕ). has (bits_at at_level k) g) (sym same) ∙ there_is row after before at_level g lists g_below (omega (arith, same, l_below))) h))
+        clash (set_has (bits_at at_level l) g)
+        (ap (λ (k : ℕ). set_has (bits_at at_level k) g) (sym same) ∙ there_is row after before at_level g lists g_below (omega (arith, same, l_below))) h))
 
 pub least_is : (row : List Entrant) (after before : List ℕ) (at_level : List Bits64) (set found : ℕ → Bool) (l : ℕ) → AreLists row after before at_level
     → AreAtLeast at_level set l found → AreLeast (firsts_of row) set found
@@ -153,8 +153,8 @@ least_is row after before at_level set found l lists least = record {
   some = least.some;
   these = λ g below. least.these g below ∙ by_test g below (set g) refl;
   least = λ g below among. elim (below_or_not (level_of (firsts_of row) g) l) [
-    | inl low ↦ absurd (clash (has (bits_at at_level (level_of (firsts_of row) g)) g && set g)
-        (pair (has (bits_at at_level (level_of (firsts_of row) g)) g) (set g)
+    | inl low ↦ absurd (clash (set_has (bits_at at_level (level_of (firsts_of row) g)) g && set g)
+        (pair (set_has (bits_at at_level (level_of (firsts_of row) g)) g) (set g)
         (there_is row after before at_level g lists below (omega (arith, low, least.below))) among)
         (least.free (level_of (firsts_of row) g) low g below))
     | inr high ↦ high
@@ -165,10 +165,10 @@ least_is row after before at_level set found l lists least = record {
     flat true = refl
     flat false = refl
 
-    by_test : (g : ℕ) → g < group_count → (t : Bool) → set g ≡ t → (has (bits_at at_level l) g && set g) ≡ (nat_eq (level_of (firsts_of row) g) l && set g)
+    by_test : (g : ℕ) → g < group_count → (t : Bool) → set g ≡ t → (set_has (bits_at at_level l) g && set g) ≡ (nat_eq (level_of (firsts_of row) g) l && set g)
     by_test g below true h = ap (λ (t : Bool). t && set g) (same_at row after before at_level set l g lists least.below below least.free h)
     by_test g below false h =
-        ap (λ (t : Bool). has (bits_at at_level l) g && t) h ∙ flat (has (bits_at at_level l) g)
+        ap (λ (t : Bool). set_has (bits_at at_level l) g && t) h ∙ flat (set_has (bits_at at_level l) g)
         ∙ sym (ap (λ (t : Bool). nat_eq (level_of (firsts_of row) g) l && t) h ∙ flat (nat_eq (level_of (firsts_of row) g) l))
 
 pub least_at : (row : List Entrant) (after before : List ℕ) (at_level : List Bits64) (set found : ℕ → Bool) (l : ℕ) → AreLists row after before at_level
@@ -176,16 +176,16 @@ pub least_at : (row : List Entrant) (after before : List ℕ) (at_level : List B
 least_at row after before at_level set found l lists least = record {
   below = least.below;
   same = λ g below h.
-      let parts = both (has (bits_at at_level l) g) (set g) (sym (least.these g below) ∙ h) in
+      let parts = both (set_has (bits_at at_level l) g) (set g) (sym (least.these g below) ∙ h) in
       is_same (level_of (firsts_of row) g) l
       (sym (same_at row after before at_level set l g lists least.below below least.free parts.1) ∙ parts.0);
 }
 
 pub none_least : (row : List Entrant) (after before : List ℕ) (at_level : List Bits64) (set : Bits64) → AreLists row after before at_level
-    → ((l : ℕ) → l < level_count → IsFree at_level (has set) l) → AreEmpty (firsts_of row) set
+    → ((l : ℕ) → l < level_count → IsLevelFree at_level (set_has set) l) → AreEmpty (firsts_of row) set
 none_least row after before at_level set lists free g below among = elim (below_or_not (level_of (firsts_of row) g) level_count) [
-  | inl low ↦ absurd (clash (has (bits_at at_level (level_of (firsts_of row) g)) g && has set g)
-      (pair (has (bits_at at_level (level_of (firsts_of row) g)) g) (has set g) (there_is row after before at_level g lists below low) among)
+  | inl low ↦ absurd (clash (set_has (bits_at at_level (level_of (firsts_of row) g)) g && set_has set g)
+      (pair (set_has (bits_at at_level (level_of (firsts_of row) g)) g) (set_has set g) (there_is row after before at_level g lists below low) among)
       (free (level_of (firsts_of row) g) low g below))
   | inr high ↦ high
 ]

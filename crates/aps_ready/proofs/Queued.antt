@@ -7,7 +7,7 @@ use Rattle.aps_model.specs.declared.state.Facts.{Facts}
 use Rattle.aps_model.specs.declared.merit.Contender.{Contender}
 use Rattle.aps_model.specs.Limits.{greatest_priority, last_partition, last_thread, most_partitions}
 use Rattle.aps_ready.specs.declared.entrant.Entrant.{Entrant}
-use Rattle.aps_ready.specs.Ready.{IsFree, contender_of, seat_of, with_facts, HasThreads, IsQueued}
+use Rattle.aps_ready.specs.Ready.{IsStampFree, entrant_contender, entrant_seat, with_facts, HasThreads, IsQueued}
 use Rattle.aps_ready.specs.Entrant.{entrant_at, entrant_of, group_of, vacant}
 use Rattle.aps_ready.specs.Group.{group_count}
 
@@ -79,10 +79,10 @@ queued_replicate n =
 -- ---- the row that contracts see
 
 pub seats_set : (row : List Entrant) (seats : List (Option Contender)) (new : List Entrant) (x i : ℕ) (e : Entrant) (seat : Option Contender)
-    → map seat_of row ≡ seats → new ≡ set row i e → i ≡ x → seat_of e ≡ seat → map seat_of new ≡ set seats x seat
+    → map entrant_seat row ≡ seats → new ≡ set row i e → i ≡ x → entrant_seat e ≡ seat → map entrant_seat new ≡ set seats x seat
 seats_set row seats new x i e seat view is same seen =
-    ap (map seat_of) is ∙ map-set seat_of row i e ∙ ap (λ (l : List (Option Contender)). set l i (seat_of e)) view
-    ∙ ap (λ (j : ℕ). set seats j (seat_of e)) same ∙ ap (set seats x) seen
+    ap (map entrant_seat) is ∙ map-set entrant_seat row i e ∙ ap (λ (l : List (Option Contender)). set l i (entrant_seat e)) view
+    ∙ ap (λ (j : ℕ). set seats j (entrant_seat e)) same ∙ ap (set seats x) seen
 
 seen_group : (p : ℕ) (critical : Bool) → p ≤ last_partition
     → (nat_lt (cond critical (p + most_partitions) p) group_count ≡ true) × (cond critical (p + most_partitions) p % most_partitions ≡ p)
@@ -91,7 +91,7 @@ seen_group p true small = (grind (arith, nat_tests), omega (arith, small), grind
 seen_group p false small = (grind (arith, nat_tests), omega (arith, small), grind (arith, nat_tests))
 
 pub seen : (x : ℕ) (facts : Facts) (stamp : ℕ) → facts.partition ≤ last_partition → facts.priority ≤ greatest_priority
-    → seat_of (entrant_of x facts stamp) ≡ Some (record { thread = x; facts = facts; stamp = stamp })
+    → entrant_seat (entrant_of x facts stamp) ≡ Some (record { thread = x; facts = facts; stamp = stamp })
 seen x facts stamp partition priority =
     let group = seen_group facts.partition facts.critical partition in
     let level : greatest_priority - (greatest_priority - facts.priority) ≡ facts.priority = omega (arith, priority) in
@@ -104,72 +104,72 @@ in_group facts small = by_mark facts.critical
     by_mark true = omega (arith, small)
     by_mark false = omega (arith, small)
 
-pub replicate_seats : (n : ℕ) → map seat_of (replicate n vacant) ≡ replicate n None
+pub replicate_seats : (n : ℕ) → map entrant_seat (replicate n vacant) ≡ replicate n None
 replicate_seats zero = refl
 replicate_seats (suc n) = ap (λ (rest : List (Option Contender)). None ∷ rest) (replicate_seats n)
 
-pub seat_in : (e : Entrant) → e.group < group_count → seat_of e ≡ Some (contender_of e)
+pub seat_in : (e : Entrant) → e.group < group_count → entrant_seat e ≡ Some (entrant_contender e)
 seat_in e g = grind (arith, nat_tests)
 
-pub seat_at : (row : List Entrant) (x : ℕ) → x < length row → get_or (map seat_of row) x None ≡ seat_of (entrant_at row x)
-seat_at row x within = get_or-map seat_of row x vacant None within
+pub seat_at : (row : List Entrant) (x : ℕ) → x < length row → get_or (map entrant_seat row) x None ≡ entrant_seat (entrant_at row x)
+seat_at row x within = get_or-map entrant_seat row x vacant None within
 
 -- nobody who is in has a stamp that is free
-pub free_stamp : (row : List Entrant) (seats : List (Option Contender)) (stamp y : ℕ) → map seat_of row ≡ seats → All (IsFree stamp) seats → y < length row → (entrant_at row y).group < group_count
+pub free_stamp : (row : List Entrant) (seats : List (Option Contender)) (stamp y : ℕ) → map entrant_seat row ≡ seats → All (IsStampFree stamp) seats → y < length row → (entrant_at row y).group < group_count
     → (entrant_at row y).stamp ≢ stamp
 free_stamp row seats stamp y view free within g =
-    let at : IsFree stamp (get_or (map seat_of row) y None) = rw view (free y None (omega (arith, within, length-map row seat_of, ap length view))) in
-    subst (IsFree stamp) (seat_at row y within ∙ seat_in (entrant_at row y) g) at
+    let at : IsStampFree stamp (get_or (map entrant_seat row) y None) = rw view (free y None (omega (arith, within, length-map row entrant_seat, ap length view))) in
+    subst (IsStampFree stamp) (seat_at row y within ∙ seat_in (entrant_at row y) g) at
 
 -- who is seen is in
-pub is_in : (e : Entrant) → (seat_of e ≡ None → ⊥) → e.group < group_count
+pub is_in : (e : Entrant) → (entrant_seat e ≡ None → ⊥) → e.group < group_count
 is_in e some = by_test (nat_lt e.group group_count) refl
   where
     by_test : (t : Bool) → nat_lt e.group group_count ≡ t → e.group < group_count
     by_test true h = grind (arith, nat_tests)
-    by_test false h = absurd (some (ap (λ b. cond b (Some (contender_of e)) None) h))
+    by_test false h = absurd (some (ap (λ b. cond b (Some (entrant_contender e)) None) h))
 
 -- who isn't seen is out
-pub is_out : (e : Entrant) → seat_of e ≡ None → group_count ≤ e.group
+pub is_out : (e : Entrant) → entrant_seat e ≡ None → group_count ≤ e.group
 is_out e none = by_test (nat_lt e.group group_count) refl
   where
     by_test : (t : Bool) → nat_lt e.group group_count ≡ t → group_count ≤ e.group
     by_test false h = grind (arith, nat_tests)
-    by_test true h = absurd (some_none (contender_of e) (sym (ap (λ b. cond b (Some (contender_of e)) None) h) ∙ none))
+    by_test true h = absurd (some_none (entrant_contender e) (sym (ap (λ b. cond b (Some (entrant_contender e)) None) h) ∙ none))
       where
         some_none : (c : Contender) → Some c ≡ None → ⊥
         some_none c p = cc
 
 -- the stamp of somebody who is taken out is free
 pub free_without : (row : List Entrant) (x stamp : ℕ) → IsQueued row → x < length row → (entrant_at row x).group < group_count
-    → stamp ≡ (entrant_at row x).stamp → All (IsFree stamp) (set (map seat_of row) x None)
+    → stamp ≡ (entrant_at row x).stamp → All (IsStampFree stamp) (set (map entrant_seat row) x None)
 free_without row x stamp queued within there is k d below = elim (cases_eq k x) [
   | inl same ↦
-      subst (IsFree stamp) (sym (ap (λ (i : ℕ). get_or (set (map seat_of row) x None) i d) same
-      ∙ get_or-set_same (map seat_of row) x None d (omega (arith, within, length-map row seat_of)))) tt
+      subst (IsStampFree stamp) (sym (ap (λ (i : ℕ). get_or (set (map entrant_seat row) x None) i d) same
+      ∙ get_or-set_same (map entrant_seat row) x None d (omega (arith, within, length-map row entrant_seat)))) tt
   | inr other ↦
-      subst (IsFree stamp) (sym (get_or-set_other (map seat_of row) x k None d other ∙ get_or-map seat_of row k vacant d inside))
+      subst (IsStampFree stamp) (sym (get_or-set_other (map entrant_seat row) x k None d other ∙ get_or-map entrant_seat row k vacant d inside))
       (by_test (nat_lt (entrant_at row k).group group_count) refl other)
 ]
   where
     inside : k < length row
-    inside = omega (arith, below, length-set (map seat_of row) x None, length-map row seat_of)
+    inside = omega (arith, below, length-set (map entrant_seat row) x None, length-map row entrant_seat)
 
     by_test : (t : Bool) → nat_lt (entrant_at row k).group group_count ≡ t → k ≢ x
-        → IsFree stamp (cond t (Some (contender_of (entrant_at row k))) None)
+        → IsStampFree stamp (cond t (Some (entrant_contender (entrant_at row k))) None)
     by_test true h other =
         let g : (entrant_at row k).group < group_count = grind (arith, nat_tests) in
         λ same. other (queued.stamps k x inside within g there (same ∙ is))
     by_test false h other = tt
 
 pub changed_seat : (e : Entrant) (x : ℕ) (facts : Facts) → e.group < group_count → e.thread ≡ x
-    → Some (record { thread = x; facts = facts; stamp = e.stamp }) ≡ option_map (with_facts facts) (seat_of e)
+    → Some (record { thread = x; facts = facts; stamp = e.stamp }) ≡ option_map (with_facts facts) (entrant_seat e)
 changed_seat e x facts g same = rw (seat_in e g, same) refl
 
-pub place_in_row : (row : List Entrant) (seats : List (Option Contender)) (x i : ℕ) → map seat_of row ≡ seats → x < length seats → i ≡ x → i < length row
-place_in_row row seats x i view within same = omega (arith, within, same, length-map row seat_of, ap length view)
+pub place_in_row : (row : List Entrant) (seats : List (Option Contender)) (x i : ℕ) → map entrant_seat row ≡ seats → x < length seats → i ≡ x → i < length row
+place_in_row row seats x i view within same = omega (arith, within, same, length-map row entrant_seat, ap length view)
 
 -- what is seen at a place
-pub seen_at : (row : List Entrant) (seats : List (Option Contender)) (x i : ℕ) → map seat_of row ≡ seats → x < length seats → i ≡ x → seat_of (entrant_at row i) ≡ get_or seats x None
+pub seen_at : (row : List Entrant) (seats : List (Option Contender)) (x i : ℕ) → map entrant_seat row ≡ seats → x < length seats → i ≡ x → entrant_seat (entrant_at row i) ≡ get_or seats x None
 seen_at row seats x i view within same =
     sym (seat_at row i (place_in_row row seats x i view within same)) ∙ ap (λ (l : List (Option Contender)). get_or l i None) view ∙ ap (λ (j : ℕ). get_or seats j None) same

@@ -11,12 +11,12 @@ use Rattle.aps_model.specs.Pick.{merit_among, candidates, greatest, IsGreatestCa
 use Rattle.aps_model.proofs.GreatestLaws.{greatest-is, greatest-only, no_greatest, unbeaten-less}
 use Rattle.aps_model.specs.Limits.{greatest_priority, last_partition, last_thread, most_partitions}
 use Rattle.aps_levels.specs.declared.bits.Bits64.{Bits64}
-use Rattle.aps_levels.specs.Bits.{has}
+use Rattle.aps_levels.specs.Bits.{set_has}
 use Rattle.aps_levels.specs.Levels.{level_count}
 use Rattle.aps_ready.specs.declared.entrant.Entrant.{Entrant}
 use Rattle.aps_ready.specs.declared.gates.Gates.{Gates}
 use Rattle.aps_ready.specs.Entrant.{entrant_at, goes_before}
-use Rattle.aps_ready.specs.Ready.{members, facts_of, contender_of, seat_of, HasThreads, IsQueued}
+use Rattle.aps_ready.specs.Ready.{members, entrant_facts, entrant_contender, entrant_seat, HasThreads, IsQueued}
 use Rattle.aps_ready.specs.Gates.{is_first, is_open, open_first, AreGates}
 use Rattle.aps_ready.specs.Firsts.{level_of, AreLeast, AreEmpty}
 use Rattle.aps_ready.specs.Likely.{AreOccupied, AreLikely, AreLikelySecond}
@@ -48,7 +48,7 @@ candidate_is : (parts : List PartFacts) (e : Entrant) → e.group < group_count
 candidate_is parts e below =
     let part = part_of parts e in
     let there : nat_lt e.group group_count ≡ true = grind (arith, nat_tests) in
-    ap (λ (t : Bool). t && is_candidate (facts_of e) part) there
+    ap (λ (t : Bool). t && is_candidate (entrant_facts e) part) there
     ∙ ap (λ (t : Bool). not part.shut || (t && not part.funded)) (class_test (is_first part (nat_lt last_partition e.group)))
 
 both : (a b : Bool) → (a && b) ≡ true → (a ≡ true) × (b ≡ true)
@@ -59,7 +59,7 @@ not_true : (t : Bool) → not t ≡ true → t ≡ false
 not_true true h = absurd cc
 not_true false h = refl
 
-pub first_stands : (parts : List PartFacts) (gates : Gates) (e : Entrant) → AreGates parts gates → e.group < group_count → has gates.first e.group ≡ true
+pub first_stands : (parts : List PartFacts) (gates : Gates) (e : Entrant) → AreGates parts gates → e.group < group_count → set_has gates.first e.group ≡ true
     → Stands parts e 1
 first_stands parts gates e are below h =
     let parted = both (is_open (part_of parts e) (nat_lt last_partition e.group)) (is_first (part_of parts e) (nat_lt last_partition e.group)) (sym (are.first e.group below) ∙ h) in
@@ -68,7 +68,7 @@ first_stands parts gates e are below h =
       class = ap (λ (t : Bool). cond t 1 0) parted.1;
     }
 
-pub second_stands : (parts : List PartFacts) (gates : Gates) (e : Entrant) → AreGates parts gates → e.group < group_count → has gates.second e.group ≡ true
+pub second_stands : (parts : List PartFacts) (gates : Gates) (e : Entrant) → AreGates parts gates → e.group < group_count → set_has gates.second e.group ≡ true
     → Stands parts e 0
 second_stands parts gates e are below h =
     let parted = both (is_open (part_of parts e) (nat_lt last_partition e.group)) (not (is_first (part_of parts e) (nat_lt last_partition e.group)))
@@ -100,7 +100,7 @@ other_class parts e here h =
 
 -- every candidate is in one of the two
 pub in_one : (parts : List PartFacts) (gates : Gates) (e : Entrant) → AreGates parts gates → is_candidate_at parts e ≡ true
-    → (has gates.first e.group ≡ true) ⊎ (has gates.second e.group ≡ true)
+    → (set_has gates.first e.group ≡ true) ⊎ (set_has gates.second e.group ≡ true)
 in_one parts gates e are here = by_test (is_first part (nat_lt last_partition e.group)) refl
   where
     part : PartFacts
@@ -115,7 +115,7 @@ in_one parts gates e are here = by_test (is_first part (nat_lt last_partition e.
     pair : (a b : Bool) → a ≡ true → b ≡ true → (a && b) ≡ true
     pair a b h k = rw (h, k) refl
 
-    by_test : (t : Bool) → is_first part (nat_lt last_partition e.group) ≡ t → (has gates.first e.group ≡ true) ⊎ (has gates.second e.group ≡ true)
+    by_test : (t : Bool) → is_first part (nat_lt last_partition e.group) ≡ t → (set_has gates.first e.group ≡ true) ⊎ (set_has gates.second e.group ≡ true)
     by_test true h = inl (are.first e.group below ∙ pair (is_open part (nat_lt last_partition e.group)) (is_first part (nat_lt last_partition e.group)) opened h)
     by_test false h =
         inr (are.second e.group below
@@ -229,7 +229,7 @@ small row x queued within below = queued.levels x within below
 
 -- an empty group has nobody
 no_member : (row : List Entrant) (firsts : List Entrant) (set : Bits64) (x : ℕ) → IsKept row firsts → AreEmpty firsts set
-    → x < length row → (entrant_at row x).group < group_count → has set (entrant_at row x).group ≡ true → ⊥
+    → x < length row → (entrant_at row x).group < group_count → set_has set (entrant_at row x).group ≡ true → ⊥
 no_member row firsts set x kept empty within below among =
     omega (
       arith,
@@ -241,27 +241,27 @@ no_member row firsts set x kept empty within below among =
 -- ---- somebody of class 1
 
 pub first_wins : (free : Free) (parts : List PartFacts) (row : List Entrant) (firsts : List Entrant)
-    (gates : Gates) (found : Bits64) (best : Entrant) → AreGates parts gates → IsKept row firsts → AreLeast firsts (has gates.first) (has found)
-    → IsBest parts row (has found) best → IsWinner free parts row best
+    (gates : Gates) (found : Bits64) (best : Entrant) → AreGates parts gates → IsKept row firsts → AreLeast firsts (set_has gates.first) (set_has found)
+    → IsBest parts row (set_has found) best → IsWinner free parts row best
 first_wins free parts row firsts gates found best are kept least is_best = record {
   open_here = λ _. stands.candidate;
   sits = is_best.sits;
   others = λ x within here. (best_at.there, beaten x within here (in_one parts gates (entrant_at row x) are here));
 }
   where
-    best_at : IsAtLeast firsts (has gates.first) (has found) best least.level
-    best_at = at_least parts row firsts (has gates.first) (has found) best kept least is_best
+    best_at : IsAtLeast firsts (set_has gates.first) (set_has found) best least.level
+    best_at = at_least parts row firsts (set_has gates.first) (set_has found) best kept least is_best
 
     stands : Stands parts best 1
     stands = first_stands parts gates best are best_at.there best_at.among
 
     beaten : (x : ℕ) → x < length row → is_candidate_at parts (entrant_at row x) ≡ true
-        → (has gates.first (entrant_at row x).group ≡ true) ⊎ (has gates.second (entrant_at row x).group ≡ true)
+        → (set_has gates.first (entrant_at row x).group ≡ true) ⊎ (set_has gates.second (entrant_at row x).group ≡ true)
         → is_above free parts (entrant_at row x) best ≡ false
     beaten x within here (inl one) =
         let below = open_group parts (entrant_at row x) here in
         let class = (first_stands parts gates (entrant_at row x) are below one).class in
-        not_above free parts row firsts (has gates.first) (has found) best 1 x kept least is_best stands.class class
+        not_above free parts row firsts (set_has gates.first) (set_has found) best 1 x kept least is_best stands.class class
         (λ low. above_lower_first free parts (entrant_at row x) best class stands.class low (small row x kept.queued within below))
         within below one
     beaten x within here (inr two) =
@@ -271,8 +271,8 @@ first_wins free parts row firsts gates found best are kept least is_best = recor
 -- somebody of class 1 at the least level of all
 pub near_wins : (free : Free) (parts : List PartFacts) (row : List Entrant) (firsts : List Entrant)
     (occupied near : Bits64) (best : Entrant) → IsKept row firsts
-    → ((g : ℕ) → g < group_count → has occupied g ≡ nat_lt (level_of firsts g) level_count) → AreLeast firsts (has occupied) (has near)
-    → IsBest parts row (λ g. has near g && open_first parts g) best → best.group < group_count → IsWinner free parts row best
+    → ((g : ℕ) → g < group_count → set_has occupied g ≡ nat_lt (level_of firsts g) level_count) → AreLeast firsts (set_has occupied) (set_has near)
+    → IsBest parts row (λ g. set_has near g && open_first parts g) best → best.group < group_count → IsWinner free parts row best
 near_wins free parts row firsts occupied near best kept some least is_best there = record {
   open_here = λ _. stands.candidate;
   sits = is_best.sits;
@@ -280,13 +280,13 @@ near_wins free parts row firsts occupied near best kept some least is_best there
 }
   where
     found : ℕ → Bool
-    found g = has near g && open_first parts g
+    found g = set_has near g && open_first parts g
 
     inside : found best.group ≡ true
     inside = is_best.inside there
 
     stands : Stands parts best 1
-    stands = open_stands parts best there (both (has near best.group) (open_first parts best.group) inside).1
+    stands = open_stands parts best there (both (set_has near best.group) (open_first parts best.group) inside).1
 
     low : (l : ℕ) → nat_lt l level_count ≡ true → l < level_count
     low l h = grind (arith, nat_tests)
@@ -294,10 +294,10 @@ near_wins free parts row firsts occupied near best kept some least is_best there
     less : (a b : ℕ) → a < b → nat_lt a b ≡ true
     less a b h = grind (arith, nat_tests)
 
-    is_at : (g : ℕ) → g < group_count → has near g ≡ nat_eq (level_of firsts g) least.level
+    is_at : (g : ℕ) → g < group_count → set_has near g ≡ nat_eq (level_of firsts g) least.level
     is_at g below = least.these g below ∙ by_test (nat_eq (level_of firsts g) least.level) refl
       where
-        by_test : (t : Bool) → nat_eq (level_of firsts g) least.level ≡ t → (t && has occupied g) ≡ t
+        by_test : (t : Bool) → nat_eq (level_of firsts g) least.level ≡ t → (t && set_has occupied g) ≡ t
         by_test false h = refl
         by_test true h =
             let same : level_of firsts g ≡ least.level = grind (arith, nat_tests) in
@@ -332,18 +332,18 @@ near_wins free parts row firsts occupied near best kept some least is_best there
 
 only_second : (parts : List PartFacts) (row : List Entrant) (firsts : List Entrant) (gates : Gates) (x : ℕ)
     → AreGates parts gates → IsKept row firsts → AreEmpty firsts gates.first → x < length row
-    → is_candidate_at parts (entrant_at row x) ≡ true → has gates.second (entrant_at row x).group ≡ true
+    → is_candidate_at parts (entrant_at row x) ≡ true → set_has gates.second (entrant_at row x).group ≡ true
 only_second parts row firsts gates x are kept empty within here =
     by_side (in_one parts gates (entrant_at row x) are here)
   where
-    by_side : (has gates.first (entrant_at row x).group ≡ true) ⊎ (has gates.second (entrant_at row x).group ≡ true)
-        → has gates.second (entrant_at row x).group ≡ true
+    by_side : (set_has gates.first (entrant_at row x).group ≡ true) ⊎ (set_has gates.second (entrant_at row x).group ≡ true)
+        → set_has gates.second (entrant_at row x).group ≡ true
     by_side (inl one) = absurd (no_member row firsts gates.first x kept empty within (open_group parts (entrant_at row x) here) one)
     by_side (inr two) = two
 
 pub second_wins : (parts : List PartFacts) (row : List Entrant) (firsts : List Entrant)
     (gates : Gates) (found : Bits64) (best : Entrant) → AreGates parts gates → IsKept row firsts → AreEmpty firsts gates.first
-    → AreLeast firsts (has gates.second) (has found) → IsBest parts row (has found) best → IsWinner Priority parts row best
+    → AreLeast firsts (set_has gates.second) (set_has found) → IsBest parts row (set_has found) best → IsWinner Priority parts row best
 second_wins parts row firsts gates found best are kept empty least is_best = record {
   open_here = λ _. stands.candidate;
   sits = is_best.sits;
@@ -352,21 +352,21 @@ second_wins parts row firsts gates found best are kept empty least is_best = rec
       let two = only_second parts row firsts gates x are kept empty within here in
       let class = (second_stands parts gates (entrant_at row x) are below two).class in (
         best_at.there,
-        not_above Priority parts row firsts (has gates.second) (has found) best 0 x kept least is_best stands.class class
+        not_above Priority parts row firsts (set_has gates.second) (set_has found) best 0 x kept least is_best stands.class class
             (λ low. above_lower_second parts (entrant_at row x) best class stands.class low (small row x kept.queued within below))
             within below two,
       );
 }
   where
-    best_at : IsAtLeast firsts (has gates.second) (has found) best least.level
-    best_at = at_least parts row firsts (has gates.second) (has found) best kept least is_best
+    best_at : IsAtLeast firsts (set_has gates.second) (set_has found) best least.level
+    best_at = at_least parts row firsts (set_has gates.second) (set_has found) best kept least is_best
 
     stands : Stands parts best 0
     stands = second_stands parts gates best are best_at.there best_at.among
 
 pub ratio_wins : (parts : List PartFacts) (row : List Entrant) (firsts : List Entrant)
     (gates : Gates) (found : Bits64) (best : Entrant) → AreGates parts gates → IsKept row firsts → AreEmpty firsts gates.first
-    → AreOccupied firsts gates.second found → IsBest parts row (has found) best → IsWinner Ratio parts row best
+    → AreOccupied firsts gates.second found → IsBest parts row (set_has found) best → IsWinner Ratio parts row best
 ratio_wins parts row firsts gates found best are kept empty occupied is_best = record {
   open_here = λ g. (stands g).candidate;
   sits = is_best.sits;
@@ -384,14 +384,14 @@ ratio_wins parts row firsts gates found best are kept empty occupied is_best = r
   where
     stands : best.group < group_count → Stands parts best 0
     stands g = second_stands parts gates best are g
-        (both (has gates.second best.group) (nat_lt (level_of firsts best.group) level_count) (sym (occupied best.group g) ∙ is_best.inside g)).0
+        (both (set_has gates.second best.group) (nat_lt (level_of firsts best.group) level_count) (sym (occupied best.group g) ∙ is_best.inside g)).0
 
     is_found : (x : ℕ) → x < length row → (entrant_at row x).group < group_count → (entrant_at row x).level ≤ greatest_priority
-        → has gates.second (entrant_at row x).group ≡ true → has found (entrant_at row x).group ≡ true
+        → set_has gates.second (entrant_at row x).group ≡ true → set_has found (entrant_at row x).group ≡ true
     is_found x within below level two =
         let most = level_at_most row firsts x kept within below in
         occupied (entrant_at row x).group below
-        ∙ pair (has gates.second (entrant_at row x).group) (nat_lt (level_of firsts (entrant_at row x).group) level_count) two
+        ∙ pair (set_has gates.second (entrant_at row x).group) (nat_lt (level_of firsts (entrant_at row x).group) level_count) two
         (less (level_of firsts (entrant_at row x).group) level_count (omega (arith, most, level)))
       where
         pair : (a b : Bool) → a ≡ true → b ≡ true → (a && b) ≡ true
@@ -402,10 +402,10 @@ ratio_wins parts row firsts gates found best are kept empty occupied is_best = r
 
 pub nobody_wins : (parts : List PartFacts) (row : List Entrant) (firsts : List Entrant)
     (gates : Gates) (found : Bits64) (best : Entrant) → AreGates parts gates → IsKept row firsts → AreEmpty firsts gates.first
-    → AreEmpty firsts gates.second → ((g : ℕ) → g < group_count → has found g ≡ false) → IsBest parts row (has found) best
+    → AreEmpty firsts gates.second → ((g : ℕ) → g < group_count → set_has found g ≡ false) → IsBest parts row (set_has found) best
     → IsWinner Priority parts row best
 nobody_wins parts row firsts gates found best are kept empty empty_too none is_best = record {
-  open_here = λ g. absurd (clash (has found best.group) (is_best.inside g) (none best.group g));
+  open_here = λ g. absurd (clash (set_has found best.group) (is_best.inside g) (none best.group g));
   sits = is_best.sits;
   others = λ x within here.
       absurd (no_member row firsts gates.second x kept empty_too within (open_group parts (entrant_at row x) here)
@@ -417,7 +417,7 @@ nobody_wins parts row firsts gates found best are kept empty empty_too none is_b
 
 pub likely_wins : (free : Free) (parts : List PartFacts) (row : List Entrant) (firsts : List Entrant)
     (gates : Gates) (found : Bits64) (best : Entrant) → AreGates parts gates → IsKept row firsts → AreLikely free firsts gates found
-    → IsBest parts row (has found) best → IsWinner free parts row best
+    → IsBest parts row (set_has found) best → IsWinner free parts row best
 likely_wins free parts row firsts gates found best are kept (inl least) is_best =
     first_wins free parts row firsts gates found best are kept least is_best
 likely_wins Ratio parts row firsts gates found best are kept (inr rest) is_best =
@@ -435,8 +435,8 @@ same_member : (row : List Entrant) (x y : ℕ) → IsQueued row → x < length r
 same_member row x y queued x_in y_in gx gy same = ap (entrant_at row) (queued.stamps x y x_in y_in gx gy same)
 
 pub best_is_greatest : (free : Free) (parts : List PartFacts) (row : List Entrant) (best : Entrant) → IsQueued row → IsWinner free parts row best → best.group < group_count
-    → greatest free parts (members (map seat_of row)) ≡ Some (contender_of best)
-best_is_greatest free parts row best queued is_winner g = by_result (greatest free parts (members (map seat_of row))) refl
+    → greatest free parts (members (map entrant_seat row)) ≡ Some (entrant_contender best)
+best_is_greatest free parts row best queued is_winner g = by_result (greatest free parts (members (map entrant_seat row))) refl
   where
     sits : Sits row best
     sits = is_winner.sits g
@@ -444,44 +444,44 @@ best_is_greatest free parts row best queued is_winner g = by_result (greatest fr
     here : is_candidate_at parts (entrant_at row sits.place) ≡ true
     here = ap (is_candidate_at parts) sits.is ∙ is_winner.open_here g
 
-    among : Contains (candidates parts (members (map seat_of row))) (contender_of best)
-    among = subst (λ (e : Entrant). Contains (candidates parts (members (map seat_of row))) (contender_of e)) sits.is (open_among parts row sits.place sits.within here)
+    among : Contains (candidates parts (members (map entrant_seat row))) (entrant_contender best)
+    among = subst (λ (e : Entrant). Contains (candidates parts (members (map entrant_seat row))) (entrant_contender e)) sits.is (open_among parts row sits.place sits.within here)
 
-    is_greatest : IsGreatestCandidate free parts (members (map seat_of row)) (contender_of best)
+    is_greatest : IsGreatestCandidate free parts (members (map entrant_seat row)) (entrant_contender best)
     is_greatest = record {
       candidate = among;
-      others = all_candidates (λ (c : Contender). c.stamp ≢ best.stamp → IsGreater free (merit_among parts (contender_of best)) (merit_among parts c)) parts row
-          (λ x within here ne. unbeaten-less free parts (contender_of best) (contender_of (entrant_at row x)) ne (is_winner.others x within here).1);
+      others = all_candidates (λ (c : Contender). c.stamp ≢ best.stamp → IsGreater free (merit_among parts (entrant_contender best)) (merit_among parts c)) parts row
+          (λ x within here ne. unbeaten-less free parts (entrant_contender best) (entrant_contender (entrant_at row x)) ne (is_winner.others x within here).1);
     }
 
     nothing : (cs : List Contender) (c : Contender) → cs ≡ [] → Contains cs c → ⊥
     nothing cs c none (k, within, is) = omega (arith, within, ap length none)
 
-    by_result : (r : Option Contender) → greatest free parts (members (map seat_of row)) ≡ r → greatest free parts (members (map seat_of row)) ≡ Some (contender_of best)
-    by_result None h = absurd (nothing _ _ (no_greatest free parts (members (map seat_of row)) h) among)
+    by_result : (r : Option Contender) → greatest free parts (members (map entrant_seat row)) ≡ r → greatest free parts (members (map entrant_seat row)) ≡ Some (entrant_contender best)
+    by_result None h = absurd (nothing _ _ (no_greatest free parts (members (map entrant_seat row)) h) among)
     by_result (Some c) h =
-        let at = open_from parts row c (greatest-is free parts (members (map seat_of row)) c h).candidate in
-        let stamp : best.stamp ≡ (entrant_at row at.place).stamp = greatest-only free parts (members (map seat_of row)) c (contender_of best) h is_greatest ∙ ap (λ (d : Contender). d.stamp) at.is in
+        let at = open_from parts row c (greatest-is free parts (members (map entrant_seat row)) c h).candidate in
+        let stamp : best.stamp ≡ (entrant_at row at.place).stamp = greatest-only free parts (members (map entrant_seat row)) c (entrant_contender best) h is_greatest ∙ ap (λ (d : Contender). d.stamp) at.is in
         let same : entrant_at row sits.place ≡ entrant_at row at.place =
         same_member row sits.place at.place queued sits.within at.within (open_group parts (entrant_at row sits.place) here) (open_group parts (entrant_at row at.place) at.open_here)
         (ap (λ (e : Entrant). e.stamp) sits.is ∙ stamp) in
-        h ∙ ap (λ (d : Contender). Some d) (at.is ∙ ap contender_of (sym same ∙ sits.is))
+        h ∙ ap (λ (d : Contender). Some d) (at.is ∙ ap entrant_contender (sym same ∙ sits.is))
 
 pub none_is_greatest : (free : Free) (parts : List PartFacts) (row : List Entrant) (best : Entrant) → IsWinner free parts row best → (best.group < group_count → ⊥)
-    → greatest free parts (members (map seat_of row)) ≡ None
-none_is_greatest free parts row best is_winner none = by_result (greatest free parts (members (map seat_of row))) refl
+    → greatest free parts (members (map entrant_seat row)) ≡ None
+none_is_greatest free parts row best is_winner none = by_result (greatest free parts (members (map entrant_seat row))) refl
   where
-    by_result : (r : Option Contender) → greatest free parts (members (map seat_of row)) ≡ r → greatest free parts (members (map seat_of row)) ≡ None
+    by_result : (r : Option Contender) → greatest free parts (members (map entrant_seat row)) ≡ r → greatest free parts (members (map entrant_seat row)) ≡ None
     by_result None h = h
     by_result (Some c) h =
-        let at = open_from parts row c (greatest-is free parts (members (map seat_of row)) c h).candidate in
+        let at = open_from parts row c (greatest-is free parts (members (map entrant_seat row)) c h).candidate in
         absurd (none (is_winner.others at.place at.within at.open_here).0)
 
 -- ---- where the best sits
 
 pub record Place (row : List Entrant) (x : ℕ) : Type 0 where
   pub within : x < length row
-  pub present : get_or (map seat_of row) x None ≢ None
+  pub present : get_or (map entrant_seat row) x None ≢ None
 
 pub place_by : (row : List Entrant) (best : Entrant) (x : ℕ) → IsQueued row → Sits row best → best.group < group_count → x ≡ best.thread → Place row x
 place_by row best x queued sits g is =
@@ -489,7 +489,7 @@ place_by row best x queued sits g is =
     let same : sits.place ≡ x = sym (queued.threads sits.place sits.within group) ∙ ap (λ (e : Entrant). e.thread) sits.is ∙ sym is in
     record {
       within = omega (arith, same, sits.within);
-      present = λ none. is_some (contender_of (entrant_at row sits.place)) (sym (seat_in (entrant_at row sits.place) group) ∙ sym (seat_at row sits.place sits.within) ∙ ap (λ (i : ℕ). get_or (map seat_of row) i None) same ∙ none);
+      present = λ none. is_some (entrant_contender (entrant_at row sits.place)) (sym (seat_in (entrant_at row sits.place) group) ∙ sym (seat_at row sits.place sits.within) ∙ ap (λ (i : ℕ). get_or (map entrant_seat row) i None) same ∙ none);
     }
   where
     is_some : (c : Contender) → Some c ≡ None → ⊥
@@ -508,14 +508,14 @@ pub least_occupied : (firsts : List Entrant) (set found : ℕ → Bool) → AreL
 least_occupied firsts set found least g below h = omega (arith, least.below, (in_found firsts set found least g below h).0)
 
 pub likely_second_occupied : (free : Free) (firsts : List Entrant) (second found : Bits64) → AreLikelySecond free firsts second found
-    → (g : ℕ) → g < group_count → has found g ≡ true → level_of firsts g < level_count
+    → (g : ℕ) → g < group_count → set_has found g ≡ true → level_of firsts g < level_count
 likely_second_occupied Ratio firsts second found occupied g below h =
-    is_less (level_of firsts g) level_count (both (has second g) (nat_lt (level_of firsts g) level_count) (sym (occupied g below) ∙ h)).1
+    is_less (level_of firsts g) level_count (both (set_has second g) (nat_lt (level_of firsts g) level_count) (sym (occupied g below) ∙ h)).1
   where
     is_less : (a b : ℕ) → nat_lt a b ≡ true → a < b
     is_less a b h = grind (arith, nat_tests)
-likely_second_occupied Priority firsts second found (inl least) g below h = least_occupied firsts (has second) (has found) least g below h
-likely_second_occupied Priority firsts second found (inr none) g below h = absurd (clash (has found g) h (none.1 g below))
+likely_second_occupied Priority firsts second found (inl least) g below h = least_occupied firsts (set_has second) (set_has found) least g below h
+likely_second_occupied Priority firsts second found (inr none) g below h = absurd (clash (set_has found g) h (none.1 g below))
   where
     clash : (t : Bool) → t ≡ true → t ≡ false → ⊥
     clash t p q = cc

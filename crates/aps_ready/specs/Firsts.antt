@@ -1,7 +1,7 @@
 use Rattle.std.specs.Prelude.{◌≡◌, ℕ, ◌<◌, ◌≤◌, Bool, true, ◌&&◌, nat_eq, if◌then◌else◌, List, [], ◌∷◌, map}
 use Rattle.std.specs.List.{range_with_len}
 use Rattle.aps_levels.specs.declared.bits.Bits64.{Bits64}
-use Rattle.aps_levels.specs.Bits.{has}
+use Rattle.aps_levels.specs.Bits.{set_has}
 use Rattle.aps_levels.specs.Levels.{level_count}
 use Rattle.aps_ready.specs.declared.entrant.Entrant.{Entrant}
 use Rattle.aps_ready.specs.Entrant.{entrant_at, goes_before, vacant}
@@ -9,13 +9,13 @@ use Rattle.aps_ready.specs.Ready.{entrant_in}
 use Rattle.aps_ready.specs.Group.{group_count}
 
 -- the one of a row that goes before all others; nobody where nobody is in it
-abbrev pub first_of : List Entrant → Entrant
-first_of [] = vacant
-first_of (e ∷ row) = if goes_before e (first_of row) then e else first_of row
+abbrev pub first_entrant : List Entrant → Entrant
+first_entrant [] = vacant
+first_entrant (e ∷ row) = if goes_before e (first_entrant row) then e else first_entrant row
 
 -- the first of each group
 abbrev pub firsts_of : List Entrant → List Entrant
-firsts_of row = map (λ g. first_of (map (entrant_in g) row)) (range_with_len 0 group_count)
+firsts_of row = map (λ g. first_entrant (map (entrant_in g) row)) (range_with_len 0 group_count)
 
 -- the level of the first of a group, 256 where the group is empty
 abbrev pub level_of : List Entrant → ℕ → ℕ
@@ -23,7 +23,7 @@ level_of firsts g = (entrant_at firsts g).level
 
 -- all groups of the set are empty
 abbrev pub AreEmpty : List Entrant → Bits64 → Type 0
-AreEmpty firsts set = (g : ℕ) → g < group_count → has set g ≡ true → level_count ≤ level_of firsts g
+AreEmpty firsts set = (g : ℕ) → g < group_count → set_has set g ≡ true → level_count ≤ level_of firsts g
 
 -- the groups of the set at the least level of any of them, which is below 256
 pub record AreLeast (firsts : List Entrant) (set found : ℕ → Bool) : Type 0 where

@@ -2,7 +2,7 @@ use Rattle.std.specs.Prelude.{◌≡◌, ℕ, ◌<◌, ◌%◌, Bool, ◌&&◌, 
 use Rattle.aps_model.specs.declared.merit.PartFacts.{PartFacts}
 use Rattle.aps_model.specs.Budget.{part_at}
 use Rattle.aps_model.specs.Limits.{last_partition, most_partitions}
-use Rattle.aps_levels.specs.Bits.{has}
+use Rattle.aps_levels.specs.Bits.{set_has}
 use Rattle.aps_ready.specs.declared.gates.Gates.{Gates}
 use Rattle.aps_ready.specs.Group.{group_count}
 
@@ -27,9 +27,9 @@ open_first parts g = is_open_first (part_at parts (g % most_partitions)) (nat_lt
 -- which groups are candidates, by their class, and which partitions have a budget, where the partitions stand so; the
 -- group g has the threads of partition g, and from 32 on the critical ones of partition g - 32
 pub record AreGatesOf (stands : ℕ → PartFacts) (gates : Gates) : Type 0 where
-  pub first : (g : ℕ) → g < group_count → has gates.first g ≡ is_open_first (stands (g % most_partitions)) (nat_lt last_partition g)
-  pub second : (g : ℕ) → g < group_count → has gates.second g ≡ is_open_second (stands (g % most_partitions)) (nat_lt last_partition g)
-  pub budgeted : (p : ℕ) → p < 64 → has gates.budgeted p ≡ (nat_lt p most_partitions && nat_lt 0 (stands p).budget)
+  pub first : (g : ℕ) → g < group_count → set_has gates.first g ≡ is_open_first (stands (g % most_partitions)) (nat_lt last_partition g)
+  pub second : (g : ℕ) → g < group_count → set_has gates.second g ≡ is_open_second (stands (g % most_partitions)) (nat_lt last_partition g)
+  pub budgeted : (p : ℕ) → p < 64 → set_has gates.budgeted p ≡ (nat_lt p most_partitions && nat_lt 0 (stands p).budget)
 
 abbrev pub AreGates : List PartFacts → Gates → Type 0
 AreGates parts gates = AreGatesOf (part_at parts) gates

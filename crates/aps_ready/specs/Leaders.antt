@@ -3,7 +3,7 @@ use Rattle.aps_model.specs.declared.merit.PartFacts.{PartFacts}
 use Rattle.aps_model.specs.Merit.{smaller}
 use Rattle.aps_model.specs.Budget.{part_at}
 use Rattle.aps_model.specs.Limits.{most_partitions, most_used, thousandths}
-use Rattle.aps_levels.specs.Bits.{has}
+use Rattle.aps_levels.specs.Bits.{set_has}
 use Rattle.aps_ready.specs.declared.entrant.Entrant.{Entrant}
 use Rattle.aps_ready.specs.declared.leaders.Leaders.{Leaders}
 use Rattle.aps_ready.specs.Entrant.{entrant_at}
@@ -30,20 +30,20 @@ pub record HasGroup (set : ℕ → Bool) (p : ℕ) : Type 0 where
 -- groups whose partitions have used the fraction of the leaders, and among them all those that were seen; none that was seen has
 -- used less
 pub record AreLeading (parts : List PartFacts) (seen : ℕ → Bool) (leaders : Leaders) : Type 0 where
-  pub level : (g : ℕ) → g < group_count → has leaders.groups g ≡ true → is_less_than parts leaders.used leaders.budget g ≡ false
+  pub level : (g : ℕ) → g < group_count → set_has leaders.groups g ≡ true → is_less_than parts leaders.used leaders.budget g ≡ false
   pub all : (g : ℕ) → g < group_count → seen g ≡ true → is_less_than parts leaders.used leaders.budget g ≡ false
-      → has leaders.groups g ≡ true
+      → set_has leaders.groups g ≡ true
   pub least : (g : ℕ) → g < group_count → seen g ≡ true → is_more_than parts leaders.used leaders.budget g ≡ false
-  pub some : 0 < leaders.budget → (g : ℕ) × (g < group_count) × (seen g ≡ true) × (has leaders.groups g ≡ true)
+  pub some : 0 < leaders.budget → (g : ℕ) × (g < group_count) × (seen g ≡ true) × (set_has leaders.groups g ≡ true)
   pub one : leaders.budget ≡ 0 → leaders.used ≡ 1
   pub used : leaders.used ≤ most_used
   pub budget : leaders.budget ≤ thousandths
 
 -- of these groups those whose partitions have used the fraction of the leaders, than which none has used less
 pub record AreLeaders (parts : List PartFacts) (wanted : ℕ → Bool) (leaders : Leaders) : Type 0 where
-  pub these : (g : ℕ) → g < group_count → has leaders.groups g ≡ (wanted g && not (is_less_than parts leaders.used leaders.budget g))
+  pub these : (g : ℕ) → g < group_count → set_has leaders.groups g ≡ (wanted g && not (is_less_than parts leaders.used leaders.budget g))
   pub least : (g : ℕ) → g < group_count → wanted g ≡ true → is_more_than parts leaders.used leaders.budget g ≡ false
-  pub some : 0 < leaders.budget → (g : ℕ) × (g < group_count) × (has leaders.groups g ≡ true)
+  pub some : 0 < leaders.budget → (g : ℕ) × (g < group_count) × (set_has leaders.groups g ≡ true)
 
 -- the first of one of the groups of a set, whose stamp is the smallest of their firsts'
 pub record IsEarliest (firsts : List Entrant) (set : ℕ → Bool) (best : Entrant) : Type 0 where

@@ -1,7 +1,7 @@
 -- Lists of threads: one for each level and group, as links between nodes, which are the threads and the heads of the lists.
 use Rattle.std.specs.Prelude.{◌≡◌, ◌≢◌, ℕ, ◌+◌, ◌*◌, ◌<◌, ◌≤◌, true, nat_lt, if◌then◌else◌, List, length, slice_index_or}
 use Rattle.aps_levels.specs.declared.bits.Bits64.{Bits64}
-use Rattle.aps_levels.specs.Bits.{has}
+use Rattle.aps_levels.specs.Bits.{set_has}
 use Rattle.aps_ready.specs.declared.entrant.Entrant.{Entrant}
 use Rattle.aps_ready.specs.Entrant.{entrant_at}
 use Rattle.aps_ready.specs.Ready.{HasThreads, IsQueued}
@@ -67,5 +67,5 @@ pub record AreLists (row : List Entrant) (after before : List ℕ) (at_level : L
   pub queued : IsQueued row
   pub rings : AreRings row after before
   pub used : (x : ℕ) → (entrant_at row x).group < group_count
-      → has (bits_at at_level (entrant_at row x).level) (entrant_at row x).group ≡ true
-  pub some : (l g : ℕ) → l < level_count → g < group_count → has (bits_at at_level l) g ≡ true → link after (head_of l g) ≢ head_of l g
+      → set_has (bits_at at_level (entrant_at row x).level) (entrant_at row x).group ≡ true
+  pub some : (l g : ℕ) → l < level_count → g < group_count → set_has (bits_at at_level l) g ≡ true → link after (head_of l g) ≢ head_of l g

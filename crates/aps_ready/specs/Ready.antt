@@ -13,29 +13,29 @@ members (None ∷ row) = members row
 members (Some c ∷ row) = c ∷ members row
 
 -- the row with this one out, if there is one
-abbrev pub without : Option Contender → List (Option Contender) → List (Option Contender)
-without None row = row
-without (Some c) row = slice_set row c.thread None
+abbrev pub contenders_without : Option Contender → List (Option Contender) → List (Option Contender)
+contenders_without None row = row
+contenders_without (Some c) row = slice_set row c.thread None
 
 -- no one who is in has the stamp
-abbrev pub IsFree : ℕ → Option Contender → Type 0
-IsFree stamp None = Unit {0}
-IsFree stamp (Some c) = c.stamp ≢ stamp
+abbrev pub IsStampFree : ℕ → Option Contender → Type 0
+IsStampFree stamp None = Unit {0}
+IsStampFree stamp (Some c) = c.stamp ≢ stamp
 
 abbrev pub with_facts : Facts → Contender → Contender
 with_facts facts c = record { thread = c.thread; facts = facts; stamp = c.stamp }
 
 -- the values of an entrant, and the thread that it stands for
-abbrev pub facts_of : Entrant → Facts
-facts_of e =
+abbrev pub entrant_facts : Entrant → Facts
+entrant_facts e =
     record { partition = e.group % most_partitions; priority = greatest_priority - e.level; critical = nat_lt last_partition e.group }
 
-abbrev pub contender_of : Entrant → Contender
-contender_of e = record { thread = e.thread; facts = facts_of e; stamp = e.stamp }
+abbrev pub entrant_contender : Entrant → Contender
+entrant_contender e = record { thread = e.thread; facts = entrant_facts e; stamp = e.stamp }
 
 -- who is in there, if anybody is
-abbrev pub seat_of : Entrant → Option Contender
-seat_of e = if nat_lt e.group group_count then Some (contender_of e) else None
+abbrev pub entrant_seat : Entrant → Option Contender
+entrant_seat e = if nat_lt e.group group_count then Some (entrant_contender e) else None
 
 -- who is in and of a group
 abbrev pub entrant_in : ℕ → Entrant → Entrant

@@ -7,17 +7,17 @@ use Rattle.aps_model.specs.Limits.{most_partitions}
 use Rattle.aps_model.specs.Pick.{merit_among}
 use Rattle.aps_ready.specs.declared.entrant.Entrant.{Entrant}
 use Rattle.aps_ready.specs.Entrant.{entrant_at}
-use Rattle.aps_ready.specs.Ready.{facts_of, contender_of}
+use Rattle.aps_ready.specs.Ready.{entrant_facts, entrant_contender}
 use Rattle.aps_ready.specs.Best.{Sits}
 use Rattle.aps_ready.specs.Group.{group_count}
 
 -- somebody is there, and is a candidate
 abbrev pub is_candidate_at : List PartFacts → Entrant → Bool
-is_candidate_at parts e = nat_lt e.group group_count && is_candidate (facts_of e) (part_at parts (e.group % most_partitions))
+is_candidate_at parts e = nat_lt e.group group_count && is_candidate (entrant_facts e) (part_at parts (e.group % most_partitions))
 
 -- the merit of the first is greater
 abbrev pub is_above : Free → List PartFacts → Entrant → Entrant → Bool
-is_above free parts a b = is_greater free (merit_among parts (contender_of a)) (merit_among parts (contender_of b))
+is_above free parts a b = is_greater free (merit_among parts (entrant_contender a)) (merit_among parts (entrant_contender b))
 
 -- a candidate above whom no candidate of the row is; nobody exactly where the row has no candidate
 pub record IsWinner (free : Free) (parts : List PartFacts) (row : List Entrant) (best : Entrant) : Type 0 where

@@ -1,7 +1,7 @@
 //! The class and the priority of the greatest candidate, told by levels alone.
 ghost use Rattle.std.specs.Prelude.{◌≡◌, ◌-◌, ◌<◌};
 ghost use Rattle.aps_model.specs.Limits.{greatest_priority};
-ghost use Rattle.aps_levels.specs.Bits.{has};
+ghost use Rattle.aps_levels.specs.Bits.{set_has};
 ghost use Rattle.aps_levels.specs.Levels.{level_count};
 ghost use Rattle.aps_ready.specs.Highest.{IsHighest};
 ghost use Rattle.aps_ready.specs.Ready.{IsQueued};
@@ -33,7 +33,7 @@ pub fn ahead_at(class: u8, level: u16) -> Ahead
 #[inline(always)]
 pub fn highest(lists: &Lists, groups: Bits64) -> u16
     requires { IsQueued lists.now }
-    ensures { IsHighest lists.now (has groups) result }
+    ensures { IsHighest lists.now (set_has groups) result }
 {
     match lists.least(groups) {
         Some(found) => found.level as u16,

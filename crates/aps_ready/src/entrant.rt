@@ -3,7 +3,7 @@ ghost use Rattle.std.specs.Prelude.{◌≡◌, ◌<◌, ◌≤◌};
 ghost use Rattle.aps_model.specs.Limits.{greatest_priority, last_partition, last_thread};
 ghost use Rattle.aps_model.specs.declared.state.Facts.{Facts};
 ghost use Rattle.aps_ready.specs.Entrant.{vacant, entrant_of};
-ghost use Rattle.aps_ready.specs.Ready.{seat_of};
+ghost use Rattle.aps_ready.specs.Ready.{entrant_seat};
 ghost use Rattle.aps_ready.specs.Group.{group_count};
 
 use aps_model::{Contender, Facts, PartitionId, ThreadId};
@@ -58,7 +58,7 @@ pub fn entrant_of(x: ThreadId, facts: Facts, stamp: u64) -> Entrant
 #[inline(always)]
 pub fn seat_of(e: &Entrant, x: ThreadId) -> Option<Contender>
     requires { e.now.group < group_count → e.now.thread ≡ x }
-    ensures { result ≡ seat_of e.now }
+    ensures { result ≡ entrant_seat e.now }
 {
     if e.group < 64 {
         let partition = PartitionId::at((e.group % 32) as usize);

@@ -1,6 +1,6 @@
 //! The groups of those partitions that have used the least fraction of their budgets.
 ghost use Rattle.std.specs.Prelude.{◌≡◌, ℕ, ◌+◌, ◌<◌, ◌≤◌, ◌%◌, ◌||◌, ◌&&◌, nat_eq, nat_lt, true, false, length, Bool, All};
-ghost use Rattle.aps_levels.specs.Bits.{has};
+ghost use Rattle.aps_levels.specs.Bits.{set_has};
 ghost use Rattle.aps_model.specs.Budget.{part_at};
 ghost use Rattle.aps_model.specs.Limits.{most_partitions, most_used, thousandths};
 ghost use Rattle.aps_model.specs.Merit.{smaller};
@@ -26,8 +26,8 @@ pub struct Leaders {
 #[inline(always)]
 pub fn least_used(parts: &[PartFacts], groups: Bits64) -> Leaders
     requires small { All IsSmall parts.now }
-    requires known { (g : ℕ) → g < group_count → has groups g ≡ true → g % most_partitions < length parts.now }
-    ensures { AreLeaders parts.now (has groups) result }
+    requires known { (g : ℕ) → g < group_count → set_has groups g ≡ true → g % most_partitions < length parts.now }
+    ensures { AreLeaders parts.now (set_has groups) result }
 {
     let mut leaders = nobody();
     let mut left = partitions_of(groups).below(parts.len());
@@ -44,7 +44,7 @@ pub fn least_used(parts: &[PartFacts], groups: Bits64) -> Leaders
 /// The leaders where no group was seen.
 #[inline(always)]
 fn nobody() -> Leaders
-    ensures groups { (g : ℕ) → has result.groups g ≡ false }
+    ensures groups { (g : ℕ) → set_has result.groups g ≡ false }
     ensures used { result.used ≡ 1 }
     ensures budget { result.budget ≡ 0 }
 {
@@ -58,8 +58,8 @@ fn nobody() -> Leaders
 /// The partitions that any of the groups is of.
 #[inline(always)]
 pub fn partitions_of(groups: Bits64) -> Bits64
-    ensures some { (p : ℕ) → has result p ≡ true → HasGroup (has groups) p }
-    ensures all { (g : ℕ) → g < group_count → has groups g ≡ true → has result (g % most_partitions) ≡ true }
+    ensures some { (p : ℕ) → set_has result p ≡ true → HasGroup (set_has groups) p }
+    ensures all { (g : ℕ) → g < group_count → set_has groups g ≡ true → set_has result (g % most_partitions) ≡ true }
 {
     groups.join(groups.upper_half()).lower_half()
 }
@@ -67,14 +67,14 @@ pub fn partitions_of(groups: Bits64) -> Bits64
 /// The leaders after the groups of one more partition were seen. A group of it that isn't among these groups can come in too.
 #[inline(always)]
 fn with_partition(leaders: Leaders, parts: &[PartFacts], groups: Bits64, p: usize) -> Leaders
-    requires p { HasGroup (has groups) p }
+    requires p { HasGroup (set_has groups) p }
     requires known { p < length parts.now }
     requires small { All IsSmall parts.now }
     requires one { leaders.budget ≡ 0 → leaders.used ≡ 1 }
     requires used { leaders.used ≤ most_used }
     requires budget { leaders.budget ≤ thousandths }
     ensures { (seen : ℕ → Bool) → AreLeading parts.now seen leaders
-        → AreLeading parts.now (λ g. seen g || (has groups g && nat_eq (g % most_partitions) p)) result }
+        → AreLeading parts.now (λ g. seen g || (set_has groups g && nat_eq (g % most_partitions) p)) result }
 {
     let part = part_of(parts, p);
     let these = groups_of(p);
@@ -125,7 +125,7 @@ fn has_more(part: &PartFacts, leaders: &Leaders) -> bool
 #[inline(always)]
 fn groups_of(p: usize) -> Bits64
     requires { p < most_partitions }
-    ensures { (g : ℕ) → g < group_count → has result g ≡ nat_eq (g % most_partitions) p }
+    ensures { (g : ℕ) → g < group_count → set_has result g ≡ nat_eq (g % most_partitions) p }
 {
     Bits64::none().with(p).with(p + MOST_PARTITIONS)
 }

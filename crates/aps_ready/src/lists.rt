@@ -1,6 +1,6 @@
 //! The threads that are in, in lists: one for each level and group, in order of their stamps.
 ghost use Rattle.std.specs.Prelude.{◌≡◌, ◌≢◌, ℕ, ◌<◌, ◌≤◌, length, replicate, slice_set, nat_lt, IfOk, IfSome, IfNone, true, false};
-ghost use Rattle.aps_levels.specs.Bits.{has};
+ghost use Rattle.aps_levels.specs.Bits.{set_has};
 ghost use Rattle.aps_ready.specs.Entrant.{entrant_at, vacant};
 ghost use Rattle.aps_ready.specs.Firsts.{firsts_of, level_of, AreAt, AreEmpty, AreLeast};
 ghost use Rattle.aps_ready.specs.Leaders.{IsEarliest};
@@ -128,7 +128,7 @@ impl Lists {
     /// The groups that aren't empty.
     #[inline(always)]
     pub fn occupied(&self) -> Bits64
-        ensures { (g : ℕ) → g < group_count → has result g ≡ nat_lt (level_of (firsts_of self.now) g) level_count }
+        ensures { (g : ℕ) → g < group_count → set_has result g ≡ nat_lt (level_of (firsts_of self.now) g) level_count }
     {
         self.table.occupied()
     }
@@ -148,8 +148,8 @@ impl Lists {
     /// Of the groups of a set those at the least level of any of them; none exactly where all of them are empty.
     #[inline(always)]
     pub fn least(&self, set: Bits64) -> Option<Found>
-        ensures some { IfSome result (λ found. AreLeast (firsts_of self.now) (has set) (has found.groups)) }
-        ensures at { IfSome result (λ found. AreAt (firsts_of self.now) (has found.groups) found.level) }
+        ensures some { IfSome result (λ found. AreLeast (firsts_of self.now) (set_has set) (set_has found.groups)) }
+        ensures at { IfSome result (λ found. AreAt (firsts_of self.now) (set_has found.groups) found.level) }
         ensures none { IfNone result (AreEmpty (firsts_of self.now) set) }
     {
         self.table.least(set)
@@ -158,9 +158,9 @@ impl Lists {
     /// The first with the smallest stamp, of those of groups whose least level this is; nobody where there is no group.
     #[inline(always)]
     pub fn earliest(&self, level: usize, set: Bits64) -> Entrant
-        requires { AreAt (firsts_of self.now) (has set) level }
-        ensures some { (g : ℕ) → g < group_count → has set g ≡ true → IsEarliest (firsts_of self.now) (has set) result }
-        ensures none { ((g : ℕ) → has set g ≡ false) → result ≡ vacant }
+        requires { AreAt (firsts_of self.now) (set_has set) level }
+        ensures some { (g : ℕ) → g < group_count → set_has set g ≡ true → IsEarliest (firsts_of self.now) (set_has set) result }
+        ensures none { ((g : ℕ) → set_has set g ≡ false) → result ≡ vacant }
     {
         let Some(start) = set.least() else {
             return vacant();

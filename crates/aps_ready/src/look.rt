@@ -2,7 +2,7 @@
 ghost use Rattle.std.specs.Prelude.{◌≡◌, ℕ, ◌<◌, ◌%◌, true, false, length, IfSome, All};
 ghost use Rattle.aps_model.specs.declared.shape.Free.{Free};
 ghost use Rattle.aps_model.specs.Limits.{most_partitions};
-ghost use Rattle.aps_levels.specs.Bits.{has};
+ghost use Rattle.aps_levels.specs.Bits.{set_has};
 ghost use Rattle.aps_levels.specs.Levels.{level_count};
 ghost use Rattle.aps_ready.specs.Best.{IsBest};
 ghost use Rattle.aps_ready.specs.Firsts.{firsts_of, level_of, AreAt, IsOnly};
@@ -56,7 +56,7 @@ pub fn near(lists: &Lists, parts: &[PartFacts]) -> Entrant
 /// Whether the partitions of these groups exist.
 #[inline(always)]
 fn are_known(parts: &[PartFacts], groups: Bits64) -> bool
-    ensures { result ≡ true → (g : ℕ) → g < group_count → has groups g ≡ true → g % most_partitions < length parts.now }
+    ensures { result ≡ true → (g : ℕ) → g < group_count → set_has groups g ≡ true → g % most_partitions < length parts.now }
 {
     let all = partitions_of(groups);
     all.minus(all.below(parts.len())).is_empty()
@@ -94,9 +94,9 @@ fn likely_second(lists: &Lists, second: Bits64, free: Free) -> Bits64
 fn best_at_level(lists: &Lists, parts: &[PartFacts], level: usize, groups: Bits64) -> Entrant
     requires small { All IsSmall parts.now }
     requires queued { IsQueued lists.now }
-    requires level { AreAt (firsts_of lists.now) (has groups) level }
-    requires known { (g : ℕ) → g < group_count → has groups g ≡ true → g % most_partitions < length parts.now }
-    ensures { IsBest parts.now lists.now (has groups) result }
+    requires level { AreAt (firsts_of lists.now) (set_has groups) level }
+    requires known { (g : ℕ) → g < group_count → set_has groups g ≡ true → g % most_partitions < length parts.now }
+    ensures { IsBest parts.now lists.now (set_has groups) result }
 {
     match only(groups) {
         Some(group) => lists.first(level, group),
@@ -107,7 +107,7 @@ fn best_at_level(lists: &Lists, parts: &[PartFacts], level: usize, groups: Bits6
 /// The only group of a set, if it has one group alone.
 #[inline(always)]
 fn only(set: Bits64) -> Option<usize>
-    ensures { IfSome result (IsOnly (has set)) }
+    ensures { IfSome result (IsOnly (set_has set)) }
 {
     let Some(group) = set.least() else {
         return None;
@@ -126,9 +126,9 @@ fn only(set: Bits64) -> Option<usize>
 fn earliest_leader(lists: &Lists, parts: &[PartFacts], level: usize, groups: Bits64) -> Entrant
     requires small { All IsSmall parts.now }
     requires queued { IsQueued lists.now }
-    requires level { AreAt (firsts_of lists.now) (has groups) level }
-    requires known { (g : ℕ) → g < group_count → has groups g ≡ true → g % most_partitions < length parts.now }
-    ensures { IsBest parts.now lists.now (has groups) result }
+    requires level { AreAt (firsts_of lists.now) (set_has groups) level }
+    requires known { (g : ℕ) → g < group_count → set_has groups g ≡ true → g % most_partitions < length parts.now }
+    ensures { IsBest parts.now lists.now (set_has groups) result }
 {
     let leaders = least_used(parts, groups);
     if leaders.groups.is_empty() {
@@ -144,9 +144,9 @@ fn earliest_leader(lists: &Lists, parts: &[PartFacts], level: usize, groups: Bit
 fn highest_leader(lists: &Lists, parts: &[PartFacts], groups: Bits64) -> Entrant
     requires small { All IsSmall parts.now }
     requires queued { IsQueued lists.now }
-    requires occupied { (g : ℕ) → g < group_count → has groups g ≡ true → level_of (firsts_of lists.now) g < level_count }
-    requires known { (g : ℕ) → g < group_count → has groups g ≡ true → g % most_partitions < length parts.now }
-    ensures { IsBest parts.now lists.now (has groups) result }
+    requires occupied { (g : ℕ) → g < group_count → set_has groups g ≡ true → level_of (firsts_of lists.now) g < level_count }
+    requires known { (g : ℕ) → g < group_count → set_has groups g ≡ true → g % most_partitions < length parts.now }
+    ensures { IsBest parts.now lists.now (set_has groups) result }
 {
     match lists.least(least_used(parts, groups).groups) {
         Some(found) => lists.earliest(found.level, found.groups),

@@ -8,7 +8,7 @@ ghost use Rattle.aps_model.specs.declared.merit.PartFacts.{PartFacts};
 ghost use Rattle.aps_model.specs.declared.shape.Free.{Free};
 ghost use Rattle.aps_ready.specs.Ahead.{IsAhead};
 ghost use Rattle.aps_ready.specs.Gates.{AreGates};
-ghost use Rattle.aps_ready.specs.Ready.{contender_of, members, seat_of, without, IsFree, with_facts};
+ghost use Rattle.aps_ready.specs.Ready.{entrant_contender, members, entrant_seat, contenders_without, IsStampFree, with_facts};
 ghost use Rattle.aps_ready.specs.Small.{IsSmall};
 ghost use Rattle.aps_ready.specs.Group.{group_count};
 
@@ -48,11 +48,11 @@ impl Drop for Ready {
 impl Model for Ready {
     ghost use Rattle.std.specs.Prelude.{List, Option, map};
     ghost use Rattle.aps_model.specs.declared.merit.Contender.{Contender};
-    ghost use Rattle.aps_ready.specs.Ready.{seat_of, HasThreads, IsQueued};
+    ghost use Rattle.aps_ready.specs.Ready.{entrant_seat, HasThreads, IsQueued};
 
     ghost Value = { List (Option Contender) };
 
-    ghost view = { λ r. map seat_of r.lists };
+    ghost view = { λ r. map entrant_seat r.lists };
 
     ghost invariant = { λ r. IsQueued r.lists × HasThreads r.lists };
 }
@@ -84,7 +84,7 @@ impl Ready {
     pub fn put(&mut self, x: ThreadId, facts: Facts, stamp: u64)
         requires inside { x < length self.old }
         requires out { slice_index_or self.old x None ≡ None }
-        requires stamp { All (IsFree stamp) self.old }
+        requires stamp { All (IsStampFree stamp) self.old }
         ensures { self.new ≡ slice_set self.old x (Some (record { thread = x; facts = facts; stamp = stamp })) }
     {
         self.lists.enter(entrant_of(x, facts, stamp));
@@ -186,7 +186,7 @@ impl Ready {
         requires gates { AreGates parts.now gates }
         requires small { All IsSmall parts.now }
         ensures picked { result ≡ greatest free parts.now (members self.old) }
-        ensures out { self.new ≡ without result self.old }
+        ensures out { self.new ≡ contenders_without result self.old }
     {
         let best = self.greatest(gates, parts, free);
         if best.group < 64 {
@@ -202,7 +202,7 @@ impl Ready {
         requires gates { AreGates parts.now gates }
         requires small { All IsSmall parts.now }
         ensures picked { result.picked ≡ greatest free parts.now (members self.old) }
-        ensures out { self.new ≡ without result.picked self.old }
+        ensures out { self.new ≡ contenders_without result.picked self.old }
         ensures left { result.left ≡ greatest free parts.now (members self.new) }
     {
         let picked = self.take_greatest(gates, parts, free);
@@ -216,7 +216,7 @@ impl Ready {
         requires thread { one.now.thread ≤ last_thread }
         requires inside { one.now.thread < length self.old }
         requires present { slice_index_or self.old one.now.thread None ≢ None }
-        ensures picked { result ≡ Some (contender_of one.now) }
+        ensures picked { result ≡ Some (entrant_contender one.now) }
         ensures out { self.new ≡ slice_set self.old one.now.thread None }
     {
         let x = ThreadId::at(one.thread as usize);
@@ -229,7 +229,7 @@ impl Ready {
     fn greatest(&self, gates: Gates, parts: &[PartFacts], free: Free) -> Entrant
         requires gates { AreGates parts.now gates }
         requires small { All IsSmall parts.now }
-        ensures greatest { seat_of result ≡ greatest free parts.now (members self.now) }
+        ensures greatest { entrant_seat result ≡ greatest free parts.now (members self.now) }
         ensures thread { result.group < group_count → result.thread ≤ last_thread }
         ensures inside { result.group < group_count → result.thread < length self.now }
         ensures present { result.group < group_count → slice_index_or self.now result.thread None ≢ None }
@@ -241,7 +241,7 @@ impl Ready {
     #[inline(always)]
     fn nearest(&self, parts: &[PartFacts]) -> Entrant
         requires small { All IsSmall parts.now }
-        ensures greatest { (free : Free) → result.group < group_count → seat_of result ≡ greatest free parts.now (members self.now) }
+        ensures greatest { (free : Free) → result.group < group_count → entrant_seat result ≡ greatest free parts.now (members self.now) }
         ensures thread { result.group < group_count → result.thread ≤ last_thread }
         ensures inside { result.group < group_count → result.thread < length self.now }
         ensures present { result.group < group_count → slice_index_or self.now result.thread None ≢ None }
@@ -275,7 +275,7 @@ impl Ready {
 /// What is known of the thread that an entrant stands for, if it is anybody.
 fn known(e: &Entrant) -> Option<Contender>
     requires { e.now.group < group_count → e.now.thread ≤ last_thread }
-    ensures { result ≡ seat_of e.now }
+    ensures { result ≡ entrant_seat e.now }
 {
     if e.group < 64 {
         seat_of(e, ThreadId::at(e.thread as usize))

@@ -1,8 +1,8 @@
 //! Which groups have somebody at which level.
 ghost use Rattle.std.specs.Prelude.{◌≡◌, ℕ, ◌+◌, ◌<◌, ◌≤◌, ◌&&◌, ◌||◌, not, length, nat_eq, IfOk, IfSome, IfNone, true, false};
-ghost use Rattle.aps_levels.specs.Bits.{has};
+ghost use Rattle.aps_levels.specs.Bits.{set_has};
 ghost use Rattle.aps_levels.specs.Levels.{has_level, level_count};
-ghost use Rattle.aps_ready.specs.Table.{bits_at, levels_at, AreAtLeast, HasLevel, IsFirst, IsFree};
+ghost use Rattle.aps_ready.specs.Table.{bits_at, levels_at, AreAtLeast, HasLevel, IsFirstLevel, IsLevelFree};
 ghost use Rattle.aps_ready.specs.Group.{group_count};
 
 use aps_levels::{Bits64, Levels};
@@ -35,19 +35,19 @@ pub struct Table {
 impl Model for Table {
     ghost use Rattle.std.specs.Prelude.{List};
     ghost use Rattle.aps_levels.specs.declared.bits.Bits64.{Bits64};
-    ghost use Rattle.aps_ready.specs.Table.{IsTable};
+    ghost use Rattle.aps_ready.specs.Table.{IsLevelTable};
 
     ghost Value = { List Bits64 };
 
     ghost view = { λ t. t.at_level.items };
 
-    ghost invariant = { λ t. IsTable t.at_level.items t.levels t.of_group.items t.occupied };
+    ghost invariant = { λ t. IsLevelTable t.at_level.items t.levels t.of_group.items t.occupied };
 }
 
 impl Table {
     /// No group is at any level.
     pub fn new(alloc: Global) -> Result<Table, NoMemory>
-        ensures { IfOk result (λ table. (l g : ℕ) → has (bits_at table l) g ≡ false) }
+        ensures { IfOk result (λ table. (l g : ℕ) → set_has (bits_at table l) g ≡ false) }
     {
         let at_level = vec![in alloc; Bits64::none(); 256]?;
         let of_group = vec![in alloc; Levels::none(); 64]?;
@@ -65,7 +65,7 @@ impl Table {
         requires level { level < level_count }
         requires group { group < group_count }
         ensures { (l g : ℕ) → l < level_count
-            → has (bits_at self.new l) g ≡ ((nat_eq l level && nat_eq g group) || has (bits_at self.old l) g) }
+            → set_has (bits_at self.new l) g ≡ ((nat_eq l level && nat_eq g group) || set_has (bits_at self.old l) g) }
     {
         add_group(&mut self.at_level, level, group);
         add_level(&mut self.of_group, level, group);
@@ -79,7 +79,7 @@ impl Table {
         requires level { level < level_count }
         requires group { group < group_count }
         ensures { (l g : ℕ) → l < level_count
-            → has (bits_at self.new l) g ≡ (not (nat_eq l level && nat_eq g group) && has (bits_at self.old l) g) }
+            → set_has (bits_at self.new l) g ≡ (not (nat_eq l level && nat_eq g group) && set_has (bits_at self.old l) g) }
     {
         remove_group(&mut self.at_level, &mut self.levels, level, group);
         self.occupied = remove_level(&mut self.of_group, self.occupied, level, group);
@@ -88,8 +88,8 @@ impl Table {
     /// The groups that are at any level.
     #[inline(always)]
     pub fn occupied(&self) -> Bits64
-        ensures some { (g : ℕ) → g < group_count → has result g ≡ true → HasLevel self.now g }
-        ensures all { (l g : ℕ) → l < level_count → g < group_count → has (bits_at self.now l) g ≡ true → has result g ≡ true }
+        ensures some { (g : ℕ) → g < group_count → set_has result g ≡ true → HasLevel self.now g }
+        ensures all { (l g : ℕ) → l < level_count → g < group_count → set_has (bits_at self.now l) g ≡ true → set_has result g ≡ true }
     {
         self.occupied
     }
@@ -97,8 +97,8 @@ impl Table {
     /// Of the groups of a set those at the least level at which any of them is; none exactly where none is at any.
     #[inline(always)]
     pub fn least(&self, set: Bits64) -> Option<Found>
-        ensures some { IfSome result (λ found. AreAtLeast self.now (has set) found.level (has found.groups)) }
-        ensures none { IfNone result ((l : ℕ) → l < level_count → IsFree self.now (has set) l) }
+        ensures some { IfSome result (λ found. AreAtLeast self.now (set_has set) found.level (set_has found.groups)) }
+        ensures none { IfNone result ((l : ℕ) → l < level_count → IsLevelFree self.now (set_has set) l) }
     {
         'quarters: for q in 0..QUARTERS {
             let word = self.levels.quarter(q);
@@ -114,8 +114,8 @@ impl Table {
 #[inline(always)]
 fn least_among(at_level: &[Bits64], word: Bits64, from: usize, set: Bits64) -> Option<Found>
     requires { from + 64 ≤ length at_level.now }
-    ensures some { IfSome result (λ found. IsFirst at_level.now word (has set) from found.level (has found.groups)) }
-    ensures none { IfNone result ((k : ℕ) → k < 64 → has word k ≡ true → IsFree at_level.now (has set) (from + k)) }
+    ensures some { IfSome result (λ found. IsFirstLevel at_level.now word (set_has set) from found.level (set_has found.groups)) }
+    ensures none { IfNone result ((k : ℕ) → k < 64 → set_has word k ≡ true → IsLevelFree at_level.now (set_has set) (from + k)) }
 {
     let mut left = word;
     'levels: while let Some(place) = left.least() {
@@ -135,8 +135,8 @@ fn add_group(at_level: &mut Vec<Bits64>, level: usize, group: usize)
     requires level { level < length at_level.old.items }
     requires group { group < group_count }
     ensures count { length at_level.new.items ≡ length at_level.old.items }
-    ensures at { (l g : ℕ) → has (bits_at at_level.new.items l) g
-        ≡ ((nat_eq l level && nat_eq g group) || has (bits_at at_level.old.items l) g) }
+    ensures at { (l g : ℕ) → set_has (bits_at at_level.new.items l) g
+        ≡ ((nat_eq l level && nat_eq g group) || set_has (bits_at at_level.old.items l) g) }
 {
     at_level[level] = at_level[level].with(group);
 }
@@ -160,12 +160,12 @@ fn remove_group(at_level: &mut Vec<Bits64>, levels: &mut Levels, level: usize, g
     requires group { group < group_count }
     requires count { length at_level.old.items ≡ level_count }
     ensures count { length at_level.new.items ≡ level_count }
-    ensures at { (l g : ℕ) → has (bits_at at_level.new.items l) g
-        ≡ (not (nat_eq l level && nat_eq g group) && has (bits_at at_level.old.items l) g) }
-    ensures in_use { (l g : ℕ) → l < level_count → g < group_count → has (bits_at at_level.new.items l) g ≡ true
+    ensures at { (l g : ℕ) → set_has (bits_at at_level.new.items l) g
+        ≡ (not (nat_eq l level && nat_eq g group) && set_has (bits_at at_level.old.items l) g) }
+    ensures in_use { (l g : ℕ) → l < level_count → g < group_count → set_has (bits_at at_level.new.items l) g ≡ true
         → has_level levels.old l ≡ true → has_level levels.new l ≡ true }
     ensures before { (l : ℕ) → has_level levels.new l ≡ true → has_level levels.old l ≡ true }
-    ensures own { has_level levels.new level ≡ true → (g : ℕ) × (g < group_count) × (has (bits_at at_level.new.items level) g ≡ true) }
+    ensures own { has_level levels.new level ≡ true → (g : ℕ) × (g < group_count) × (set_has (bits_at at_level.new.items level) g ≡ true) }
 {
     let rest = at_level[level].without(group);
     at_level[level] = rest;
@@ -184,9 +184,9 @@ fn remove_level(of_group: &mut Vec<Levels>, occupied: Bits64, level: usize, grou
     ensures at { (l g : ℕ) → has_level (levels_at of_group.new.items g) l
         ≡ (not (nat_eq l level && nat_eq g group) && has_level (levels_at of_group.old.items g) l) }
     ensures all { (l g : ℕ) → l < level_count → g < group_count → has_level (levels_at of_group.new.items g) l ≡ true
-        → has occupied g ≡ true → has result g ≡ true }
-    ensures before { (g : ℕ) → has result g ≡ true → has occupied g ≡ true }
-    ensures own { has result group ≡ true → (l : ℕ) × (l < level_count) × (has_level (levels_at of_group.new.items group) l ≡ true) }
+        → set_has occupied g ≡ true → set_has result g ≡ true }
+    ensures before { (g : ℕ) → set_has result g ≡ true → set_has occupied g ≡ true }
+    ensures own { set_has result group ≡ true → (l : ℕ) × (l < level_count) × (has_level (levels_at of_group.new.items group) l ≡ true) }
 {
     let rest = &mut of_group[group];
     rest.remove(level);

@@ -4,11 +4,11 @@ use Rattle.aps_model.specs.declared.shape.Shape.{Shape}
 use Rattle.aps_model.specs.Usage.{names}
 use Rattle.aps_model.specs.History.{IsEntry}
 use Rattle.aps_model.specs.Limits.{longest_tick, most_partitions}
-use Rattle.aps_report.specs.Windows.{cell_of, part_in, billed_in, is_between, HaveCellRoom, HaveParts, HaveEntry, AreUsed}
+use Rattle.aps_report.specs.Windows.{cell_of, part_in_window, billed_in, is_between, HaveCellRoom, HaveParts, HaveEntry, AreUsed}
 use Rattle.aps_report.proofs.Spans.{Reaches, reached}
 use Rattle.aps_report.proofs.Sums.{few, part}
 
-short : (shape : Shape) (k : ℕ) (e : Entry) → IsEntry e → part_in shape k e ≤ longest_tick
+short : (shape : Shape) (k : ℕ) (e : Entry) → IsEntry e → part_in_window shape k e ≤ longest_tick
 short shape k e is = omega (arith, is.short)
 
 -- what the first entries use is far below the greatest number
@@ -21,7 +21,7 @@ used-HaveCellRoom shape h i windows cells entries small so_far = record {
 }
 
 -- what an entry bills, in a window
-billed-is : (shape : Shape) (k q p : ℕ) (e : Entry) → e.billed ≡ Some p → billed_in shape k q e ≡ (if nat_eq p q then part_in shape k e else 0)
+billed-is : (shape : Shape) (k q p : ℕ) (e : Entry) → e.billed ≡ Some p → billed_in shape k q e ≡ (if nat_eq p q then part_in_window shape k e else 0)
 billed-is shape k q p e is = rw is refl
 
 -- the parts in the windows that the entry reaches are all of it

@@ -4,7 +4,7 @@ use Rattle.std.proofs.Math.Nat.{mul-le-mul_right, div-mul-le_self, lt-div-mul-ad
 use Rattle.aps_model.specs.declared.entry.Entry.{Entry}
 use Rattle.aps_model.specs.declared.shape.Shape.{Shape}
 use Rattle.aps_model.specs.Limits.{shortest_tick, shortest_window}
-use Rattle.aps_report.specs.Windows.{part_in, is_between}
+use Rattle.aps_report.specs.Windows.{part_in_window, is_between}
 
 -- a window takes time
 pub some_span : (w t : ℕ) → shortest_window ≤ w → shortest_tick ≤ t → 0 < w * t
@@ -35,7 +35,7 @@ after k s from to some later =
 
 -- what a window has of an entry, by the length of a window
 part-is : (shape : Shape) (k : ℕ) (e : Entry) (s : ℕ) → s ≡ shape.window * shape.tick
-    → part_in shape k e ≡ min e.to (k * s + s) - max e.from (k * s)
+    → part_in_window shape k e ≡ min e.to (k * s + s) - max e.from (k * s)
 part-is shape k e s is = rw (is, next k shape.window shape.tick, begin k shape.window shape.tick) refl
 
 -- the windows that an entry reaches, of so many
@@ -46,7 +46,7 @@ pub record Reaches (s windows first past : ℕ) (e : Entry) : Type 0 where
   pub start : first ≡ min (e.from / s) past
 
 outside-by : (shape : Shape) (e : Entry) (s windows first past k : ℕ) → s ≡ shape.window * shape.tick → Reaches s windows first past e → k < windows
-    → (b : Bool) → nat_le first k ≡ b → is_between first past k ≡ false → part_in shape k e ≡ 0
+    → (b : Bool) → nat_le first k ≡ b → is_between first past k ≡ false → part_in_window shape k e ≡ 0
 outside-by shape e s windows first past k is reach known true low out =
     let late : past ≤ k = grind (arith, nat_tests) in
     part-is shape k e s is ∙ after k s e.from e.to reach.some (omega (arith, reach.end))
@@ -57,7 +57,7 @@ outside-by shape e s windows first past k is reach known false low out =
 -- so outside of these windows nothing is left out
 pub reached : (shape : Shape) (e : Entry) (s windows first past p k : ℕ) → s ≡ shape.window * shape.tick → Reaches s windows first past e → k < windows
     → (q : ℕ) → (b : Bool) → is_between first past k ≡ b
-    → (if nat_eq p q && is_between first past k then part_in shape k e else 0) ≡ (if nat_eq p q then part_in shape k e else 0)
+    → (if nat_eq p q && is_between first past k then part_in_window shape k e else 0) ≡ (if nat_eq p q then part_in_window shape k e else 0)
 reached shape e s windows first past p k is reach known q true between = rw between (grind (arith, nat_tests))
 reached shape e s windows first past p k is reach known q false out =
     let nothing = outside-by shape e s windows first past k is reach known (nat_le first k) refl out in

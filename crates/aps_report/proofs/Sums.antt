@@ -10,7 +10,7 @@ use Rattle.aps_model.specs.History.{IsEntry}
 use Rattle.aps_model.specs.Report.{length_of, total_billed, total_critical, total_ran, total_idle}
 use Rattle.std.proofs.Common.{replicate}
 use Rattle.aps_model.specs.Limits.{longest_tick, most_partitions, most_threads}
-use Rattle.aps_report.specs.Totals.{added, unless_some, Sums, HavePlaces, no_time, sums_with, HaveRoom, AreSums}
+use Rattle.aps_report.specs.Totals.{added, unless_some, Sums, HavePlaces, no_sums, sums_with, HaveRoom, AreSums}
 
 -- what an addition leaves at a place
 added-at : (xs : List ℕ) (place : Option ℕ) (n i : ℕ) → i < length xs
@@ -37,7 +37,7 @@ idle_more : (h : List Entry) (e : Entry) → total_idle (h ++ e ∷ []) ≡ tota
 idle_more h e = sum_by_push _ h e ∙ ap (λ n. total_idle h + n) (idle-at e.ran (length_of e))
 
 -- the sums over no entries
-pub sums_none : AreSums [] no_time
+pub sums_none : AreSums [] no_sums
 sums_none = record {
   billed = λ p small. get_or-replicate most_partitions p 0 0 small;
   critical = λ p small. get_or-replicate most_partitions p 0 0 small;
@@ -83,5 +83,5 @@ same_parts sums billed critical ran b k r i =
     ∙ ap (λ x. made billed critical x sums.idle) r ∙ ap (λ x. made billed critical ran x) i
 
 pub no_time-by : (sums : Sums) → sums.billed ≡ replicate most_partitions 0 → sums.critical ≡ replicate most_partitions 0 → sums.ran ≡ replicate most_threads 0 → sums.idle ≡ 0
-    → sums ≡ no_time
+    → sums ≡ no_sums
 no_time-by sums b k r i = same_parts sums (replicate most_partitions 0) (replicate most_partitions 0) (replicate most_threads 0) b k r i

@@ -7,7 +7,7 @@ use Rattle.aps_model.specs.Journal.{line_of}
 use Rattle.aps_model.specs.Limits.{most_partitions}
 use Rattle.aps_model.specs.Loaded.{finished_ticks}
 use Rattle.aps_model.specs.Report.{end_line, window_line, windows_text}
-use Rattle.aps_report.specs.Windows.{cell_of, cell_words, used_in, window_with, AreUsed}
+use Rattle.aps_report.specs.Windows.{cell_of, cell_words, used_in_window, window_with, AreUsed}
 use Rattle.aps_report.proofs.Ranges.{flat_map_range, map_range}
 
 -- words with a space between each two: the first, and each other after a space
@@ -43,7 +43,7 @@ window-by cells rows window k first start t1 t2 t3 is e1 e2 e3 =
 lines_same : (h : History) (windows : ℕ) (cells : List ℕ) → AreUsed h.shape h.entries windows cells → length h.rows ≤ most_partitions → (k : ℕ) → k < windows
     → window_with cells (length h.rows) h.shape.window k ≡ window_line h (k * h.shape.window)
 lines_same h windows cells are few k known =
-    let columns = map_range (λ p. decimal (cell_of cells k p)) (λ p. decimal (used_in h.shape h.entries k p)) (length h.rows)
+    let columns = map_range (λ p. decimal (cell_of cells k p)) (λ p. decimal (used_in_window h.shape h.entries k p)) (length h.rows)
     (λ p here. ap decimal (are.each k p known (omega arith))) in
     ap (λ words. line_of (codes "window" ∷ decimal (k * h.shape.window) ∷ words)) columns
 

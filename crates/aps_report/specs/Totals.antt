@@ -17,8 +17,8 @@ pub record HavePlaces (sums : Sums) : Type 0 where
   pub critical : length sums.critical ≡ most_partitions
   pub ran : length sums.ran ≡ most_threads
 
-abbrev pub no_time : Sums
-no_time = record { billed = replicate most_partitions 0; critical = replicate most_partitions 0; ran = replicate most_threads 0; idle = 0 }
+abbrev pub no_sums : Sums
+no_sums = record { billed = replicate most_partitions 0; critical = replicate most_partitions 0; ran = replicate most_threads 0; idle = 0 }
 
 -- the numbers with so much added at a place, where there is one
 abbrev pub added : List ℕ → Option ℕ → ℕ → List ℕ

@@ -13,16 +13,16 @@ abbrev pub cell_of : List ℕ → ℕ → ℕ → ℕ
 cell_of cells k p = slice_index cells (k * most_partitions + p)
 
 -- the part of an entry's time that lies in a window
-abbrev pub part_in : Shape → ℕ → Entry → ℕ
-part_in shape k e = overlap shape.tick (k * shape.window) (k * shape.window + shape.window) e.from e.to
+abbrev pub part_in_window : Shape → ℕ → Entry → ℕ
+part_in_window shape k e = overlap shape.tick (k * shape.window) (k * shape.window + shape.window) e.from e.to
 
 -- what an entry bills to a partition in a window
 abbrev pub billed_in : Shape → ℕ → ℕ → Entry → ℕ
 billed_in shape k p e = billed_by shape.tick p (k * shape.window) (k * shape.window + shape.window) e
 
 -- what a partition used in a window
-abbrev pub used_in : Shape → List Entry → ℕ → ℕ → ℕ
-used_in shape h k p = used shape.tick h p (k * shape.window) (k * shape.window + shape.window)
+abbrev pub used_in_window : Shape → List Entry → ℕ → ℕ → ℕ
+used_in_window shape h k p = used shape.tick h p (k * shape.window) (k * shape.window + shape.window)
 
 -- the time of one more entry can be added to each cell
 pub record HaveCellRoom (cells : List ℕ) : Type 0 where
@@ -36,7 +36,7 @@ is_between first past k = nat_le first k && nat_lt k past
 pub record HaveParts (shape : Shape) (e : Entry) (p first past : ℕ) (before after : List ℕ) : Type 0 where
   pub places : length after ≡ length before
   pub each : (k q : ℕ) → q < most_partitions → k * most_partitions + q < length before
-      → cell_of after k q ≡ cell_of before k q + (if nat_eq p q && is_between first past k then part_in shape k e else 0)
+      → cell_of after k q ≡ cell_of before k q + (if nat_eq p q && is_between first past k then part_in_window shape k e else 0)
 
 -- the cells with an entry's time added
 pub record HaveEntry (shape : Shape) (e : Entry) (before after : List ℕ) : Type 0 where
@@ -47,7 +47,7 @@ pub record HaveEntry (shape : Shape) (e : Entry) (before after : List ℕ) : Typ
 -- the cells are what each partition used in each window
 pub record AreUsed (shape : Shape) (h : List Entry) (windows : ℕ) (cells : List ℕ) : Type 0 where
   pub places : length cells ≡ windows * most_partitions
-  pub each : (k p : ℕ) → k < windows → p < most_partitions → cell_of cells k p ≡ used_in shape h k p
+  pub each : (k p : ℕ) → k < windows → p < most_partitions → cell_of cells k p ≡ used_in_window shape h k p
 
 -- a cell with the space before it
 abbrev pub cell_words : List ℕ → ℕ → ℕ → List ℕ

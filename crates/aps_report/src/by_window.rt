@@ -4,7 +4,7 @@ ghost use Rattle.std.specs.List.{flat_map, range_with_len};
 ghost use Rattle.aps_model.specs.Shape.{IsShape};
 ghost use Rattle.aps_model.specs.History.{IsEntry};
 ghost use Rattle.aps_model.specs.Report.{windows_text};
-ghost use Rattle.aps_report.specs.Windows.{part_in, cell_words, window_with, HaveCellRoom, HaveParts, HaveEntry, AreUsed};
+ghost use Rattle.aps_report.specs.Windows.{part_in_window, cell_words, window_with, HaveCellRoom, HaveParts, HaveEntry, AreUsed};
 ghost use Rattle.aps_model.specs.Limits.{last_moment, last_tick, longest_tick, most_partitions};
 
 use crate::lines::add_end;
@@ -173,7 +173,7 @@ fn part_in(shape: &Shape, k: usize, e: &Entry) -> u64
     requires shape { IsShape shape.now }
     requires window { k ≤ last_tick }
     requires entry { IsEntry e.now }
-    ensures same { result ≡ part_in shape.now k e.now }
+    ensures same { result ≡ part_in_window shape.now k e.now }
     ensures short { result ≤ longest_tick }
 {
     let first = k as u64 * u64::from(shape.window);

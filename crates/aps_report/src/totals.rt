@@ -2,7 +2,7 @@
 ghost use Rattle.std.specs.Prelude.{◌≡◌, ◌<◌, All, IfOk, slice_index};
 ghost use Rattle.aps_model.specs.History.{IsEntry};
 ghost use Rattle.aps_model.specs.Limits.{most_partitions, most_threads};
-ghost use Rattle.aps_report.specs.Totals.{no_time, sums_with, HavePlaces, HaveRoom, AreSums};
+ghost use Rattle.aps_report.specs.Totals.{no_sums, sums_with, HavePlaces, HaveRoom, AreSums};
 
 use crate::zeros::zeros;
 use aps_model::limits::{MOST_PARTITIONS, MOST_THREADS};
@@ -46,7 +46,7 @@ impl Totals {
     }
 
     fn none(alloc: Global) -> Result<Totals, NoMemory>
-        ensures { IfOk result (λ t. t ≡ no_time) }
+        ensures { IfOk result (λ t. t ≡ no_sums) }
     {
         Ok(Totals {
             billed: zeros(alloc, MOST_PARTITIONS)?,

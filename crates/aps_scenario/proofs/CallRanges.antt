@@ -18,9 +18,9 @@ use Rattle.aps_scenario.specs.declared.words.CommandKind.{CommandKind}
 use Rattle.aps_scenario.specs.declared.words.CommandKind.TheVariants.{Create, Modify, Lookup, QueryPartition, QueryThread, QueryParameters, SetParameters, Statistics, MarkCritical, ClearCritical}
 use Rattle.aps_scenario.specs.Key.{key_text}
 use Rattle.aps_scenario.specs.Partitions.{row_budget, row_critical, row_max, system_name}
-use Rattle.aps_scenario.specs.Row.{Row, row_integer, row_name, name, value_of, at_key, given, optional, some_of}
+use Rattle.aps_scenario.specs.Row.{Row, row_integer, row_name, name, value_of, at_key, given_or_default, optional, some_of}
 use Rattle.aps_scenario.specs.Sizes.{row_window, row_free, row_limit, row_bankruptcy}
-use Rattle.aps_scenario.specs.Calls.{has_key, some_key, row_partition_name, thread_named, row_thread, create_at, modify_at, set_parameters_at, on_partition_at, on_thread_at, call_at}
+use Rattle.aps_scenario.specs.Calls.{has_key, some_key, row_partition_name, thread_by_name, row_thread, create_at, modify_at, set_parameters_at, on_partition_at, on_thread_at, call_at}
 use Rattle.aps_scenario.proofs.Trees.{or_unknown-ok, system_named}
 use Rattle.aps_scenario.proofs.Values.{bind-ok, ok-same, refuse_if-ok, value_of-ok, named-ok, named_or-ok, required-ok, defaulted-ok, optional-ok, integer-ok, InRange}
 
@@ -34,7 +34,7 @@ there {A = A} row place t x has e = by_member (get_member (key_text row.key) t) 
     read d (Ok y) e = let same : Some y ≡ x = cc in subst IsSome same refl
     read d (Err kind) e = absurd (cc)
 
-    by_member : (o : Option Data) → is_some o ≡ true → at_key place row.key (given (optional row) o) ≡ Ok x → IsSome x
+    by_member : (o : Option Data) → is_some o ≡ true → at_key place row.key (given_or_default (optional row) o) ≡ Ok x → IsSome x
     by_member None has e = absurd (cc)
     by_member (Some d) has e = read d (row.reads d) e
 
@@ -176,7 +176,7 @@ module _ (parts : ℕ) (place : Place) (t : Members) (asked : Call) where
         | inl none ↦ absurd (cc)
         | inr p ↦
             let q = bind-ok (name p.0) _ x p.1 in
-            let found = position-Some _ threads x no_thread_row (or_unknown-ok (thread_named threads q.0) x q.2) in
+            let found = position-Some _ threads x no_thread_row (or_unknown-ok (thread_by_name threads q.0) x q.2) in
             found.0
       ]
 

@@ -14,23 +14,23 @@ use Rattle.aps_scenario.specs.declared.refusal.Place.{Place}
 use Rattle.aps_scenario.specs.declared.refusal.Place.TheVariants as place
 use Rattle.aps_scenario.specs.Row.{table_of, only, value_of, row_name, refuse_if}
 use Rattle.aps_scenario.specs.Elements.{items_len, row_tables}
-use Rattle.aps_scenario.specs.Channels.{channel_at, channels_at, next_channel, channels_with_new, channel_keys, is_among}
+use Rattle.aps_scenario.specs.Channels.{channel_read_at, channels_at, next_channel, channels_with_new, channel_keys, is_name_among}
 use Rattle.aps_scenario.proofs.Values.{bind-ok, ok-same, refuse_if-ok, named-ok}
 use Rattle.aps_scenario.proofs.Elements.{read_each-keeps, tables-ok}
 
 -- what is known of a channel that was read, over these channels
 record IsNew (channels : List (List ℕ)) (new : List ℕ) : Type 0 where
   pub name : IsName new
-  pub other : is_among channels new ≡ false
+  pub other : is_name_among channels new ≡ false
 
 next_channel-ok : (channels : List (List ℕ)) (d : Data) (new : List ℕ) → next_channel channels d ≡ Ok new → IsNew channels new
-unfolding channel_at
+unfolding channel_read_at
 next_channel-ok channels d new e =
     let here : Place = place.Channel (length channels) in
     let p = bind-ok (table_of here d) _ new e in
     let q = bind-ok (only channel_keys here p.0) _ new p.2 in
     let name = bind-ok (value_of (row_name Name None) here p.0) _ new q.2 in
-    let other = bind-ok (refuse_if (is_among channels name.0) Duplicate here Name) _ new name.2 in
+    let other = bind-ok (refuse_if (is_name_among channels name.0) Duplicate here Name) _ new name.2 in
     let same : name.0 ≡ new = ok-same name.0 new _ refl other.2 in
     subst (IsNew channels) same (record { name = named-ok Name _ p.0 name.0 name.1; other = refuse_if-ok _ _ _ _ other.0 other.1 })
 

@@ -8,7 +8,7 @@ use Rattle.aps_model.specs.declared.command.CommandRow.{CommandRow}
 use Rattle.aps_model.specs.declared.scenario.ThreadRow.{ThreadRow}
 use Rattle.aps_model.specs.declared.shape.Shape.{Shape}
 use Rattle.aps_model.specs.Limits.{most_commands}
-use Rattle.aps_model.specs.Valid.{IsCommand, created_name as created_by}
+use Rattle.aps_model.specs.Valid.{IsCommand, name_to_create as created_by}
 use Rattle.aps_scenario.specs.declared.key.Key.TheVariants.{Command, Name, Tick}
 use Rattle.aps_scenario.specs.declared.kind.Kind.{Kind}
 use Rattle.aps_scenario.specs.declared.kind.Kind.TheVariants.{OutOfRange}
@@ -17,11 +17,11 @@ use Rattle.aps_scenario.specs.declared.refusal.Place.TheVariants as place
 use Rattle.aps_scenario.specs.declared.words.CommandKind.{CommandKind}
 use Rattle.aps_scenario.specs.declared.words.CommandKind.TheVariants.{Create, Modify, Lookup, QueryPartition, QueryThread, QueryParameters, SetParameters, Statistics, MarkCritical, ClearCritical}
 use Rattle.aps_scenario.specs.Calls.{command_keys, call_at}
-use Rattle.aps_scenario.specs.Commands.{command_at, next_command, commands_with_new, commands_at, row_command_tick, row_kind}
+use Rattle.aps_scenario.specs.Commands.{command_read_at, next_command, commands_with_new, commands_at, row_command_tick, row_kind}
 use Rattle.aps_scenario.specs.Elements.{read_each, items_len, items_or_none, array_of, row_tables}
-use Rattle.aps_scenario.specs.Joinable.{ok_of, then_of, command_kind, own_name, where_create, created_name, created_names, commands_in, created_at, listed}
+use Rattle.aps_scenario.specs.Joinable.{ok_of, then_of, command_kind, own_name, where_create, name_to_create, created_names, commands_in, created_at, name_listed}
 use Rattle.aps_scenario.specs.Key.{key_text}
-use Rattle.aps_scenario.specs.Row.{Row, table_of, table_or_wrong_kind, only, value_of, at_key, given, row_name, or_wrong_kind}
+use Rattle.aps_scenario.specs.Row.{Row, table_of, table_or_wrong_kind, only, value_of, at_key, given_or_default, row_name, or_wrong_kind}
 use Rattle.aps_scenario.proofs.CallRanges.{IsOther, IsReadCall, call_at-ok}
 use Rattle.aps_scenario.proofs.Elements.{read_each-keeps, tables-ok}
 use Rattle.aps_scenario.proofs.Values.{bind-ok, ok-same, cond-ok, required-ok}
@@ -35,7 +35,7 @@ required {A = A} row place t x none e = by_member (get_member (key_text row.key)
     read (Ok y) e = let same : y ≡ x = cc in ap (λ z. Some z) same
     read (Err kind) e = absurd (cc)
 
-    by_member : (o : Option Data) → at_key place row.key (given row o) ≡ Ok x → then_of o (λ d. ok_of (row.reads d)) ≡ Some x
+    by_member : (o : Option Data) → at_key place row.key (given_or_default row o) ≡ Ok x → then_of o (λ d. ok_of (row.reads d)) ≡ Some x
     by_member None e = absurd (let missing = rw none at e in cc)
     by_member (Some d) e = read (row.reads d) e
 
@@ -53,7 +53,7 @@ module _ (shape : Shape) (threads : List ThreadRow) (some_tick : 1 ≤ shape.tic
   -- what is known of a command that was read from an element
   record IsNew (d : Data) (row : CommandRow) : Type 0 where
     pub valid : IsOne row
-    pub named : created_name d ≡ created_by row.call
+    pub named : name_to_create d ≡ created_by row.call
 
   other : (place : Place) (t : Members) (d : Data) (kind : CommandKind) (row : CommandRow) → as_table d ≡ Some t → row.tick < shape.ticks
       → command_kind t ≡ Some kind → where_create (Some kind) (own_name t) ≡ None → IsOther shape.parts place t row.call (length threads) → IsNew d row
@@ -83,7 +83,7 @@ module _ (shape : Shape) (threads : List ThreadRow) (some_tick : 1 ≤ shape.tic
   by_kind place t d ClearCritical row table within kind read = other place t d ClearCritical row table within kind refl read
 
   next_command-ok : (commands : List CommandRow) (d : Data) (row : CommandRow) → next_command shape threads commands d ≡ Ok row → IsNew d row
-  unfolding command_at
+  unfolding command_read_at
   next_command-ok commands d row e =
       let here : Place = place.Command (length commands) in
       let t = bind-ok (table_of here d) _ row e in
@@ -112,10 +112,10 @@ module _ (shape : Shape) (threads : List ThreadRow) (some_tick : 1 ≤ shape.tic
   abbrev names_of : List CommandRow → List (List ℕ)
   names_of = filter_map (λ (row : CommandRow). created_by row.call)
 
-  one_name : (row : CommandRow) → names_of (row ∷ []) ≡ listed (created_by row.call)
+  one_name : (row : CommandRow) → names_of (row ∷ []) ≡ name_listed (created_by row.call)
   one_name row = by_option (created_by row.call) refl
     where
-      by_option : (o : Option (List ℕ)) → created_by row.call ≡ o → names_of (row ∷ []) ≡ listed (created_by row.call)
+      by_option : (o : Option (List ℕ)) → created_by row.call ≡ o → names_of (row ∷ []) ≡ name_listed (created_by row.call)
       by_option None e = rw e refl
       by_option (Some name) e = rw e refl
 
@@ -127,10 +127,10 @@ module _ (shape : Shape) (threads : List ThreadRow) (some_tick : 1 ≤ shape.tic
   names_read (item d rest) so_far commands e =
       let new = bind-ok (next_command shape threads so_far d) _ commands e in
       let is_new : IsNew d new.0 = next_command-ok so_far d new.0 new.1 in
-      let added : names_of (so_far ++ new.0 ∷ []) ≡ names_of so_far ++ listed (created_name d) =
-      filter_map-append (λ (row : CommandRow). created_by row.call) so_far (new.0 ∷ []) ∙ ap (λ names. names_of so_far ++ names) (one_name new.0 ∙ ap listed (sym is_new.named)) in
+      let added : names_of (so_far ++ new.0 ∷ []) ≡ names_of so_far ++ name_listed (name_to_create d) =
+      filter_map-append (λ (row : CommandRow). created_by row.call) so_far (new.0 ∷ []) ∙ ap (λ names. names_of so_far ++ names) (one_name new.0 ∙ ap name_listed (sym is_new.named)) in
       names_read rest (so_far ++ new.0 ∷ []) commands new.2 ∙ ap (λ names. names ++ created_names rest) added
-      ∙ append_assoc (names_of so_far) (listed (created_name d)) (created_names rest)
+      ∙ append_assoc (names_of so_far) (name_listed (name_to_create d)) (created_names rest)
 
   pub record AreCommands (t : Members) (commands : List CommandRow) : Type 0 where
     pub few : length commands ≤ most_commands
@@ -155,7 +155,7 @@ module _ (shape : Shape) (threads : List ThreadRow) (some_tick : 1 ≤ shape.tic
           let q = cond-ok (nat_le 0 (items_len p.0) && nat_le (items_len p.0) most_commands) p.0 items OutOfRange p.2 in
           ap items_or_none (or_wrong (as_array d) p.0 p.1) ∙ q.1
 
-      by_member : (o : Option Data) → at_key place.Top Command (given (row_tables Command most_commands) o) ≡ Ok items → items_or_none (then_of o as_array) ≡ items
+      by_member : (o : Option Data) → at_key place.Top Command (given_or_default (row_tables Command most_commands) o) ≡ Ok items → items_or_none (then_of o as_array) ≡ items
       by_member None e = cc
       by_member (Some d) e = by_array d (ok_at (array_of 0 most_commands d) e)
 

@@ -17,7 +17,7 @@ use Rattle.aps_scenario.specs.declared.key.Key.TheVariants as key
 use Rattle.aps_scenario.specs.declared.kind.Kind.TheVariants.{Duplicate}
 use Rattle.aps_scenario.specs.declared.refusal.Place.{Place}
 use Rattle.aps_scenario.specs.declared.refusal.Place.TheVariants as place
-use Rattle.aps_scenario.specs.Demands.{AreDemands, IsNeed, sizes_at, demand_at, asked_at, next_demand, demands_with_new, demand_keys, row_need, is_taken, is_among}
+use Rattle.aps_scenario.specs.Demands.{AreDemands, IsNeed, sizes_at, demand_at, demands_read, next_demand, demands_with_new, demand_keys, row_need, is_taken, has_demand_named}
 use Rattle.aps_scenario.specs.Elements.{items_len, row_tables}
 use Rattle.aps_scenario.specs.Partitions.{system_name}
 use Rattle.aps_scenario.specs.Row.{table_of, only, value_of, row_name, refuse_if}
@@ -74,7 +74,7 @@ neither false b h = (refl, h)
 record IsNew (demands : List Demand) (new : Demand) : Type 0 where
   pub need : IsNeed new
   pub system : new.name ≢ system_name
-  pub other : is_among demands new.name ≡ false
+  pub other : has_demand_named demands new.name ≡ false
 
 next_demand-ok : (demands : List Demand) (d : Data) (new : Demand) → next_demand demands d ≡ Ok new → IsNew demands new
 unfolding demand_at
@@ -88,7 +88,7 @@ next_demand-ok demands d new e =
     let found : Demand = record { name = name.0; need = need.0 } in
     let same : found ≡ new = ok-same found new _ refl need.2 in
     let range = required-ok key.Need 0 most_critical 1 here p.0 need.0 need.1 in
-    let apart = neither (bytes_eq name.0 system_name) (is_among demands name.0) (refuse_if-ok _ _ _ _ other.0 other.1) in
+    let apart = neither (bytes_eq name.0 system_name) (has_demand_named demands name.0) (refuse_if-ok _ _ _ _ other.0 other.1) in
     let is_new : IsNew demands found = record { need = range.below; system = differs name.0 apart.0; other = apart.1 } in
     subst (IsNew demands) same is_new
   where
@@ -114,9 +114,9 @@ more n demands new read is_new = record {
 }
 
 -- what is read is valid
-pub AreDemands-from_parts : (t : Members) (shape : Shape) (demands : List Demand) → sizes_at t ≡ Ok shape → asked_at t ≡ Ok demands
+pub AreDemands-from_parts : (t : Members) (shape : Shape) (demands : List Demand) → sizes_at t ≡ Ok shape → demands_read t ≡ Ok demands
     → AreDemands (record { shape = shape; demands = demands })
-unfolding IsDistinct asked_at
+unfolding IsDistinct demands_read
 AreDemands-from_parts t shape demands sizes e =
     let elements = bind-ok (value_of (row_tables key.Demand most_demands) place.Top t) _ demands e in
     let few : items_len elements.0 ≤ most_demands = tables-ok key.Demand most_demands place.Top t elements.0 elements.1 in

@@ -13,8 +13,8 @@ use Rattle.aps_model.specs.Limits.{greatest_priority, last_moment}
 use Rattle.aps_model.specs.Program.{IsOp}
 use Rattle.aps_scenario.specs.declared.operation.OperationFault.{OperationFault}
 use Rattle.aps_scenario.specs.declared.operation.OperationFault.TheVariants.{Unknown, Bad}
-use Rattle.aps_scenario.specs.Channels.{is_among}
-use Rattle.aps_scenario.specs.Operation.{after_word, behind, either_way, number_after, number, or_bad, run, run_or_forever, sleep, priority, channel_named, or_unknown, channel, with_channel, send, receive, join, constant, named_or_constant, operation_of}
+use Rattle.aps_scenario.specs.Channels.{is_name_among}
+use Rattle.aps_scenario.specs.Operation.{after_word, behind, either_way, number_after, number, or_bad, run_of_text, run_or_forever, sleep, priority, channel_named, channel_or_unknown, channel, op_on_channel, send, receive, join, constant, named_or_constant, operation_of}
 use Rattle.aps_scenario.specs.Row.{is_name}
 use Rattle.aps_scenario.proofs.Values.{cond-ok}
 
@@ -76,7 +76,7 @@ module _ (channels joinable : List (List ℕ)) (op : Op) where
   numbered make most None within valid e = absurd (cc)
   numbered make most (Some n) within valid e = subst (IsOp (length channels) joinable) (cc) (valid n (within n refl))
 
-  run-ok : (text : List ℕ) → run text ≡ Ok op → IsRead
+  run-ok : (text : List ℕ) → run_of_text text ≡ Ok op → IsRead
   run-ok text e = by_number (number last_moment text) (number-ok last_moment text) e
     where
       by_number : (o : Option ℕ) → ((n : ℕ) → o ≡ Some n → IsUpTo last_moment n) → run_or_forever o text ≡ Ok op → IsRead
@@ -101,12 +101,12 @@ module _ (channels joinable : List (List ℕ)) (op : Op) where
         | inr other ↦ let none : Err Bad ≡ Ok c = rw other at e in absurd (cc)
       ]
     where
-      known : (o : Option ℕ) → or_unknown o ≡ Ok c → o ≡ Some c
+      known : (o : Option ℕ) → channel_or_unknown o ≡ Ok c → o ≡ Some c
       known None e = absurd (cc)
       known (Some q) e = cc
 
   with_channel-ok : (make : ℕ → Op) (r : Result ℕ OperationFault) → ((c : ℕ) → r ≡ Ok c → c < length channels)
-      → ((c : ℕ) → c < length channels → IsOp (length channels) joinable (make c)) → with_channel make r ≡ Ok op → IsRead
+      → ((c : ℕ) → c < length channels → IsOp (length channels) joinable (make c)) → op_on_channel make r ≡ Ok op → IsRead
   with_channel-ok make (Ok c) within valid e = subst (IsOp (length channels) joinable) (cc) (valid c (within c refl))
   with_channel-ok make (Err fault) within valid e = absurd (cc)
 
@@ -114,7 +114,7 @@ module _ (channels joinable : List (List ℕ)) (op : Op) where
   join-ok name e =
       elim (cases_Bool (is_name name)) [
         | inl named ↦
-            let q = cond-ok (is_among joinable name) (Join name) op Unknown (rw named at e) in
+            let q = cond-ok (is_name_among joinable name) (Join name) op Unknown (rw named at e) in
             subst (IsOp (length channels) joinable) q.1 q.0
         | inr other ↦ let none : Err Bad ≡ Ok op = rw other at e in absurd (cc)
       ]
@@ -151,6 +151,6 @@ module _ (channels joinable : List (List ℕ)) (op : Op) where
 
   pub operation_of-ok : (text : List ℕ) → operation_of channels joinable text ≡ Ok op → IsRead
   operation_of-ok text =
-      behind-keeps IsRead op (codes "run ") run sleeps text run-ok
+      behind-keeps IsRead op (codes "run_of_text ") run_of_text sleeps text run-ok
       (behind-keeps IsRead op (codes "sleep ") sleep priorities text sleep-ok
       (behind-keeps IsRead op (codes "priority ") priority (named_or_constant channels joinable) text priority-ok (named_or_constant-ok text)))

@@ -4,11 +4,11 @@ use Rattle.std.proofs.lemmas.List.{take-append-drop, length-take-le, take-replic
 use Rattle.std.proofs.Math.Seq.{take-append-add, drop-append_seam, set-append_seam}
 use Rattle.std.proofs.lemmas.Fmt.{length-decimal-le, decimal_step, decimal_digit}
 use Rattle.std.specs.Fmt.{decimal}
-use Rattle.aps_scenario.specs.PathText.{padded, FitsPath, longest_path}
+use Rattle.aps_scenario.specs.PathText.{path_padded, FitsPath, longest_path}
 use Rattle.aps_scenario.specs.Path.{longest_key}
 
 -- a text of at most 64 bytes, padded
-padded_short : (text : List ℕ) → length text ≤ longest_path → padded text ≡ text ++ replicate (longest_path - length text) 0
+padded_short : (text : List ℕ) → length text ≤ longest_path → path_padded text ≡ text ++ replicate (longest_path - length text) 0
 padded_short text few =
     let split : longest_path ≡ length text + (longest_path - length text) = omega arith in
     let cut : take longest_path (text ++ replicate longest_path 0) ≡ take (length text + (longest_path - length text)) (text ++ replicate longest_path 0) =

@@ -21,7 +21,7 @@ use Rattle.aps_model.specs.Valid.{IsCall, IsCommand}
 use Rattle.aps_scenario.specs.declared.refusal.Place.{Place}
 use Rattle.aps_scenario.specs.declared.refusal.Place.TheVariants as place
 use Rattle.aps_scenario.specs.Calls.{create_at, modify_at, set_parameters_at}
-use Rattle.aps_scenario.specs.Commands.{command_at, commands_from, next_command}
+use Rattle.aps_scenario.specs.Commands.{command_read_at, commands_from, next_command}
 use Rattle.aps_scenario.specs.Row.{word_in}
 use Rattle.aps_scenario.specs.Words.{free_words, bankruptcy_words}
 use Rattle.aps_scenario.specs.PrintedCommands.{command_table, thread_name}
@@ -49,10 +49,10 @@ module _ (shape : Shape) (threads : List ThreadRow) (named : All (λ (row : Thre
   abbrev Reads : Call → Type 0
   Reads asked =
       (tick : ℕ) (place : Place) → tick < shape.ticks → IsCall shape.parts (length threads) asked
-      → command_at shape threads place (command_table threads (record { tick = tick; call = asked })) ≡ Ok (record { tick = tick; call = asked })
+      → command_read_at shape threads place (command_table threads (record { tick = tick; call = asked })) ≡ Ok (record { tick = tick; call = asked })
 
   create-reads : (name parent : List ℕ) (budget critical max : ℕ) → Reads (call.Create name parent budget critical max)
-  unfolding command_at create_at
+  unfolding command_read_at create_at
   create-reads name parent budget critical max tick place within is =
       rw (
         le-leb 0 tick (omega arith),
@@ -72,7 +72,7 @@ module _ (shape : Shape) (threads : List ThreadRow) (named : All (λ (row : Thre
       ) refl
 
   modify-reads : (partition : List ℕ) (budget critical max : Option ℕ) → Reads (call.Modify partition budget critical max)
-  unfolding command_at modify_at
+  unfolding command_read_at modify_at
   modify-reads partition None None None tick place within is = elim is.some [ inl none ↦ absurd (cc) | inr other ↦ elim other [ inl none ↦ absurd (cc) | inr none ↦ absurd (cc) ] ]
   modify-reads partition None None (Some max) tick place within is =
       rw (
@@ -161,7 +161,7 @@ module _ (shape : Shape) (threads : List ThreadRow) (named : All (λ (row : Thre
       ) refl
 
   set_parameters-reads : (window : Option ℕ) (free : Option Free) (limit : Option Bool) (bankruptcy : Option Bankruptcy) → Reads (call.SetParameters window free limit bankruptcy)
-  unfolding command_at set_parameters_at
+  unfolding command_read_at set_parameters_at
   set_parameters-reads None None None None tick place within is = elim is.0 [
     | inl none ↦ absurd (cc)
     | inr other ↦ elim other [ inl none ↦ absurd (cc) | inr other ↦ elim other [ inl none ↦ absurd (cc) | inr none ↦ absurd (cc) ] ]
@@ -298,7 +298,7 @@ module _ (shape : Shape) (threads : List ThreadRow) (named : All (λ (row : Thre
       ) refl
 
   call-reads : (asked : Call) → Reads asked
-  unfolding command_at
+  unfolding command_read_at
   call-reads (call.Create name parent budget critical max) tick place within is = create-reads name parent budget critical max tick place within is
   call-reads (call.Modify partition budget critical max) tick place within is = modify-reads partition budget critical max tick place within is
   call-reads (call.SetParameters window free limit bankruptcy) tick place within is = set_parameters-reads window free limit bankruptcy tick place within is

@@ -12,7 +12,7 @@ use Rattle.aps_model.specs.declared.scenario.ThreadRow.{ThreadRow}
 use Rattle.aps_model.specs.Name.{IsName}
 use Rattle.aps_model.specs.Scenario.{Scenario}
 use Rattle.aps_model.specs.Valid.{IsScenario, IsCommand, IsCall, created_name, joinable}
-use Rattle.aps_scenario.specs.Joinable.{created_names, joinable_at, listed, created_name as created_in}
+use Rattle.aps_scenario.specs.Joinable.{created_names, joinable_at, name_listed, name_to_create as created_in}
 use Rattle.aps_scenario.specs.PrintedCommands.{command_table}
 use Rattle.aps_scenario.specs.PrintedScenario.{scenario_members}
 use Rattle.aps_scenario.proofs.PrintedValues.{is_name-true}
@@ -65,7 +65,7 @@ module _ (parts threads : ℕ) (rows : List ThreadRow) where
   created-IsName (call.MarkCritical thread) is = tt
   created-IsName (call.ClearCritical thread) is = tt
 
-  same_list : (name : Option (List ℕ)) (names : List (List ℕ)) → listed name ++ names ≡ cons_option name names
+  same_list : (name : Option (List ℕ)) (names : List (List ℕ)) → name_listed name ++ names ≡ cons_option name names
   same_list None names = refl
   same_list (Some name) names = refl
 

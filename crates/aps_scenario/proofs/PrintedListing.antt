@@ -7,33 +7,33 @@ use Rattle.aps_model.specs.declared.partition.PartitionRow.{PartitionRow}
 use Rattle.aps_model.specs.Limits.{most_critical}
 use Rattle.aps_model.specs.Partition.{row_or_none, no_row, IsFundedRow}
 use Rattle.aps_model.specs.Valid.{IsTree}
-use Rattle.aps_scenario.specs.PrintedTree.{given_back, rows_before, listed}
+use Rattle.aps_scenario.specs.PrintedTree.{budget_given_back, rows_before, rows_listed}
 use Rattle.aps_scenario.proofs.PrintedTree.{before-tree, length-before}
 
 module _ (v : List PartitionRow) (n : ℕ) (within : suc n < length v) (under : (row_or_none v (suc n)).parent < suc n) where
   abbrev given : PartitionRow
   given = record (row_or_none v (row_or_none v (suc n)).parent) { budget = (row_or_none v (row_or_none v (suc n)).parent).budget + (row_or_none v (suc n)).budget }
 
-  cut : take (suc n) (given_back v (suc n)) ≡ rows_before (take (suc (suc n)) v) (suc n)
+  cut : take (suc n) (budget_given_back v (suc n)) ≡ rows_before (take (suc (suc n)) v) (suc n)
   cut =
       let q = (row_or_none v (suc n)).parent in
       let last : row_or_none (take (suc (suc n)) v) (suc n) ≡ row_or_none v (suc n) = get_or-take (suc (suc n)) v (suc n) no_row (omega arith) in
       let above : row_or_none (take (suc (suc n)) v) q ≡ row_or_none v q = get_or-take (suc (suc n)) v q no_row (omega (arith, under)) in
       let shorter : take (suc n) (take (suc (suc n)) v) ≡ take (suc n) v = take-take (suc n) (suc (suc n)) v (omega arith) in
-      let seen : given_back (take (suc (suc n)) v) (suc n) ≡ slice_set (take (suc (suc n)) v) q given = rw (last, above) refl in
+      let seen : budget_given_back (take (suc (suc n)) v) (suc n) ≡ slice_set (take (suc (suc n)) v) q given = rw (last, above) refl in
       take-set-lt (suc n) v q given under
       ∙ ap (λ (xs : List PartitionRow). slice_set xs q given) (sym shorter)
       ∙ sym (take-set-lt (suc n) (take (suc (suc n)) v) q given under)
       ∙ ap (take (suc n)) (sym seen)
 
-  tail : drop (suc n) (given_back v (suc n)) ≡ row_or_none v (suc n) ∷ drop (suc (suc n)) v
+  tail : drop (suc n) (budget_given_back v (suc n)) ≡ row_or_none v (suc n) ∷ drop (suc (suc n)) v
   tail =
       let q = (row_or_none v (suc n)).parent in
       drop-set-lt (suc n) v q given under ∙ drop-cons v (suc n) no_row within
 
-  rest-kept : listed n (take (suc n) (given_back v (suc n))) ++ drop (suc n) (given_back v (suc n)) ≡ listed (suc n) (take (suc (suc n)) v) ++ drop (suc (suc n)) v
+  rest-kept : rows_listed n (take (suc n) (budget_given_back v (suc n))) ++ drop (suc n) (budget_given_back v (suc n)) ≡ rows_listed (suc n) (take (suc (suc n)) v) ++ drop (suc (suc n)) v
   rest-kept =
-      let front = listed n (rows_before (take (suc (suc n)) v) (suc n)) in
+      let front = rows_listed n (rows_before (take (suc (suc n)) v) (suc n)) in
       let last : row_or_none (take (suc (suc n)) v) (suc n) ≡ row_or_none v (suc n) = get_or-take (suc (suc n)) v (suc n) no_row (omega arith) in
       rw (cut, tail)
       (sym (append_assoc front (row_or_none v (suc n) ∷ []) (drop (suc (suc n)) v))
@@ -49,7 +49,7 @@ module _ (parts : ℕ) (v : List PartitionRow) where
       let same : (row_or_none (take (suc (suc n)) v) (suc n)).parent ≡ (row_or_none v (suc n)).parent = ap (λ (row : PartitionRow). row.parent) last in
       omega arith
 
-  pub next-tree : (child : ℕ) → 0 < child → child < length v → IsTree parts (take (child + 1) v) → IsTree parts (take (child - 1 + 1) (given_back v child))
+  pub next-tree : (child : ℕ) → 0 < child → child < length v → IsTree parts (take (child + 1) v) → IsTree parts (take (child - 1 + 1) (budget_given_back v child))
   next-tree zero some within tree = absurd (omega arith)
   next-tree (suc n) some within tree =
       let more : suc n + 1 ≡ suc (suc n) = omega arith in
@@ -57,10 +57,10 @@ module _ (parts : ℕ) (v : List PartitionRow) where
       let size = length-take-le (suc (suc n)) v (omega arith) in
       let before = before-tree parts (take (suc (suc n)) v) here n size in
       let count : suc n ≡ suc n - 1 + 1 = omega arith in
-      subst (λ (m : ℕ). IsTree parts (take m (given_back v (suc n)))) count (subst (IsTree parts) (sym (cut v n within (under n within here))) before)
+      subst (λ (m : ℕ). IsTree parts (take m (budget_given_back v (suc n)))) count (subst (IsTree parts) (sym (cut v n within (under n within here))) before)
 
   pub next-rest : (child : ℕ) → 0 < child → child < length v → IsTree parts (take (child + 1) v)
-      → listed (child - 1) (take (child - 1 + 1) (given_back v child)) ++ drop (child - 1 + 1) (given_back v child) ≡ listed child (take (child + 1) v) ++ drop (child + 1) v
+      → rows_listed (child - 1) (take (child - 1 + 1) (budget_given_back v child)) ++ drop (child - 1 + 1) (budget_given_back v child) ≡ rows_listed child (take (child + 1) v) ++ drop (child + 1) v
   next-rest zero some within tree = absurd (omega arith)
   next-rest (suc n) some within tree =
       let more : suc n + 1 ≡ suc (suc n) = omega arith in
@@ -71,7 +71,7 @@ module _ (parts : ℕ) (v : List PartitionRow) where
 -- the rows after a row gave its budget back, as they are written
 pub given_back-written : (v : List PartitionRow) (child parent : ℕ) (row again above : PartitionRow) → child < length v → parent < length v
     → row ≡ get_or v child row → again ≡ get_or v child again → parent ≡ again.parent → above ≡ get_or v parent above
-    → slice_set v parent (record above { budget = above.budget + row.budget }) ≡ given_back v child
+    → slice_set v parent (record above { budget = above.budget + row.budget }) ≡ budget_given_back v child
 given_back-written v child parent row again above within inside here there under over =
     let is : row ≡ row_or_none v child = here ∙ get_or_default v child row no_row within in
     let same : again ≡ row_or_none v child = there ∙ get_or_default v child again no_row within in
@@ -97,7 +97,7 @@ HasParent bound row = row.parent < bound
 abbrev pub HasShortCritical : PartitionRow → Type 0
 HasShortCritical row = row.critical ≤ most_critical
 
-pub listed-parents : (parts bound n : ℕ) (rows : List PartitionRow) → length rows ≡ suc n → suc n ≤ bound → IsTree parts rows → All (HasParent bound) (listed n rows)
+pub listed-parents : (parts bound n : ℕ) (rows : List PartitionRow) → length rows ≡ suc n → suc n ≤ bound → IsTree parts rows → All (HasParent bound) (rows_listed n rows)
 listed-parents parts bound zero rows count most tree = λ k d inside.
     let root : (row_or_none rows 0).parent ≡ 0 = tree.root.parent in
     let first : k ≡ 0 = omega arith in
@@ -107,15 +107,15 @@ listed-parents parts bound zero rows count most tree = λ k d inside.
 listed-parents parts bound (suc n) rows count most tree =
     let last = tree.parents (suc n) (omega arith) (omega arith) in
     let size = length-before parts rows tree n count in
-    All-append (HasParent bound) (listed n (rows_before rows (suc n))) (row_or_none rows (suc n) ∷ [])
+    All-append (HasParent bound) (rows_listed n (rows_before rows (suc n))) (row_or_none rows (suc n) ∷ [])
     (listed-parents parts bound n (rows_before rows (suc n)) size (omega arith) (before-tree parts rows tree n count))
     (All-from_recursion (HasParent bound) (row_or_none rows (suc n) ∷ []) (omega arith, tt))
 
-pub listed-criticals : (parts n : ℕ) (rows : List PartitionRow) → length rows ≡ suc n → IsTree parts rows → All HasShortCritical (listed n rows)
+pub listed-criticals : (parts n : ℕ) (rows : List PartitionRow) → length rows ≡ suc n → IsTree parts rows → All HasShortCritical (rows_listed n rows)
 listed-criticals parts zero rows count tree = λ k d inside. (tree.funded.each k d inside).critical
 listed-criticals parts (suc n) rows count tree =
     let last : IsFundedRow parts (row_or_none rows (suc n)) = All-get_or (IsFundedRow parts) rows (suc n) no_row (omega arith) tree.funded.each in
     let size = length-before parts rows tree n count in
-    All-append HasShortCritical (listed n (rows_before rows (suc n))) (row_or_none rows (suc n) ∷ [])
+    All-append HasShortCritical (rows_listed n (rows_before rows (suc n))) (row_or_none rows (suc n) ∷ [])
     (listed-criticals parts n (rows_before rows (suc n)) size (before-tree parts rows tree n count))
     (All-from_recursion HasShortCritical (row_or_none rows (suc n) ∷ []) (last.critical, tt))

@@ -16,7 +16,7 @@ use Rattle.aps_model.specs.declared.program.Op.TheVariants.{Run, Forever, Sleep,
 use Rattle.aps_model.specs.Limits.{greatest_priority, last_moment}
 use Rattle.aps_model.specs.Name.{IsName}
 use Rattle.aps_model.specs.Program.{IsOp}
-use Rattle.aps_scenario.specs.Channels.{is_among}
+use Rattle.aps_scenario.specs.Channels.{is_name_among}
 use Rattle.aps_scenario.specs.Operation.{number, number_after, operation_of, channel_named}
 use Rattle.aps_scenario.specs.PrintedOperation.{operation_text, channel_name}
 use Rattle.aps_scenario.proofs.PrintedNames.{position-named, map-same}
@@ -81,7 +81,7 @@ operation-reads channels joinable (Receive c) named distinct names is =
     rw (is_name-true (channel_name channels c) (All-get_or IsName channels c [] is named), channel-found channels c is distinct) refl
 operation-reads channels joinable Reply named distinct names is = refl
 operation-reads channels joinable (Join name) named distinct names is =
-    let among : is_among joinable name ≡ true = is in
+    let among : is_name_among joinable name ≡ true = is in
     rw (is_name-true name (among-IsName name joinable names among), among) refl
 operation-reads channels joinable (Priority n) named distinct names is = rw (number-decimal greatest_priority n (omega arith) is.some is.few) refl
 operation-reads channels joinable CriticalOn named distinct names is = refl

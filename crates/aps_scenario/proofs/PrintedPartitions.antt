@@ -15,7 +15,7 @@ use Rattle.aps_scenario.specs.declared.refusal.Place.{Place}
 use Rattle.aps_scenario.specs.declared.refusal.Place.TheVariants as place
 use Rattle.aps_scenario.specs.Elements.{read_each}
 use Rattle.aps_scenario.specs.Partitions.{partition_at, partition_values, is_partition, next_partition, partitions_from, rows_with_new, system}
-use Rattle.aps_scenario.specs.PrintedTree.{given_back, rows_before, listed, listed_rows}
+use Rattle.aps_scenario.specs.PrintedTree.{budget_given_back, rows_before, rows_listed, listed_rows}
 use Rattle.aps_scenario.specs.PrintedPartitions.{partition_table}
 use Rattle.aps_scenario.proofs.PrintedElements.{read_each-push}
 use Rattle.aps_scenario.proofs.PrintedNames.{new-among-before, position-named}
@@ -57,15 +57,15 @@ partition-reads parts before rows place row is =
 abbrev name_of : PartitionRow → List ℕ
 name_of row = row.name
 
-pub length-listed : (n : ℕ) (rows : List PartitionRow) → length rows ≡ suc n → length (listed n rows) ≡ suc n
+pub length-listed : (n : ℕ) (rows : List PartitionRow) → length rows ≡ suc n → length (rows_listed n rows) ≡ suc n
 length-listed zero rows count = count
 length-listed (suc n) rows count =
     let child = row_or_none rows (suc n) in
     let parent = row_or_none rows child.parent in
     let same = length-set rows child.parent (record parent { budget = parent.budget + child.budget }) in
-    let size : length (rows_before rows (suc n)) ≡ suc n = length-take-le (suc n) (given_back rows (suc n)) (omega arith) in
+    let size : length (rows_before rows (suc n)) ≡ suc n = length-take-le (suc n) (budget_given_back rows (suc n)) (omega arith) in
     let front = length-listed n (rows_before rows (suc n)) size in
-    let whole = length-append (listed n (rows_before rows (suc n))) (child ∷ []) in
+    let whole = length-append (rows_listed n (rows_before rows (suc n))) (child ∷ []) in
     omega arith
 
 -- the rows of a tree with no row but its root
@@ -114,7 +114,7 @@ module _ (parts : ℕ) (printed : List PartitionRow) where
   -- the rows of a tree are read, the root apart
   partitions-read : (n : ℕ) (rows : List PartitionRow) → length rows ≡ suc n → IsTree parts rows
       → ((i : ℕ) → i < suc n → (row_or_none printed i).name ≡ (row_or_none rows i).name)
-      → partitions_from parts (system parts ∷ []) (items_of (map (partition_table printed) (drop 1 (listed n rows)))) ≡ Ok rows
+      → partitions_from parts (system parts ∷ []) (items_of (map (partition_table printed) (drop 1 (rows_listed n rows)))) ≡ Ok rows
   unfolding read_each
   partitions-read zero rows count tree named = rw (lone-root parts rows tree count) refl
   partitions-read (suc n) rows count tree named =
@@ -124,10 +124,10 @@ module _ (parts : ℕ) (printed : List PartitionRow) where
       let listed_size = length-listed n before size in
       let earlier = partitions-read n before size (before-tree parts rows tree n count)
       (λ i within. named i (omega arith) ∙ sym (before-kept parts rows tree n count name_of (λ row b. refl) i within)) in
-      let cut : drop 1 (listed n before ++ last ∷ []) ≡ drop 1 (listed n before) ++ last ∷ [] = drop-append-le 1 (listed n before) (last ∷ []) (omega arith) in
+      let cut : drop 1 (rows_listed n before ++ last ∷ []) ≡ drop 1 (rows_listed n before) ++ last ∷ [] = drop-append-le 1 (rows_listed n before) (last ∷ []) (omega arith) in
       ap (λ (rs : List PartitionRow). partitions_from parts (system parts ∷ []) (items_of (map (partition_table printed) rs))) cut
-      ∙ ap (λ (ds : List Data). partitions_from parts (system parts ∷ []) (items_of ds)) (map-append (partition_table printed) (drop 1 (listed n before)) (last ∷ []))
-      ∙ read_each-push (next_partition parts) rows_with_new (system parts ∷ []) (map (partition_table printed) (drop 1 (listed n before))) (partition_table printed last) before last
+      ∙ ap (λ (ds : List Data). partitions_from parts (system parts ∷ []) (items_of ds)) (map-append (partition_table printed) (drop 1 (rows_listed n before)) (last ∷ []))
+      ∙ read_each-push (next_partition parts) rows_with_new (system parts ∷ []) (map (partition_table printed) (drop 1 (rows_listed n before))) (partition_table printed last) before last
       earlier (last-reads n rows count tree named)
       ∙ ap Ok (before-gives parts rows tree n count)
 

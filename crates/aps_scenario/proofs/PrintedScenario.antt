@@ -30,7 +30,7 @@ use Rattle.aps_scenario.specs.Sizes.{shape_at, parts_of}
 use Rattle.aps_scenario.specs.Threads.{threads_at}
 use Rattle.aps_scenario.specs.PrintedCommands.{command_table, call_members, thread_name}
 use Rattle.aps_scenario.specs.PrintedOperation.{operation_text}
-use Rattle.aps_scenario.specs.PrintedTable.{insert_member, put, put_some, number}
+use Rattle.aps_scenario.specs.PrintedTable.{insert_member, put, put_some, number_data}
 use Rattle.aps_scenario.specs.PrintedWords.{call_word, free_word, bankruptcy_word}
 use Rattle.aps_scenario.specs.Key.{key_text}
 use Rattle.aps_scenario.specs.PrintedPartitions.{partition_table}
@@ -142,15 +142,15 @@ depth-put key d t here below = depth-insert (key_text key) d t 0 here below
 
 call-depth : (threads : List ThreadRow) (asked : Call) (t : Members) → members_depth t ≤ 0 → members_depth (call_members threads asked t) ≤ 0
 call-depth threads (call.Create name parent budget critical max) t below =
-    depth-put Max (number max) _ (omega arith)
-    (depth-put Critical (number critical) _ (omega arith)
-    (depth-put Budget (number budget) _ (omega arith)
+    depth-put Max (number_data max) _ (omega arith)
+    (depth-put Critical (number_data critical) _ (omega arith)
+    (depth-put Budget (number_data budget) _ (omega arith)
     (depth-put Parent (string parent) _ (omega arith)
     (depth-put Name (string name) t (omega arith) below))))
 call-depth threads (call.Modify partition budget critical max) t below =
-    depth-put_some Max number max _ 0 (λ n. omega arith)
-    (depth-put_some Critical number critical _ 0 (λ n. omega arith)
-    (depth-put_some Budget number budget _ 0 (λ n. omega arith)
+    depth-put_some Max number_data max _ 0 (λ n. omega arith)
+    (depth-put_some Critical number_data critical _ 0 (λ n. omega arith)
+    (depth-put_some Budget number_data budget _ 0 (λ n. omega arith)
     (depth-put Partition (string partition) t (omega arith) below)))
 call-depth threads (call.Lookup partition) t below = depth-put Partition (string partition) t (omega arith) below
 call-depth threads (call.QueryPartition partition) t below = depth-put Partition (string partition) t (omega arith) below
@@ -160,14 +160,14 @@ call-depth threads (call.SetParameters window free limit bankruptcy) t below =
     depth-put_some Bankruptcy (λ (word : BankruptcyType). string (bankruptcy_word word)) bankruptcy _ 0 (λ word. omega arith)
     (depth-put_some Limit boolean limit _ 0 (λ b. omega arith)
     (depth-put_some Free (λ (word : FreeType). string (free_word word)) free _ 0 (λ word. omega arith)
-    (depth-put_some Window number window t 0 (λ n. omega arith) below)))
+    (depth-put_some Window number_data window t 0 (λ n. omega arith) below)))
 call-depth threads (call.Statistics partition) t below = depth-put Partition (string partition) t (omega arith) below
 call-depth threads (call.MarkCritical x) t below = depth-put Thread (string (thread_name threads x)) t (omega arith) below
 call-depth threads (call.ClearCritical x) t below = depth-put Thread (string (thread_name threads x)) t (omega arith) below
 
 command-depth : (threads : List ThreadRow) (row : CommandRow) → depth (command_table threads row) ≤ 1
 command-depth threads row =
-    let members = call-depth threads row.call (put Do (string (call_word row.call)) (put Tick (number row.tick) no_members)) (omega arith) in
+    let members = call-depth threads row.call (put Do (string (call_word row.call)) (put Tick (number_data row.tick) no_members)) (omega arith) in
     omega arith
 
 pub scenario-depth : (s : Scenario) → members_depth (scenario_members s) ≤ 80

@@ -20,12 +20,12 @@ use Rattle.aps_model.specs.Valid.{IsTree, IsThreadRow}
 use Rattle.aps_scenario.specs.declared.key.Key.TheVariants.{Program}
 use Rattle.aps_scenario.specs.declared.refusal.Place.{Place}
 use Rattle.aps_scenario.specs.declared.refusal.Place.TheVariants as place
-use Rattle.aps_scenario.specs.Channels.{channel_at, channels_from, next_channel, is_among}
+use Rattle.aps_scenario.specs.Channels.{channel_read_at, channels_from, next_channel, is_name_among}
 use Rattle.aps_scenario.specs.Elements.{items_len}
 use Rattle.aps_scenario.specs.Key.{key_text}
 use Rattle.aps_scenario.specs.Program.{program_at, next_operation, operations_from, same_truth}
 use Rattle.aps_scenario.specs.Row.{word_in}
-use Rattle.aps_scenario.specs.Threads.{thread_at, thread_values, threads_from, next_thread, is_thread}
+use Rattle.aps_scenario.specs.Threads.{thread_read_at, thread_values, threads_from, next_thread, is_thread}
 use Rattle.aps_scenario.specs.Words.{policy_words}
 use Rattle.aps_scenario.specs.PrintedOperation.{operation_text}
 use Rattle.aps_scenario.specs.PrintedThreads.{channel_table, thread_table, program_array}
@@ -37,8 +37,8 @@ use Rattle.aps_scenario.proofs.PrintedValues.{no_rest, is_name-true}
 
 -- ---- channels
 
-channel-reads : (before : List (List ℕ)) (place : Place) (name : List ℕ) → IsName name → is_among before name ≡ false → channel_at before place (channel_table name) ≡ Ok name
-unfolding channel_at
+channel-reads : (before : List (List ℕ)) (place : Place) (name : List ℕ) → IsName name → is_name_among before name ≡ false → channel_read_at before place (channel_table name) ≡ Ok name
+unfolding channel_read_at
 channel-reads before place name is new = rw (is_name-true name is, new) refl
 
 pub channels-read : (channels : List (List ℕ)) → All IsName channels → IsDistinct bytes_eq channels → channels_from [] (items_of (map channel_table channels)) ≡ Ok channels
@@ -116,8 +116,8 @@ module _ (channels joinable : List (List ℕ)) (named : All IsName channels) (di
 
   module _ (parts : ℕ) (partitions : List PartitionRow) (tree : IsTree parts partitions) where
     thread-reads : (before : List ThreadRow) (i : ℕ) (row : ThreadRow) → IsThreadRow (length partitions) (length channels) joinable row → is_thread before row.name ≡ false
-        → thread_at partitions channels joinable before i (thread_table partitions channels row) ≡ Ok row
-    unfolding thread_at thread_values
+        → thread_read_at partitions channels joinable before i (thread_table partitions channels row) ≡ Ok row
+    unfolding thread_read_at thread_values
     thread-reads before i row is new =
         let own : IsFundedRow parts (row_or_none partitions row.partition) = All-get_or (IsFundedRow parts) partitions row.partition no_row is.partition tree.funded.each in
         let found : partition_named partitions (row_or_none partitions row.partition).name ≡ Some row.partition =

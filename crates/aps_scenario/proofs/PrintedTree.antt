@@ -15,7 +15,7 @@ use Rattle.aps_model.specs.Partition.{row_or_none, no_row, IsFundedRow}
 use Rattle.aps_model.specs.Valid.{IsTree, is_within, subtree_budget}
 use Rattle.aps_scenario.specs.Partitions.{rows_with_new}
 use Rattle.aps_scenario.proofs.PrintedNames.{IsDistinct-take}
-use Rattle.aps_scenario.specs.PrintedTree.{given_back, rows_before}
+use Rattle.aps_scenario.specs.PrintedTree.{budget_given_back, rows_before}
 
 abbrev budget_of : PartitionRow → ℕ
 budget_of row = row.budget
@@ -117,16 +117,16 @@ module _ (parts : ℕ) (rows : List PartitionRow) (tree : IsTree parts rows) whe
     pub length-before : length before ≡ suc n
     length-before =
         let same = length-set rows (parent_of (suc n)) given in
-        length-take-le (suc n) (given_back rows (suc n)) (omega arith)
+        length-take-le (suc n) (budget_given_back rows (suc n)) (omega arith)
 
     pub before-parent : row_or_none before (parent_of (suc n)) ≡ given
     before-parent =
-        get_or-take (suc n) (given_back rows (suc n)) (parent_of (suc n)) no_row earlier
+        get_or-take (suc n) (budget_given_back rows (suc n)) (parent_of (suc n)) no_row earlier
         ∙ get_or-set_same rows (parent_of (suc n)) given no_row (omega (arith, earlier))
 
     before-other : (p : ℕ) → p < suc n → p ≢ parent_of (suc n) → row_or_none before p ≡ row_or_none rows p
     before-other p within other =
-        get_or-take (suc n) (given_back rows (suc n)) p no_row within
+        get_or-take (suc n) (budget_given_back rows (suc n)) p no_row within
         ∙ get_or-set_other rows (parent_of (suc n)) p given no_row other
 
     -- what of a row isn't its budget stays
@@ -220,14 +220,14 @@ module _ (parts : ℕ) (rows : List PartitionRow) (tree : IsTree parts rows) whe
 
     pub names-before : map (λ (row : PartitionRow). row.name) before ≡ take (suc n) (map (λ (row : PartitionRow). row.name) rows)
     names-before =
-        sym (take-map (λ (row : PartitionRow). row.name) (suc n) (given_back rows (suc n)))
+        sym (take-map (λ (row : PartitionRow). row.name) (suc n) (budget_given_back rows (suc n)))
         ∙ ap (take (suc n)) (map-set_same (λ (row : PartitionRow). row.name) rows (parent_of (suc n)) given no_row refl)
 
     funded-before : All (IsFundedRow parts) before
     funded-before =
         let there = earlier in
         let old : IsFundedRow parts (row_or_none rows (parent_of (suc n))) = All-get_or (IsFundedRow parts) rows (parent_of (suc n)) no_row (omega arith) tree.funded.each in
-        All-take (IsFundedRow parts) (suc n) (given_back rows (suc n))
+        All-take (IsFundedRow parts) (suc n) (budget_given_back rows (suc n))
         (All-set (IsFundedRow parts) rows (parent_of (suc n)) given (record { name = old.name; budget = room; max = old.max; critical = old.critical }) tree.funded.each)
 
     pub before-tree : IsTree parts before

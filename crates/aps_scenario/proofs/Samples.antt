@@ -13,12 +13,12 @@ use Rattle.aps_scenario.specs.Reading.{scenario_at}
 use Rattle.aps_scenario.specs.Elements.{read_each}
 use Rattle.aps_scenario.specs.Sizes.{shape_at}
 use Rattle.aps_scenario.specs.Partitions.{partitions_at, partition_at, partition_values}
-use Rattle.aps_scenario.specs.Channels.{channels_at, channel_at}
-use Rattle.aps_scenario.specs.Threads.{threads_at, thread_at, thread_values}
+use Rattle.aps_scenario.specs.Channels.{channels_at, channel_read_at}
+use Rattle.aps_scenario.specs.Threads.{threads_at, thread_read_at, thread_values}
 use Rattle.aps_scenario.specs.Program.{program_at}
-use Rattle.aps_scenario.specs.Commands.{commands_at, command_at}
+use Rattle.aps_scenario.specs.Commands.{commands_at, command_read_at}
 use Rattle.aps_scenario.specs.Calls.{create_at}
-use Rattle.aps_scenario.specs.Refusal.{told, Refusal}
+use Rattle.aps_scenario.specs.Refusal.{refusal_of_finding, Refusal}
 
 abbrev thread : List ℕ → Items → Data
 thread name ops = table (member (codes "name") (string name) (member (codes "program") (array ops) no_members))
@@ -39,17 +39,17 @@ programs (Err e) = []
 
 abbrev refusal_of : Result Scenario Finding → Option Refusal
 refusal_of (Ok s) = None
-refusal_of (Err e) = Some (told e)
+refusal_of (Err e) = Some (refusal_of_finding e)
 
 abbrev create : Data
 create = table (member (codes "budget") (integer (pos 5)) (member (codes "do") (string (codes "create")) (member (codes "name") (string (codes "B")) (member (codes "tick") (integer (pos 3)) no_members))))
 
 one : programs (scenario_at (top (item (thread (codes "s") (item (string (codes "run 12")) (item (string (codes "send c")) (item (string (codes "join B")) (item (string (codes "repeat")) no_items))))) no_items) (item create no_items)))
     ≡ (Run 12 ∷ Send 0 ∷ Join (codes "B") ∷ Repeat ∷ []) ∷ []
-unfolding scenario_at shape_at partitions_at partition_at partition_values channels_at channel_at threads_at thread_at thread_values program_at read_each commands_at command_at create_at digits
+unfolding scenario_at shape_at partitions_at partition_at partition_values channels_at channel_read_at threads_at thread_read_at thread_values program_at read_each commands_at command_read_at create_at digits
 one = refl
 
 two : refusal_of (scenario_at (top (item (thread (codes "s") (item (string (codes "run 12")) (item (string (codes "send d")) no_items))) no_items) no_items))
     ≡ Some (record { kind = UnknownName; path = codes "thread[0].program[1]" })
-unfolding scenario_at shape_at partitions_at partition_at partition_values channels_at channel_at threads_at thread_at thread_values program_at read_each commands_at command_at create_at digits
+unfolding scenario_at shape_at partitions_at partition_at partition_values channels_at channel_read_at threads_at thread_read_at thread_values program_at read_each commands_at command_read_at create_at digits
 two = refl

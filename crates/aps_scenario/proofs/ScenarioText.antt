@@ -40,9 +40,9 @@ use Rattle.aps_scenario.specs.PrintedCommands.{command_table, call_members, thre
 use Rattle.aps_scenario.specs.PrintedOperation.{operation_text}
 use Rattle.aps_scenario.specs.PrintedPartitions.{partition_table, partition_array}
 use Rattle.aps_scenario.specs.PrintedScenario.{version_of, shape_members, scenario_members}
-use Rattle.aps_scenario.specs.PrintedTable.{insert_member, put, put_some, number, array_of_each}
+use Rattle.aps_scenario.specs.PrintedTable.{insert_member, put, put_some, number_data, array_of_each}
 use Rattle.aps_scenario.specs.PrintedThreads.{channel_table, program_array, thread_table}
-use Rattle.aps_scenario.specs.PrintedTree.{rows_before, listed, listed_rows}
+use Rattle.aps_scenario.specs.PrintedTree.{rows_before, rows_listed, listed_rows}
 use Rattle.aps_scenario.specs.PrintedWords.{call_word, free_word, bankruptcy_word, policy_word}
 use Rattle.aps_scenario.specs.Reading.{reads}
 use Rattle.aps_scenario.specs.ScenarioText.{scenario_text}
@@ -133,14 +133,14 @@ in_each P shown (x ∷ xs) all each =
 
 -- ---- numbers and words
 
-fits : (n : ℕ) → n ≤ most_critical → IsPlain (number n)
+fits : (n : ℕ) → n ≤ most_critical → IsPlain (number_data n)
 fits n small = omega arith
 
-fits_some : (o : Option ℕ) (most : ℕ) → most ≤ most_critical → IfSome o (λ n. n ≤ most) → IfSome o (λ n. IsPlain (number n))
+fits_some : (o : Option ℕ) (most : ℕ) → most ≤ most_critical → IfSome o (λ n. n ≤ most) → IfSome o (λ n. IsPlain (number_data n))
 fits_some None most bound small = tt
 fits_some (Some n) most bound small = fits n (omega (arith, small))
 
-window_fits : (o : Option ℕ) → IfSome o IsWindow → IfSome o (λ n. IsPlain (number n))
+window_fits : (o : Option ℕ) → IfSome o IsWindow → IfSome o (λ n. IsPlain (number_data n))
 window_fits None is = tt
 window_fits (Some n) is = fits n (omega (arith, is.short))
 
@@ -206,15 +206,15 @@ module _ (threads : List ThreadRow) (named : All (λ (row : ThreadRow). IsName r
 
   in_call : {t : Members} (asked : Call) → IsCall parts (length threads) asked → IsTable t → IsTable (call_members threads asked t)
   in_call (call.Create name parent budget critical max) is table =
-      with_value Max (number max) (fits max (omega (arith, is.max_parts)))
-      (with_value Critical (number critical) (fits critical is.short_critical)
-      (with_value Budget (number budget) (fits budget (omega (arith, is.few_parts)))
+      with_value Max (number_data max) (fits max (omega (arith, is.max_parts)))
+      (with_value Critical (number_data critical) (fits critical is.short_critical)
+      (with_value Budget (number_data budget) (fits budget (omega (arith, is.few_parts)))
       (with_value Parent (string parent) (name-ascii parent is.under)
       (with_value Name (string name) (name-ascii name is.named) table))))
   in_call (call.Modify partition budget critical max) is table =
-      with_some Max number max (fits_some max parts (omega arith) is.max_parts)
-      (with_some Critical number critical (fits_some critical most_critical (omega arith) is.short_critical)
-      (with_some Budget number budget (fits_some budget parts (omega arith) is.few_parts)
+      with_some Max number_data max (fits_some max parts (omega arith) is.max_parts)
+      (with_some Critical number_data critical (fits_some critical most_critical (omega arith) is.short_critical)
+      (with_some Budget number_data budget (fits_some budget parts (omega arith) is.few_parts)
       (with_value Partition (string partition) (name-ascii partition is.named) table)))
   in_call (call.Lookup partition) is table = with_value Partition (string partition) (name-ascii partition is) table
   in_call (call.QueryPartition partition) is table = with_value Partition (string partition) (name-ascii partition is) table
@@ -224,24 +224,24 @@ module _ (threads : List ThreadRow) (named : All (λ (row : ThreadRow). IsName r
       with_some Bankruptcy (λ (word : BankruptcyType). string (bankruptcy_word word)) bankruptcy (of_any (λ (word : BankruptcyType). IsAsciiText (bankruptcy_word word)) bankruptcy bankruptcy-ascii)
       (with_some Limit boolean limit (of_any (λ (b : Bool). Unit {0}) limit (λ b. tt))
       (with_some Free (λ (word : FreeType). string (free_word word)) free (of_any (λ (word : FreeType). IsAsciiText (free_word word)) free free-ascii)
-      (with_some Window number window (window_fits window is.1) table)))
+      (with_some Window number_data window (window_fits window is.1) table)))
   in_call (call.Statistics partition) is table = with_value Partition (string partition) (name-ascii partition is) table
   in_call (call.MarkCritical x) is table = with_value Thread (string (thread_name threads x)) (thread-ascii x is) table
   in_call (call.ClearCritical x) is table = with_value Thread (string (thread_name threads x)) (thread-ascii x is) table
 
   in_command : (ticks : ℕ) (row : CommandRow) → ticks ≤ most_ticks → IsCommand parts ticks (length threads) row → IsPlain (command_table threads row)
   in_command ticks row short is =
-      let first = with_value Tick (number row.tick) (fits row.tick (omega (arith, is.tick))) no_keys in
+      let first = with_value Tick (number_data row.tick) (fits row.tick (omega (arith, is.tick))) no_keys in
       (in_call row.call is.call (with_value Do (string (call_word row.call)) (call-ascii row.call) first)).members
 
 -- ---- partitions
 
-listed-funded : (parts n : ℕ) (rows : List PartitionRow) → length rows ≡ suc n → IsTree parts rows → All (IsFundedRow parts) (listed n rows)
+listed-funded : (parts n : ℕ) (rows : List PartitionRow) → length rows ≡ suc n → IsTree parts rows → All (IsFundedRow parts) (rows_listed n rows)
 listed-funded parts zero rows count tree = tree.funded.each
 listed-funded parts (suc n) rows count tree =
     let last : IsFundedRow parts (row_or_none rows (suc n)) = All-get_or (IsFundedRow parts) rows (suc n) no_row (omega arith) tree.funded.each in
     let size = length-before parts rows tree n count in
-    All-append (IsFundedRow parts) (listed n (rows_before rows (suc n))) (row_or_none rows (suc n) ∷ [])
+    All-append (IsFundedRow parts) (rows_listed n (rows_before rows (suc n))) (row_or_none rows (suc n) ∷ [])
     (listed-funded parts n (rows_before rows (suc n)) size (before-tree parts rows tree n count))
     (All-from_recursion (IsFundedRow parts) (row_or_none rows (suc n) ∷ []) (last, tt))
 
@@ -249,9 +249,9 @@ in_partition : (parts : ℕ) (rows : List PartitionRow) (row : PartitionRow) →
     → IsPlain (partition_table rows row)
 in_partition parts rows row few tree is under =
     let above : IsFundedRow parts (row_or_none rows row.parent) = All-get_or (IsFundedRow parts) rows row.parent no_row under tree.funded.each in
-    (with_value Max (number row.max) (fits row.max (omega (arith, is.max)))
-    (with_value Critical (number row.critical) (fits row.critical is.critical)
-    (with_value Budget (number row.budget) (fits row.budget (omega (arith, is.budget, is.max)))
+    (with_value Max (number_data row.max) (fits row.max (omega (arith, is.max)))
+    (with_value Critical (number_data row.critical) (fits row.critical is.critical)
+    (with_value Budget (number_data row.budget) (fits row.budget (omega (arith, is.budget, is.max)))
     (with_value Parent (string (row_or_none rows row.parent).name) (name-ascii _ above.name)
     (with_value Name (string row.name) (name-ascii row.name is.name) no_keys))))).members
 
@@ -279,7 +279,7 @@ in_thread s row valid is =
     (with_value Program (program_array s.channels row.program) program
     (with_value Critical (boolean row.critical) tt
     (with_value Policy (string (policy_word row.policy)) (policy-ascii row.policy)
-    (with_value Priority (number row.priority) (fits row.priority (omega (arith, is.priority.few)))
+    (with_value Priority (number_data row.priority) (fits row.priority (omega (arith, is.priority.few)))
     (with_value Partition (string (row_or_none s.partitions row.partition).name) (name-ascii _ own.name)
     (with_value Name (string row.name) (name-ascii row.name is.name) no_keys)))))).members
 
@@ -288,14 +288,14 @@ in_shape shape is =
     with_value Bankruptcy (string (bankruptcy_word shape.bankruptcy)) (bankruptcy-ascii shape.bankruptcy)
     (with_value Limit (boolean shape.limit) tt
     (with_value Free (string (free_word shape.free)) (free-ascii shape.free)
-    (with_value CallNs (number shape.call_ns) (fits shape.call_ns (omega (arith, is.short_call)))
-    (with_value Ticks (number shape.ticks) (fits shape.ticks (omega (arith, is.few_ticks)))
-    (with_value Window (number shape.window) (fits shape.window (omega (arith, is.window_short)))
-    (with_value Tick (number shape.tick) (fits shape.tick (omega (arith, is.tick_short)))
-    (with_value Cpus (number shape.cpus) (fits shape.cpus (omega (arith, is.few_cpus)))
-    (with_value Version (number (version_of shape.parts)) (version_fits (nat_eq shape.parts percent)) no_keys))))))))
+    (with_value CallNs (number_data shape.call_ns) (fits shape.call_ns (omega (arith, is.short_call)))
+    (with_value Ticks (number_data shape.ticks) (fits shape.ticks (omega (arith, is.few_ticks)))
+    (with_value Window (number_data shape.window) (fits shape.window (omega (arith, is.window_short)))
+    (with_value Tick (number_data shape.tick) (fits shape.tick (omega (arith, is.tick_short)))
+    (with_value Cpus (number_data shape.cpus) (fits shape.cpus (omega (arith, is.few_cpus)))
+    (with_value Version (number_data (version_of shape.parts)) (version_fits (nat_eq shape.parts percent)) no_keys))))))))
   where
-    version_fits : (hundred : Bool) → IsPlain (number (if hundred then 1 else 2))
+    version_fits : (hundred : Bool) → IsPlain (number_data (if hundred then 1 else 2))
     version_fits true = omega arith
     version_fits false = omega arith
 

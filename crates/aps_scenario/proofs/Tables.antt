@@ -9,7 +9,7 @@ use Rattle.toml.specs.Data.{get_member}
 use Rattle.toml.specs.View.{view, items_view, members_view}
 use Rattle.toml.proofs.Views.{table_get}
 use Rattle.aps_scenario.specs.declared.key.Key.{Key}
-use Rattle.aps_scenario.specs.Row.{is_known, unknown_key}
+use Rattle.aps_scenario.specs.Row.{is_known_key, unknown_key}
 use Rattle.aps_scenario.specs.Elements.{items_len}
 
 found_or : (b : Bool) (k : String Global) (rest : Option (String Global)) (other : Option (List ℕ)) → option_map string_bytes rest ≡ other
@@ -18,9 +18,9 @@ found_or true k rest other e = e
 found_or false k rest other e = refl
 
 pub unknown_key-find : (known : List Key) (es : List (String Global × Value))
-    → option_map string_bytes (find (λ k. not (is_known known (string_bytes k))) (keys_of es)) ≡ unknown_key known (members_view es)
+    → option_map string_bytes (find (λ k. not (is_known_key known (string_bytes k))) (keys_of es)) ≡ unknown_key known (members_view es)
 unknown_key-find known [] = refl
-unknown_key-find known (e ∷ es) = found_or (is_known known (string_bytes e.0)) e.0 _ _ (unknown_key-find known es)
+unknown_key-find known (e ∷ es) = found_or (is_known_key known (string_bytes e.0)) e.0 _ _ (unknown_key-find known es)
 
 pub found_some : (r : Option (Bor Value)) (k : List ℕ) (es : List (String Global × Value))
     → option_map (λ x. x.now) r ≡ lookup (is_at (λ x. slice_cmp nat_cmp k (string_bytes x))) es

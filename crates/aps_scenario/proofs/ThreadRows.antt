@@ -19,7 +19,7 @@ use Rattle.aps_scenario.specs.Row.{table_of, only, value_of, row_name, refuse_if
 use Rattle.aps_scenario.specs.Elements.{items_len, row_tables}
 use Rattle.aps_scenario.specs.Partitions.{row_partition}
 use Rattle.aps_scenario.specs.Program.{program_at}
-use Rattle.aps_scenario.specs.Threads.{thread_at, thread_values, next_thread, threads_at, threads_with_new, thread_keys, row_priority, row_policy, row_critical_mark, is_thread}
+use Rattle.aps_scenario.specs.Threads.{thread_read_at, thread_values, next_thread, threads_at, threads_with_new, thread_keys, row_priority, row_policy, row_critical_mark, is_thread}
 use Rattle.aps_scenario.proofs.Lists.{list_any-map}
 use Rattle.aps_scenario.proofs.Values.{bind-ok, ok-same, refuse_if-ok, named-ok, defaulted-ok}
 use Rattle.aps_scenario.proofs.Elements.{read_each-keeps, tables-ok}
@@ -39,7 +39,7 @@ module _ (partitions : List PartitionRow) (some_partition : 0 < length partition
     pub other : is_thread threads row.name ≡ false
 
   next_thread-ok : (threads : List ThreadRow) (d : Data) (row : ThreadRow) → next_thread partitions channels joinable threads d ≡ Ok row → IsNew threads row
-  unfolding thread_at thread_values
+  unfolding thread_read_at thread_values
   next_thread-ok threads d row e =
       let here : Place = place.Thread (length threads) in
       let p = bind-ok (table_of here d) _ row e in

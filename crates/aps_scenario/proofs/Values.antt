@@ -8,7 +8,7 @@ use Rattle.aps_scenario.specs.declared.kind.Kind.{Kind}
 use Rattle.aps_scenario.specs.declared.refusal.Finding.{Finding}
 use Rattle.aps_scenario.specs.declared.refusal.Place.{Place}
 use Rattle.aps_scenario.specs.Key.{key_text}
-use Rattle.aps_scenario.specs.Row.{◌>>=◌, Row, row_integer, row_name, optional, some_of, value_of, at_key, given, or_default, in_range, integer_in, integer, or_wrong_kind, is_name, name, refuse_if}
+use Rattle.aps_scenario.specs.Row.{◌>>=◌, Row, row_integer, row_name, optional, some_of, value_of, at_key, given_or_default, or_default, in_range, integer_in, integer, or_wrong_kind, is_name, name, refuse_if}
 
 -- a chain of tests that passes
 pub bind-ok : {A B E : Type 0} (r : Result A E) (f : A → Result B E) (y : B) → r >>= f ≡ Ok y → (x : A) × (r ≡ Ok x) × (f x ≡ Ok y)
@@ -40,7 +40,7 @@ value_of-ok {A = A} row place t x e = by_given (get_member (key_text row.key) t)
     by_default None e = absurd (cc)
     by_default (Some y) e = cc
 
-    by_given : (o : Option Data) → at_key place row.key (given row o) ≡ Ok x → (row.default ≡ Some x) ⊎ ((d : Data) × (row.reads d ≡ Ok x))
+    by_given : (o : Option Data) → at_key place row.key (given_or_default row o) ≡ Ok x → (row.default ≡ Some x) ⊎ ((d : Data) × (row.reads d ≡ Ok x))
     by_given None e = inl (by_default row.default (ok_at (or_default row.default) e))
     by_given (Some d) e = inr (d, ok_at (row.reads d) e)
 

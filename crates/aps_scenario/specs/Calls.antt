@@ -51,17 +51,17 @@ some_key first others place t = refuse_if (not (list_any (has_key t) (first ∷ 
 abbrev pub row_partition_name : Row (List ℕ)
 row_partition_name = row_name Partition None
 
-abbrev pub thread_named : List ThreadRow → List ℕ → Option ℕ
-thread_named threads name = position (λ (row : ThreadRow). bytes_eq row.name name) threads
+abbrev pub thread_by_name : List ThreadRow → List ℕ → Option ℕ
+thread_by_name threads name = position (λ (row : ThreadRow). bytes_eq row.name name) threads
 
 -- the thread that a value names
-abbrev pub thread_of : List ThreadRow → Data → Result ℕ Kind
-thread_of threads d = do
+abbrev pub thread_in_value : List ThreadRow → Data → Result ℕ Kind
+thread_in_value threads d = do
   name ← name_in d
-  or_unknown (thread_named threads name)
+  or_unknown (thread_by_name threads name)
 
 abbrev pub row_thread : List ThreadRow → Row ℕ
-row_thread threads = record { key = Thread; reads = thread_of threads; default = None }
+row_thread threads = record { key = Thread; reads = thread_in_value threads; default = None }
 
 -- ---- calls
 

@@ -17,20 +17,20 @@ abbrev pub channel_keys : List Key
 channel_keys = Name ∷ []
 
 -- the name is one of these
-abbrev pub is_among : List (List ℕ) → List ℕ → Bool
-is_among names name = list_any (λ (other : List ℕ). bytes_eq name other) names
+abbrev pub is_name_among : List (List ℕ) → List ℕ → Bool
+is_name_among names name = list_any (λ (other : List ℕ). bytes_eq name other) names
 
 -- a channel at this place, after these ones
-unfoldable pub channel_at : List (List ℕ) → Place → Data → Result (List ℕ) Finding
-channel_at channels place d = do
+unfoldable pub channel_read_at : List (List ℕ) → Place → Data → Result (List ℕ) Finding
+channel_read_at channels place d = do
   t ← table_of place d
   known ← only channel_keys place t
   name ← value_of (row_name Name None) place t
-  new ← refuse_if (is_among channels name) Duplicate place Name
+  new ← refuse_if (is_name_among channels name) Duplicate place Name
   Ok name
 
 abbrev pub next_channel : List (List ℕ) → Data → Result (List ℕ) Finding
-next_channel channels d = channel_at channels (place.Channel (length channels)) d
+next_channel channels d = channel_read_at channels (place.Channel (length channels)) d
 
 abbrev pub channels_with_new : List (List ℕ) → List ℕ → List (List ℕ)
 channels_with_new channels new = channels ++ new ∷ []

@@ -24,8 +24,8 @@ abbrev pub row_kind : Row CommandKind
 row_kind = row_word Do command_words None
 
 -- a command at this place, where these are the sizes and the threads
-unfoldable pub command_at : Shape → List ThreadRow → Place → Data → Result CommandRow Finding
-command_at shape threads place d = do
+unfoldable pub command_read_at : Shape → List ThreadRow → Place → Data → Result CommandRow Finding
+command_read_at shape threads place d = do
   t ← table_of place d
   known ← only (command_keys (command_kind t)) place t
   tick ← value_of (row_command_tick shape.ticks) place t
@@ -34,7 +34,7 @@ command_at shape threads place d = do
   Ok (record { tick = tick; call = call })
 
 abbrev pub next_command : Shape → List ThreadRow → List CommandRow → Data → Result CommandRow Finding
-next_command shape threads commands d = command_at shape threads (place.Command (length commands)) d
+next_command shape threads commands d = command_read_at shape threads (place.Command (length commands)) d
 
 abbrev pub commands_with_new : List CommandRow → CommandRow → List CommandRow
 commands_with_new commands new = commands ++ new ∷ []

@@ -41,8 +41,8 @@ pub record AreDemands (d : Demands) : Type 0 where
 
 -- ---- what the top table of a document states
 
-abbrev pub top_keys : List Key
-top_keys = key.Version ∷ key.Cpus ∷ key.Tick ∷ key.Window ∷ key.Demand ∷ []
+abbrev pub demand_top_keys : List Key
+demand_top_keys = key.Version ∷ key.Cpus ∷ key.Tick ∷ key.Window ∷ key.Demand ∷ []
 
 -- the sizes that are given; the others are those of the shortest scenario, and policies are the default ones
 unfoldable pub sizes_at : Members → Result Shape Finding
@@ -70,12 +70,12 @@ abbrev pub row_need : Row ℕ
 row_need = row_integer key.Need 0 most_critical 1 None
 
 -- the name is that of one of these
-abbrev pub is_among : List Demand → List ℕ → Bool
-is_among demands name = list_any (λ (demand : Demand). bytes_eq name demand.name) demands
+abbrev pub has_demand_named : List Demand → List ℕ → Bool
+has_demand_named demands name = list_any (λ (demand : Demand). bytes_eq name demand.name) demands
 
 -- the name is that of the root, or of one of these
 abbrev pub is_taken : List Demand → List ℕ → Bool
-is_taken demands name = bytes_eq name system_name || is_among demands name
+is_taken demands name = bytes_eq name system_name || has_demand_named demands name
 
 -- a demand at this place, after these ones
 unfoldable pub demand_at : List Demand → Place → Data → Result Demand Finding
@@ -97,17 +97,17 @@ demands_with_new demands new = demands ++ new ∷ []
 abbrev pub demands_from : List Demand → Items → Result (List Demand) Finding
 demands_from = read_each next_demand demands_with_new
 
-unfoldable pub asked_at : Members → Result (List Demand) Finding
-asked_at t = do
+unfoldable pub demands_read : Members → Result (List Demand) Finding
+demands_read t = do
   elements ← value_of (row_tables key.Demand most_demands) place.Top t
   demands_from [] elements
 
 -- what a document's top table asks, or the first part that breaks a rule
 unfoldable pub demands_at : Members → Result Demands Finding
 demands_at t = do
-  known ← only top_keys place.Top t
+  known ← only demand_top_keys place.Top t
   shape ← sizes_at t
-  demands ← asked_at t
+  demands ← demands_read t
   Ok (record { shape = shape; demands = demands })
 
 -- what these bytes ask, or why they ask nothing

@@ -6,11 +6,11 @@ use Rattle.toml.specs.Parse.{parse_document}
 use Rattle.aps_scenario.specs.declared.kind.Kind.TheVariants.{NotToml}
 use Rattle.aps_scenario.specs.declared.refusal.Finding.{Finding}
 use Rattle.aps_scenario.specs.Path.{whole_text}
-use Rattle.aps_scenario.specs.Refusal.{Refusal, told}
+use Rattle.aps_scenario.specs.Refusal.{Refusal, refusal_of_finding}
 
 abbrev pub or_told : {A : Type 0} → Result A Finding → Result A Refusal
 or_told (Ok x) = Ok x
-or_told (Err finding) = Err (told finding)
+or_told (Err finding) = Err (refusal_of_finding finding)
 
 abbrev pub table_reads : {A : Type 0} → (Members → Result A Finding) → Option Members → Result A Refusal
 table_reads reader None = Err (record { kind = NotToml; path = whole_text })

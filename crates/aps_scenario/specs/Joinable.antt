@@ -31,16 +31,16 @@ where_create (Some Create) name = name
 where_create other name = None
 
 -- the name that a command would give to a new partition, whatever else is wrong with it
-abbrev pub created_name : Data → Option (List ℕ)
-created_name d = then_of (as_table d) (λ t. where_create (command_kind t) (own_name t))
+abbrev pub name_to_create : Data → Option (List ℕ)
+name_to_create d = then_of (as_table d) (λ t. where_create (command_kind t) (own_name t))
 
-abbrev pub listed : Option (List ℕ) → List (List ℕ)
-listed None = []
-listed (Some name) = name ∷ []
+abbrev pub name_listed : Option (List ℕ) → List (List ℕ)
+name_listed None = []
+name_listed (Some name) = name ∷ []
 
 abbrev pub created_names : Items → List (List ℕ)
 created_names no_items = []
-created_names (item d rest) = listed (created_name d) ++ created_names rest
+created_names (item d rest) = name_listed (name_to_create d) ++ created_names rest
 
 abbrev pub commands_in : Members → Option Items
 commands_in t = then_of (get_member (key_text Command) t) as_array

@@ -8,7 +8,7 @@ use Rattle.aps_model.specs.declared.program.Op.TheVariants.{Run, Forever, Sleep,
 use Rattle.aps_scenario.specs.declared.operation.OperationFault.{OperationFault}
 use Rattle.aps_scenario.specs.declared.operation.OperationFault.TheVariants.{Unknown, Bad}
 use Rattle.aps_scenario.specs.Row.{is_name}
-use Rattle.aps_scenario.specs.Channels.{is_among}
+use Rattle.aps_scenario.specs.Channels.{is_name_among}
 use Rattle.aps_model.specs.Limits.{greatest_priority, last_moment}
 
 -- ---- numbers
@@ -35,8 +35,8 @@ abbrev pub run_or_forever : Option ℕ → List ℕ → Result Op OperationFault
 run_or_forever (Some ns) text = Ok (Run ns)
 run_or_forever None text = if bytes_eq text (codes "forever") then Ok Forever else Err Bad
 
-abbrev pub run : List ℕ → Result Op OperationFault
-run text = run_or_forever (number last_moment text) text
+abbrev pub run_of_text : List ℕ → Result Op OperationFault
+run_of_text text = run_or_forever (number last_moment text) text
 
 abbrev pub sleep : List ℕ → Result Op OperationFault
 sleep text = or_bad Sleep (number last_moment text)
@@ -48,27 +48,27 @@ priority text = or_bad Priority (number greatest_priority text)
 abbrev pub channel_named : List (List ℕ) → List ℕ → Option ℕ
 channel_named channels name = position (λ (other : List ℕ). bytes_eq other name) channels
 
-abbrev pub or_unknown : Option ℕ → Result ℕ OperationFault
-or_unknown None = Err Unknown
-or_unknown (Some channel) = Ok channel
+abbrev pub channel_or_unknown : Option ℕ → Result ℕ OperationFault
+channel_or_unknown None = Err Unknown
+channel_or_unknown (Some channel) = Ok channel
 
 -- the channel of this name
 abbrev pub channel : List (List ℕ) → List ℕ → Result ℕ OperationFault
-channel channels name = if is_name name then or_unknown (channel_named channels name) else Err Bad
+channel channels name = if is_name name then channel_or_unknown (channel_named channels name) else Err Bad
 
-abbrev pub with_channel : (ℕ → Op) → Result ℕ OperationFault → Result Op OperationFault
-with_channel op (Ok channel) = Ok (op channel)
-with_channel op (Err fault) = Err fault
+abbrev pub op_on_channel : (ℕ → Op) → Result ℕ OperationFault → Result Op OperationFault
+op_on_channel op (Ok channel) = Ok (op channel)
+op_on_channel op (Err fault) = Err fault
 
 abbrev pub send : List (List ℕ) → List ℕ → Result Op OperationFault
-send channels name = with_channel Send (channel channels name)
+send channels name = op_on_channel Send (channel channels name)
 
 abbrev pub receive : List (List ℕ) → List ℕ → Result Op OperationFault
-receive channels name = with_channel Receive (channel channels name)
+receive channels name = op_on_channel Receive (channel channels name)
 
 abbrev pub join : List (List ℕ) → List ℕ → Result Op OperationFault
 join joinable name =
-    if is_name name then (if is_among joinable name then Ok (Join name) else Err Unknown) else Err Bad
+    if is_name name then (if is_name_among joinable name then Ok (Join name) else Err Unknown) else Err Bad
 
 -- an operation that is always the same text
 abbrev pub constant : List ℕ → Result Op OperationFault
@@ -108,7 +108,7 @@ named_or_constant channels joinable =
 -- the operation that a text is, where these are the channels and the names that may be joined
 abbrev pub operation_of : List (List ℕ) → List (List ℕ) → List ℕ → Result Op OperationFault
 operation_of channels joinable =
-    behind (codes "run ") run
+    behind (codes "run_of_text ") run_of_text
     (behind (codes "sleep ") sleep
     (behind (codes "priority ") priority
     (named_or_constant channels joinable)))

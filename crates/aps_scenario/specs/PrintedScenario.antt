@@ -7,7 +7,7 @@ use Rattle.aps_model.specs.Scenario.{Scenario}
 use Rattle.aps_scenario.specs.declared.key.Key.TheVariants.{Version, Cpus, Tick, Window, Ticks, CallNs, Free, Limit, Bankruptcy, Partition, Channel, Thread, Command}
 use Rattle.aps_scenario.specs.PrintedCommands.{command_table}
 use Rattle.aps_scenario.specs.PrintedPartitions.{partition_array}
-use Rattle.aps_scenario.specs.PrintedTable.{put, number, array_of_each}
+use Rattle.aps_scenario.specs.PrintedTable.{put, number_data, array_of_each}
 use Rattle.aps_scenario.specs.PrintedThreads.{channel_table, thread_table}
 use Rattle.aps_scenario.specs.PrintedWords.{free_word, bankruptcy_word}
 
@@ -20,12 +20,12 @@ shape_members shape =
     put Bankruptcy (string (bankruptcy_word shape.bankruptcy))
     (put Limit (boolean shape.limit)
     (put Free (string (free_word shape.free))
-    (put CallNs (number shape.call_ns)
-    (put Ticks (number shape.ticks)
-    (put Window (number shape.window)
-    (put Tick (number shape.tick)
-    (put Cpus (number shape.cpus)
-    (put Version (number (version_of shape.parts)) no_members))))))))
+    (put CallNs (number_data shape.call_ns)
+    (put Ticks (number_data shape.ticks)
+    (put Window (number_data shape.window)
+    (put Tick (number_data shape.tick)
+    (put Cpus (number_data shape.cpus)
+    (put Version (number_data (version_of shape.parts)) no_members))))))))
 
 abbrev pub scenario_members : Scenario → Members
 scenario_members s =

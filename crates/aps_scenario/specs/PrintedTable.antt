@@ -16,8 +16,8 @@ insert_member k d (member l e ms) =
 abbrev pub put : Key → Data → Members → Members
 put key d t = insert_member (key_text key) d t
 
-abbrev pub number : ℕ → Data
-number n = integer (pos n)
+abbrev pub number_data : ℕ → Data
+number_data n = integer (pos n)
 
 -- the table with a value at a key, where there is one
 abbrev pub put_some : {X : Type 0} → Key → (X → Data) → Option X → Members → Members

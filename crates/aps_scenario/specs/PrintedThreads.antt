@@ -7,7 +7,7 @@ use Rattle.aps_model.specs.declared.scenario.ThreadRow.{ThreadRow}
 use Rattle.aps_model.specs.Partition.{row_or_none}
 use Rattle.aps_scenario.specs.declared.key.Key.TheVariants.{Name, Partition, Priority, Policy, Critical, Program}
 use Rattle.aps_scenario.specs.PrintedOperation.{operation_text}
-use Rattle.aps_scenario.specs.PrintedTable.{put, number, array_of_each}
+use Rattle.aps_scenario.specs.PrintedTable.{put, number_data, array_of_each}
 use Rattle.aps_scenario.specs.PrintedWords.{policy_word}
 
 abbrev pub channel_table : List ℕ → Data
@@ -23,6 +23,6 @@ thread_table partitions channels row =
     (put Program (program_array channels row.program)
     (put Critical (boolean row.critical)
     (put Policy (string (policy_word row.policy))
-    (put Priority (number row.priority)
+    (put Priority (number_data row.priority)
     (put Partition (string (row_or_none partitions row.partition).name)
     (put Name (string row.name) no_members))))))

@@ -76,9 +76,9 @@ abbrev pub or_default : {A : Type 0} → Option A → Result A Kind
 or_default None = Err Missing
 or_default (Some x) = Ok x
 
-abbrev pub given : {A : Type 0} → Row A → Option Data → Result A Kind
-given row None = or_default row.default
-given row (Some d) = row.reads d
+abbrev pub given_or_default : {A : Type 0} → Row A → Option Data → Result A Kind
+given_or_default row None = or_default row.default
+given_or_default row (Some d) = row.reads d
 
 abbrev pub at_key : {A : Type 0} → Place → Key → Result A Kind → Result A Finding
 at_key place key (Ok x) = Ok x
@@ -86,7 +86,7 @@ at_key place key (Err kind) = finds kind (At place key)
 
 -- the value of a row in a table, or what is wrong with it
 abbrev pub value_of : {A : Type 0} → Row A → Place → Members → Result A Finding
-value_of row place t = at_key place row.key (given row (get_member (key_text row.key) t))
+value_of row place t = at_key place row.key (given_or_default row (get_member (key_text row.key) t))
 
 abbrev pub row_integer : Key → ℕ → ℕ → ℕ → Option ℕ → Row ℕ
 row_integer key low high step default = record { key = key; reads = integer low high step; default = default }
@@ -111,13 +111,13 @@ optional row = record { key = row.key; reads = λ d. some_of (row.reads d); defa
 -- ---- tables
 
 -- the key is one of these
-abbrev pub is_known : List Key → List ℕ → Bool
-is_known known key = list_any (λ k. bytes_eq key (key_text k)) known
+abbrev pub is_known_key : List Key → List ℕ → Bool
+is_known_key known key = list_any (λ k. bytes_eq key (key_text k)) known
 
 -- the first key of a table that is none of these; a table has its keys in the order of their bytes
 abbrev pub unknown_key : List Key → Members → Option (List ℕ)
 unknown_key known no_members = None
-unknown_key known (member key d rest) = if is_known known key then unknown_key known rest else Some key
+unknown_key known (member key d rest) = if is_known_key known key then unknown_key known rest else Some key
 
 abbrev pub none_unknown : Place → Option (List ℕ) → Result (Unit {0}) Finding
 none_unknown place None = Ok tt

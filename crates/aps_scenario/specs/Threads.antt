@@ -46,8 +46,8 @@ thread_values partitions channels joinable i name t = do
   Ok (record { name = name; partition = partition; priority = priority; policy = policy; critical = critical; program = program })
 
 -- thread i after these ones, where these are the partitions, the channels and the names that may be joined
-unfoldable pub thread_at : List PartitionRow → List (List ℕ) → List (List ℕ) → List ThreadRow → ℕ → Data → Result ThreadRow Finding
-thread_at partitions channels joinable threads i d = do
+unfoldable pub thread_read_at : List PartitionRow → List (List ℕ) → List (List ℕ) → List ThreadRow → ℕ → Data → Result ThreadRow Finding
+thread_read_at partitions channels joinable threads i d = do
   t ← table_of (place.Thread i) d
   known ← only thread_keys (place.Thread i) t
   name ← value_of (row_name Name None) (place.Thread i) t
@@ -55,7 +55,7 @@ thread_at partitions channels joinable threads i d = do
   thread_values partitions channels joinable i name t
 
 abbrev pub next_thread : List PartitionRow → List (List ℕ) → List (List ℕ) → List ThreadRow → Data → Result ThreadRow Finding
-next_thread partitions channels joinable threads d = thread_at partitions channels joinable threads (length threads) d
+next_thread partitions channels joinable threads d = thread_read_at partitions channels joinable threads (length threads) d
 
 abbrev pub threads_with_new : List ThreadRow → ThreadRow → List ThreadRow
 threads_with_new threads new = threads ++ new ∷ []

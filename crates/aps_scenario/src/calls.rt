@@ -31,7 +31,7 @@ fn has_some_key(table: &Table, keys: &[Key]) -> bool
 }
 
 fn place_of(threads: &[ThreadRow], name: &Name) -> Option<usize>
-    ensures { result ≡ spec.thread_named threads.now name.now }
+    ensures { result ≡ spec.thread_by_name threads.now name.now }
 {
     threads
         .iter()
@@ -40,7 +40,7 @@ fn place_of(threads: &[ThreadRow], name: &Name) -> Option<usize>
 
 fn thread_of(threads: &[ThreadRow], value: &Value) -> Result<ThreadId, Kind>
     requires { length threads.now ≤ most_threads }
-    ensures { result ≡ spec.thread_of threads.now (view value.now) }
+    ensures { result ≡ spec.thread_in_value threads.now (view value.now) }
 {
     let name = name(value)?;
     match place_of(threads, &name) {

@@ -2,7 +2,7 @@
 ghost use Rattle.std.specs.Prelude.{◌≡◌, ◌≤◌, [], length};
 ghost use Rattle.aps_model.specs.Limits.{most_channels};
 ghost use Rattle.toml.specs.View.{view, table_view, array_view};
-ghost use Rattle.aps_scenario.specs.Refusal.{Gives};
+ghost use Rattle.aps_scenario.specs.Refusal.{ReadsOrFails};
 ghost use Rattle.aps_scenario.specs.Channels as spec;
 
 use crate::key::Key;
@@ -19,7 +19,7 @@ const CHANNEL_KEYS: [Key; 1] = [Key::Name];
 
 /// Whether the name is one of these.
 pub fn is_among(names: &[Name], name: &Name) -> bool
-    ensures { result ≡ spec.is_among names.now name.now }
+    ensures { result ≡ spec.is_name_among names.now name.now }
 {
     names.iter().any(|other| name.text() == other.text())
 }
@@ -41,7 +41,7 @@ fn next_channel(channels: &[Name], value: &Value) -> Result<Name, Finding>
 /// The channels of these elements.
 fn channels_of(alloc: Global, array: &Array) -> Result<Vec<Name>, Failure>
     requires { length array.now.items ≤ most_channels }
-    ensures { Gives (λ channels. channels.items) result (spec.channels_from [] (array_view array.now)) }
+    ensures { ReadsOrFails (λ channels. channels.items) result (spec.channels_from [] (array_view array.now)) }
 {
     let mut channels = Vec::new(alloc);
     for value in array {
@@ -54,7 +54,7 @@ fn channels_of(alloc: Global, array: &Array) -> Result<Vec<Name>, Failure>
 /// The channels of the top table.
 #[tactic(auto, unfolding(crate::specs::Channels::channels_at, crate::specs::Elements::read_each))]
 pub fn channels_at(alloc: Global, table: &Table) -> Result<Vec<Name>, Failure>
-    ensures { Gives (λ channels. channels.items) result (spec.channels_at (table_view table.now)) }
+    ensures { ReadsOrFails (λ channels. channels.items) result (spec.channels_at (table_view table.now)) }
 {
     match tables_at(table, Place::Top, Key::Channel, MOST_CHANNELS)? {
         Some(array) => channels_of(alloc, array),

@@ -3,7 +3,7 @@ ghost use Rattle.std.specs.Prelude.{◌≡◌, ◌<◌, ◌≤◌, [], length};
 ghost use Rattle.toml.specs.View.{view, table_view, array_view};
 ghost use Rattle.aps_scenario.specs.Calls.{command_keys};
 ghost use Rattle.aps_scenario.specs.Row.{only as only_spec};
-ghost use Rattle.aps_scenario.specs.Refusal.{Gives};
+ghost use Rattle.aps_scenario.specs.Refusal.{ReadsOrFails};
 ghost use Rattle.aps_scenario.specs.Commands as spec;
 ghost use Rattle.aps_model.specs.Limits.{most_commands, most_threads};
 
@@ -103,7 +103,7 @@ fn commands_of(
     requires some_tick { 0 < shape.now.ticks }
     requires few_threads { length threads.now ≤ most_threads }
     requires few { length array.now.items ≤ most_commands }
-    ensures { Gives (λ commands. commands.items) result (spec.commands_from shape.now threads.now [] (array_view array.now)) }
+    ensures { ReadsOrFails (λ commands. commands.items) result (spec.commands_from shape.now threads.now [] (array_view array.now)) }
 {
     let mut commands = Vec::new(alloc);
     for value in array {
@@ -123,7 +123,7 @@ pub fn commands_at(
 ) -> Result<Vec<CommandRow>, Failure>
     requires some_tick { 0 < shape.now.ticks }
     requires few_threads { length threads.now ≤ most_threads }
-    ensures { Gives (λ commands. commands.items) result (spec.commands_at shape.now threads.now (table_view table.now)) }
+    ensures { ReadsOrFails (λ commands. commands.items) result (spec.commands_at shape.now threads.now (table_view table.now)) }
 {
     match tables_at(table, Place::Top, Key::Command, MOST_COMMANDS)? {
         Some(array) => commands_of(alloc, shape, threads, array),

@@ -4,7 +4,7 @@ ghost use Rattle.aps_model.specs.Limits.{most_demands};
 ghost use Rattle.toml.specs.View.{view, table_view, array_view};
 ghost use Rattle.aps_model.specs.declared.demand.Demand.{Demand};
 ghost use Rattle.aps_scenario.specs.Document.{or_told};
-ghost use Rattle.aps_scenario.specs.Refusal.{Gives, Tells};
+ghost use Rattle.aps_scenario.specs.Refusal.{ReadsOrFails, TellsScenario};
 ghost use Rattle.aps_scenario.specs.Demands as spec;
 ghost use Rattle.aps_scenario.specs.Demands.{};
 
@@ -85,7 +85,7 @@ impl Demands {
 /// `docs/FORMATS.md` has, and how it breaks it; `not-toml -` comes exactly where the bytes aren't UTF-8 or no document.
 /// `NoMemory` comes where memory runs out, and tells nothing of the text.
 pub fn demands_of(alloc: Global, bytes: &[u8]) -> Result<Demands, ScenarioRefusal>
-    ensures { Tells result (spec.reads_demands bytes.now) }
+    ensures { TellsScenario result (spec.reads_demands bytes.now) }
 {
     match toml::table_from_slice(alloc, bytes) {
         Ok(table) => demands_in(alloc, &table),
@@ -95,7 +95,7 @@ pub fn demands_of(alloc: Global, bytes: &[u8]) -> Result<Demands, ScenarioRefusa
 
 /// The demands that a document's top table states, or why it states none, as it is told.
 fn demands_in(alloc: Global, table: &Table) -> Result<Demands, ScenarioRefusal>
-    ensures { Tells result (or_told (spec.demands_at (table_view table.now))) }
+    ensures { TellsScenario result (or_told (spec.demands_at (table_view table.now))) }
 {
     match demands_at(alloc, table) {
         Ok(demands) => Ok(demands),
@@ -107,7 +107,7 @@ fn demands_in(alloc: Global, table: &Table) -> Result<Demands, ScenarioRefusal>
 /// The demands of the top table.
 #[tactic(auto, unfolding(crate::specs::Demands::demands_at))]
 fn demands_at(alloc: Global, table: &Table) -> Result<Demands, Failure>
-    ensures { Gives (λ d. d) result (spec.demands_at (table_view table.now)) }
+    ensures { ReadsOrFails (λ d. d) result (spec.demands_at (table_view table.now)) }
 {
     only(&TOP_KEYS, Place::Top, table)?;
     let shape = sizes_at(table)?;
@@ -140,7 +140,7 @@ fn sizes_at(table: &Table) -> Result<Shape, Finding>
 /// The elements of the array of demands.
 #[tactic(auto, unfolding(crate::specs::Demands::asked_at, crate::specs::Elements::read_each))]
 fn asked_at(alloc: Global, table: &Table) -> Result<Vec<Demand>, Failure>
-    ensures { Gives (λ demands. demands.items) result (spec.asked_at (table_view table.now)) }
+    ensures { ReadsOrFails (λ demands. demands.items) result (spec.demands_read (table_view table.now)) }
 {
     match tables_at(table, Place::Top, Key::Demand, MOST_DEMANDS)? {
         Some(array) => demands_from(alloc, array),
@@ -151,7 +151,7 @@ fn asked_at(alloc: Global, table: &Table) -> Result<Vec<Demand>, Failure>
 /// The demands of these elements.
 fn demands_from(alloc: Global, array: &Array) -> Result<Vec<Demand>, Failure>
     requires { length array.now.items ≤ most_demands }
-    ensures { Gives (λ demands. demands.items) result (spec.demands_from [] (array_view array.now)) }
+    ensures { ReadsOrFails (λ demands. demands.items) result (spec.demands_from [] (array_view array.now)) }
 {
     let mut demands = Vec::new(alloc);
     for value in array {
@@ -184,7 +184,7 @@ fn is_taken(demands: &[Demand], name: &Name) -> bool
 }
 
 fn is_among(demands: &[Demand], name: &Name) -> bool
-    ensures { result ≡ spec.is_among demands.now name.now }
+    ensures { result ≡ spec.has_demand_named demands.now name.now }
 {
     demands
         .iter()

@@ -34,7 +34,7 @@ fn own_name(table: &Table) -> Option<Name>
 
 // The name that a command would give to a new partition, whatever else is wrong with it.
 fn created_name(value: &Value) -> Option<Name>
-    ensures { result ≡ spec.created_name (view value.now) }
+    ensures { result ≡ spec.name_to_create (view value.now) }
 {
     let Some(table) = value.as_table() else {
         return None;
@@ -55,7 +55,7 @@ fn add_rows(names: &mut Vec<Name>, rows: &[PartitionRow]) -> Result<(), NoMemory
 }
 
 fn add_name(names: &mut Vec<Name>, name: Option<Name>) -> Result<(), NoMemory>
-    ensures { OnOk result (names.new.items ≡ names.old.items ++ spec.listed name) }
+    ensures { OnOk result (names.new.items ≡ names.old.items ++ spec.name_listed name) }
 {
     if let Some(name) = name {
         names.push(name)?;

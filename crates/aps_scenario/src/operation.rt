@@ -72,7 +72,7 @@ fn number(text: &[u8], most: u64) -> Option<u64>
 }
 
 fn run(text: &[u8]) -> Result<Op, OperationFault>
-    ensures { result ≡ spec.run text.now }
+    ensures { result ≡ spec.run_of_text text.now }
 {
     match number(text, LAST_MOMENT) {
         Some(ns) => Ok(Op::Run(ns)),

@@ -3,7 +3,7 @@ ghost use Rattle.std.specs.Prelude.{◌≡◌, ◌<◌, ◌≤◌, [], ◌∷◌
 ghost use Rattle.toml.specs.View.{view, table_view, array_view};
 ghost use Rattle.aps_model.specs.Limits.{last_partition, most_partitions};
 ghost use Rattle.aps_model.specs.Partition.{row_or_none, partition_named};
-ghost use Rattle.aps_scenario.specs.Refusal.{Gives};
+ghost use Rattle.aps_scenario.specs.Refusal.{ReadsOrFails};
 ghost use Rattle.aps_scenario.specs.Row.{value_of};
 ghost use Rattle.aps_scenario.specs.Partitions as spec;
 
@@ -155,7 +155,7 @@ fn system(alloc: Global, parts: u16) -> Result<Vec<PartitionRow>, NoMemory>
 /// The root and the partitions of these elements, each with the budget that is left to it.
 fn partitions_of(alloc: Global, parts: u16, array: &Array) -> Result<Vec<PartitionRow>, Failure>
     requires { length array.now.items ≤ last_partition }
-    ensures { Gives (λ rows. rows.items) result (spec.partitions_from parts (spec.system parts ∷ []) (array_view array.now)) }
+    ensures { ReadsOrFails (λ rows. rows.items) result (spec.partitions_from parts (spec.system parts ∷ []) (array_view array.now)) }
 {
     let mut rows = system(alloc, parts)?;
     for value in array {
@@ -168,7 +168,7 @@ fn partitions_of(alloc: Global, parts: u16, array: &Array) -> Result<Vec<Partiti
 /// The partitions of the top table, the root first.
 #[tactic(auto, unfolding(crate::specs::Partitions::partitions_at, crate::specs::Elements::read_each))]
 pub fn partitions_at(alloc: Global, parts: u16, table: &Table) -> Result<Vec<PartitionRow>, Failure>
-    ensures { Gives (λ rows. rows.items) result (spec.partitions_at parts (table_view table.now)) }
+    ensures { ReadsOrFails (λ rows. rows.items) result (spec.partitions_at parts (table_view table.now)) }
 {
     match tables_at(table, Place::Top, Key::Partition, MOST_PARTITIONS)? {
         Some(array) => partitions_of(alloc, parts, array),

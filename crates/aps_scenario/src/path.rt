@@ -20,7 +20,7 @@ pub struct PathText {
 
 impl Model for PathText {
     ghost use Rattle.std.specs.Prelude.{ℕ, List, take, length};
-    ghost use Rattle.aps_scenario.specs.PathText.{padded, FitsPath};
+    ghost use Rattle.aps_scenario.specs.PathText.{path_padded, FitsPath};
 
     ghost Value = { List ℕ };
 
@@ -28,7 +28,7 @@ impl Model for PathText {
 
     ghost invariant = { λ path. FitsPath path.bytes path.len };
 
-    ghost inverse = { λ text. record { bytes = padded text; len = length text } };
+    ghost inverse = { λ text. record { bytes = path_padded text; len = length text } };
 
     ghost inverse_ok = { λ path fits. Prim.rw (fits.zeros, fits.count) };
 }

@@ -3,7 +3,7 @@ ghost use Rattle.std.specs.Prelude.{◌≡◌, ◌≤◌, [], length};
 ghost use Rattle.aps_model.specs.Limits.{most_channels, most_operations};
 ghost use Rattle.toml.specs.View.{view, table_view, array_view};
 ghost use Rattle.aps_model.specs.Program.{is_last_op};
-ghost use Rattle.aps_scenario.specs.Refusal.{Gives};
+ghost use Rattle.aps_scenario.specs.Refusal.{ReadsOrFails};
 ghost use Rattle.aps_scenario.specs.Program as spec;
 
 use crate::key::Key;
@@ -94,7 +94,7 @@ fn operations_of(
 ) -> Result<Vec<Op>, Failure>
     requires few_channels { length channels.now ≤ most_channels }
     requires few { length array.now.items ≤ most_operations }
-    ensures { Gives (λ ops. ops.items) result (spec.operations_from count channels.now joinable.now thread [] (array_view array.now)) }
+    ensures { ReadsOrFails (λ ops. ops.items) result (spec.operations_from count channels.now joinable.now thread [] (array_view array.now)) }
 {
     let mut ops = Vec::new(alloc);
     for value in array {
@@ -114,7 +114,7 @@ pub fn program_at(
     joinable: &[Name],
 ) -> Result<Program, Failure>
     requires { length channels.now ≤ most_channels }
-    ensures { Gives (λ program. program) result (spec.program_at channels.now joinable.now thread (table_view table.now)) }
+    ensures { ReadsOrFails (λ program. program) result (spec.program_at channels.now joinable.now thread (table_view table.now)) }
 {
     let array = array_at(
         table,

@@ -2,7 +2,7 @@
 ghost use Rattle.std.specs.Prelude.{◌≡◌};
 ghost use Rattle.toml.specs.View.{table_view};
 ghost use Rattle.aps_scenario.specs.Document.{or_told};
-ghost use Rattle.aps_scenario.specs.Refusal.{Gives, Tells};
+ghost use Rattle.aps_scenario.specs.Refusal.{ReadsOrFails, TellsScenario};
 ghost use Rattle.aps_scenario.specs.Reading as spec;
 
 use crate::channels::channels_at;
@@ -36,7 +36,7 @@ const TOP_KEYS: [Key; 13] = [
 
 #[tactic(auto, unfolding(crate::specs::Reading::scenario_at))]
 fn scenario_at(alloc: Global, table: &Table) -> Result<Scenario, Failure>
-    ensures { Gives (λ s. s) result (spec.scenario_at (table_view table.now)) }
+    ensures { ReadsOrFails (λ s. s) result (spec.scenario_at (table_view table.now)) }
 {
     only(&TOP_KEYS, Place::Top, table)?;
     let shape = shape_at(table)?;
@@ -54,7 +54,7 @@ fn scenario_at(alloc: Global, table: &Table) -> Result<Scenario, Failure>
 /// tests that `docs/FORMATS.md` has, and how it breaks it; `not-toml -` comes exactly where the bytes
 /// aren't UTF-8 or no document. `NoMemory` comes where memory runs out, and tells nothing of the text.
 pub fn scenario_of(alloc: Global, bytes: &[u8]) -> Result<Scenario, ScenarioRefusal>
-    ensures { Tells result (spec.reads bytes.now) }
+    ensures { TellsScenario result (spec.reads bytes.now) }
 {
     match toml::table_from_slice(alloc, bytes) {
         Ok(table) => scenario_in(alloc, &table),
@@ -64,7 +64,7 @@ pub fn scenario_of(alloc: Global, bytes: &[u8]) -> Result<Scenario, ScenarioRefu
 
 /// The scenario that a document's top table is, or why it is none, as it is told.
 fn scenario_in(alloc: Global, table: &Table) -> Result<Scenario, ScenarioRefusal>
-    ensures { Tells result (or_told (spec.scenario_at (table_view table.now))) }
+    ensures { TellsScenario result (or_told (spec.scenario_at (table_view table.now))) }
 {
     match scenario_at(alloc, table) {
         Ok(scenario) => Ok(scenario),

@@ -221,13 +221,13 @@ pub fn tables_at(
 }
 
 fn is_known(known: &[Key], key: &str) -> bool
-    ensures { result ≡ spec.is_known known.now key.now }
+    ensures { result ≡ spec.is_known_key known.now key.now }
 {
     known.iter().any(|k| key == k.text())
 }
 
 fn first_unknown<'a>(table: &'a Table, known: &[Key]) -> Option<&'a String>
-    ensures { option_copied result ≡ find (λ k. not (spec.is_known known.now (string_bytes k))) (keys table.now) }
+    ensures { option_copied result ≡ find (λ k. not (spec.is_known_key known.now (string_bytes k))) (keys table.now) }
 {
     table.keys().find(|k| !is_known(known, k.as_str()))
 }

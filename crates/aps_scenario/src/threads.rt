@@ -1,7 +1,7 @@
 //! The threads of a scenario, as the elements of an array.
 ghost use Rattle.std.specs.Prelude.{◌≡◌, ◌<◌, ◌≤◌, [], length};
 ghost use Rattle.toml.specs.View.{view, table_view, array_view};
-ghost use Rattle.aps_scenario.specs.Refusal.{Gives};
+ghost use Rattle.aps_scenario.specs.Refusal.{ReadsOrFails};
 ghost use Rattle.aps_scenario.specs.Threads as spec;
 ghost use Rattle.aps_model.specs.Limits.{most_channels, most_partitions, most_threads};
 
@@ -48,7 +48,7 @@ fn next_thread(
     requires few_partitions { length partitions.now ≤ most_partitions }
     requires few_channels { length channels.now ≤ most_channels }
     requires few { length threads.now ≤ most_threads }
-    ensures { Gives (λ row. row) result (spec.next_thread partitions.now channels.now joinable.now threads.now (view value.now)) }
+    ensures { ReadsOrFails (λ row. row) result (spec.next_thread partitions.now channels.now joinable.now threads.now (view value.now)) }
 {
     let index = threads.len() as u16;
     let place = Place::Thread(index);
@@ -73,7 +73,7 @@ fn thread_values(
     requires some_partition { 0 < length partitions.now }
     requires few_partitions { length partitions.now ≤ most_partitions }
     requires few_channels { length channels.now ≤ most_channels }
-    ensures { Gives (λ row. row) result
+    ensures { ReadsOrFails (λ row. row) result
         (spec.thread_values partitions.now channels.now joinable.now index name (table_view table.now)) }
 {
     let place = Place::Thread(index);
@@ -104,7 +104,7 @@ fn threads_of(
     requires few_partitions { length partitions.now ≤ most_partitions }
     requires few_channels { length channels.now ≤ most_channels }
     requires few { length array.now.items ≤ most_threads }
-    ensures { Gives (λ threads. threads.items) result
+    ensures { ReadsOrFails (λ threads. threads.items) result
         (spec.threads_from partitions.now channels.now joinable.now [] (array_view array.now)) }
 {
     let mut threads = Vec::new(alloc);
@@ -128,7 +128,7 @@ pub fn threads_at(
     requires some_partition { 0 < length partitions.now }
     requires few_partitions { length partitions.now ≤ most_partitions }
     requires few_channels { length channels.now ≤ most_channels }
-    ensures { Gives (λ threads. threads.items) result (spec.threads_at partitions.now channels.now joinable.now (table_view table.now)) }
+    ensures { ReadsOrFails (λ threads. threads.items) result (spec.threads_at partitions.now channels.now joinable.now (table_view table.now)) }
 {
     match tables_at(table, Place::Top, Key::Thread, MOST_THREADS)? {
         Some(array) => threads_of(alloc, partitions, channels, joinable, array),

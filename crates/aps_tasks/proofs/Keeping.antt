@@ -9,7 +9,7 @@ use Rattle.aps_tasks.specs.declared.task.Task.{Task}
 use Rattle.aps_tasks.specs.Calls.{left_after}
 use Rattle.aps_tasks.specs.Kept.{AreStamped, IsLeft, IsTasks}
 use Rattle.aps_tasks.specs.Table.{Table, put_back, put_given, put_state}
-use Rattle.aps_tasks.specs.Tasks.{Tasks, no_task, op_at, task_at}
+use Rattle.aps_tasks.specs.Tasks.{Tasks, no_task, planned_op, task_at}
 
 -- the tasks of this table beside the same plans
 abbrev pub with_table : Tasks → Table → Tasks
@@ -32,9 +32,9 @@ each_set P tasks x task here there y within =
       | inr other ↦ subst (P y) (sym (get_or-set_other tasks x y task no_task other)) (there y inside)
     ]
 
-left_set : (t : Tasks) (x : ℕ) (task : Task) → IsTasks t → (x < length t.tasks → IsLeft (op_at t x task.place) task.left)
-    → (y : ℕ) → y < length (set t.tasks x task) → IsLeft (op_at t y (get_or (set t.tasks x task) y no_task).place) (get_or (set t.tasks x task) y no_task).left
-left_set t x task keeps here = each_set (λ y u. IsLeft (op_at t y u.place) u.left) t.tasks x task here keeps.left
+left_set : (t : Tasks) (x : ℕ) (task : Task) → IsTasks t → (x < length t.tasks → IsLeft (planned_op t x task.place) task.left)
+    → (y : ℕ) → y < length (set t.tasks x task) → IsLeft (planned_op t y (get_or (set t.tasks x task) y no_task).place) (get_or (set t.tasks x task) y no_task).left
+left_set t x task keeps here = each_set (λ y u. IsLeft (planned_op t y u.place) u.left) t.tasks x task here keeps.left
 
 -- the same stamps as before
 stamps_same : (tasks : List Task) (x : ℕ) (task : Task) (stamps : ℕ) → AreStamped tasks stamps → task.stamp ≡ (get_or tasks x no_task).stamp → AreStamped (set tasks x task) stamps
@@ -94,7 +94,7 @@ stamps_more tasks x task stamps are few is = record {
 
 -- another task with the same stamp
 pub kept_task : (t : Tasks) (u : Table) (x : ℕ) (task : Task) → IsTasks t → u ≡ record (table_of t) { tasks = set t.tasks x task } → task.stamp ≡ (task_at t x).stamp
-    → (x < length t.tasks → IsLeft (op_at t x task.place) task.left) → IsTasks (with_table t u)
+    → (x < length t.tasks → IsLeft (planned_op t x task.place) task.left) → IsTasks (with_table t u)
 kept_task t u x task keeps leaves same left = subst (λ v. IsTasks (with_table t v)) (sym leaves) (record {
   shape = keeps.shape;
   each = length-set t.tasks x task ∙ keeps.each;
@@ -117,13 +117,13 @@ kept_stamped t u x state keeps few leaves =
     })
 
 -- less is left of an operation, but something where it ends
-pub left_less : (t : Tasks) (x ns : ℕ) → IsTasks t → x < length t.tasks → IsLeft (op_at t x (task_at t x).place) (left_after (task_at t x).left ns)
+pub left_less : (t : Tasks) (x ns : ℕ) → IsTasks t → x < length t.tasks → IsLeft (planned_op t x (task_at t x).place) (left_after (task_at t x).left ns)
 left_less t x ns keeps within = by (task_at t x).left (keeps.left x within)
   where
     clash : (most : ℕ) → Some most ≡ None → ⊥
     clash most e = cc
 
-    by : (left : Option ℕ) → IsLeft (op_at t x (task_at t x).place) left → IsLeft (op_at t x (task_at t x).place) (left_after left ns)
+    by : (left : Option ℕ) → IsLeft (planned_op t x (task_at t x).place) left → IsLeft (planned_op t x (task_at t x).place) (left_after left ns)
     by None is = is
     by (Some most) is = record { forever = λ e. absurd cc; none = λ e. absurd (clash most (is.none e)) }
 

@@ -15,7 +15,7 @@ use Rattle.aps_tasks.specs.declared.task.Task.{Task}
 use Rattle.aps_tasks.specs.Kept.{IsLeft, IsTasks}
 use Rattle.aps_tasks.specs.Start.{plan_of, start_table, start_tasks, task_of}
 use Rattle.aps_tasks.specs.Table.{Table}
-use Rattle.aps_tasks.specs.Tasks.{Tasks, no_task, op_at, op_of, task_at}
+use Rattle.aps_tasks.specs.Tasks.{Tasks, no_task, planned_op, op_of, task_at}
 use Rattle.aps_tasks.proofs.Lasting.{duration_left}
 use Rattle.aps_tasks.proofs.Short.{plans_short}
 use Rattle.aps_tasks.proofs.Stamps.{stamps_at_start}
@@ -42,7 +42,7 @@ left_at_start s x within =
     let row = get_or s.threads x no_thread_row in
     let op : first_op row ≡ op_of (start_tasks s) x =
     ap (λ (p : List Op). get_or p 0 Exit) (sym (ap (λ p. p.program) (get_or-map plan_of s.threads x no_thread_row)))
-    ∙ ap (op_at (start_tasks s) x) (sym first.place) in
+    ∙ ap (planned_op (start_tasks s) x) (sym first.place) in
     subst (λ (o : Op). IsLeft o (task_at (start_tasks s) x).left) op
     (subst (IsLeft (first_op row)) (sym first.left) (duration_left s.shape (first_op row)))
 

@@ -20,33 +20,33 @@ use Rattle.aps_model.specs.SchedulerState.{SchedulerState, no_thread, thread_at,
 use Rattle.aps_model.specs.Step.{enter_next, give_back}
 use Rattle.aps_tasks.specs.declared.plan.Plan.{Plan}
 use Rattle.aps_tasks.specs.declared.task.Task.{Task}
-use Rattle.aps_tasks.specs.Calls.{advanced, entered, given_back, made_ready, restamped, spent}
+use Rattle.aps_tasks.specs.Calls.{operation_advanced, entered, given_back, made_ready, restamped, time_passed}
 use Rattle.aps_tasks.specs.Start.{plan_of, start_tasks, task_of}
 use Rattle.aps_tasks.specs.Tasks.{Tasks, op_of, plan_at, task_at, with_task}
-use Rattle.aps_tasks.specs.Tasks.{op_at as op_in, with_stamped as with_task_stamped, with_state as with_task_state}
-use Rattle.aps_tasks.specs.Tied.{IsTied}
+use Rattle.aps_tasks.specs.Tasks.{planned_op as op_in, tasks_with_stamped as with_task_stamped, tasks_with_state as with_task_state}
+use Rattle.aps_tasks.specs.Tied.{AreTasksTied}
 
-pub tied_opening : (scenario : Scenario) → IsTied scenario (opening scenario) (start_tasks scenario)
+pub tied_opening : (scenario : Scenario) → AreTasksTied scenario (opening scenario) (start_tasks scenario)
 tied_opening scenario = record { plans = refl; tick = refl; call = refl; tasks = refl; stamps = refl }
 
-pub tied_task : (scenario : Scenario) (s : SchedulerState) (t : Tasks) (x : ℕ) → IsTied scenario s t → task_at t x ≡ task_of (thread_at s x)
+pub tied_task : (scenario : Scenario) (s : SchedulerState) (t : Tasks) (x : ℕ) → AreTasksTied scenario s t → task_at t x ≡ task_of (thread_at s x)
 tied_task scenario s t x tied =
     ap (λ (tasks : List Task). get_or tasks x (task_of no_thread)) tied.tasks ∙ get_or-map task_of s.threads x no_thread
 
-tied_plan : (scenario : Scenario) (s : SchedulerState) (t : Tasks) (x : ℕ) → IsTied scenario s t → plan_at t x ≡ plan_of (thread_row scenario x)
+tied_plan : (scenario : Scenario) (s : SchedulerState) (t : Tasks) (x : ℕ) → AreTasksTied scenario s t → plan_at t x ≡ plan_of (thread_row scenario x)
 tied_plan scenario s t x tied =
     ap (λ (plans : List Plan). get_or plans x (plan_of no_thread_row)) tied.plans ∙ get_or-map plan_of scenario.threads x no_thread_row
 
-op_same : (scenario : Scenario) (s : SchedulerState) (t : Tasks) (x place : ℕ) → IsTied scenario s t → op_in t x place ≡ op_at scenario x place
+op_same : (scenario : Scenario) (s : SchedulerState) (t : Tasks) (x place : ℕ) → AreTasksTied scenario s t → op_in t x place ≡ op_at scenario x place
 op_same scenario s t x place tied = ap (λ (p : Plan). get_or p.program place Exit) (tied_plan scenario s t x tied)
 
-pub tied_op : (scenario : Scenario) (s : SchedulerState) (t : Tasks) (x : ℕ) → IsTied scenario s t → op_of t x ≡ op_at scenario x (thread_at s x).place
+pub tied_op : (scenario : Scenario) (s : SchedulerState) (t : Tasks) (x : ℕ) → AreTasksTied scenario s t → op_of t x ≡ op_at scenario x (thread_at s x).place
 tied_op scenario s t x tied =
     ap (λ (task : Task). op_in t x task.place) (tied_task scenario s t x tied) ∙ op_same scenario s t x (thread_at s x).place tied
 
 -- one thread is another one
-tied_thread : (scenario : Scenario) (s : SchedulerState) (t : Tasks) (x : ℕ) (thread : ThreadNow) (task : Task) → IsTied scenario s t → task ≡ task_of thread
-    → IsTied scenario (with_thread s x thread) (with_task t x task)
+tied_thread : (scenario : Scenario) (s : SchedulerState) (t : Tasks) (x : ℕ) (thread : ThreadNow) (task : Task) → AreTasksTied scenario s t → task ≡ task_of thread
+    → AreTasksTied scenario (with_thread s x thread) (with_task t x task)
 tied_thread scenario s t x thread task tied same = record {
   plans = tied.plans;
   tick = tied.tick;
@@ -56,8 +56,8 @@ tied_thread scenario s t x thread task tied same = record {
 }
 
 -- with the next stamp
-tied_stamped : (scenario : Scenario) (s : SchedulerState) (t : Tasks) (x : ℕ) (thread : ThreadNow) (task : Task) → IsTied scenario s t → task ≡ task_of thread
-    → IsTied scenario (with_stamped s x thread) (with_task_stamped t x task)
+tied_stamped : (scenario : Scenario) (s : SchedulerState) (t : Tasks) (x : ℕ) (thread : ThreadNow) (task : Task) → AreTasksTied scenario s t → task ≡ task_of thread
+    → AreTasksTied scenario (with_stamped s x thread) (with_task_stamped t x task)
 tied_stamped scenario s t x thread task tied same = record {
   plans = tied.plans;
   tick = tied.tick;
@@ -68,18 +68,18 @@ tied_stamped scenario s t x thread task tied same = record {
   stamps = ap (λ n. n + 1) tied.stamps;
 }
 
-pub tied_state : (scenario : Scenario) (s : SchedulerState) (t : Tasks) (x : ℕ) (state : State) → IsTied scenario s t
-    → IsTied scenario (with_state s x state) (with_task_state t x state)
+pub tied_state : (scenario : Scenario) (s : SchedulerState) (t : Tasks) (x : ℕ) (state : State) → AreTasksTied scenario s t
+    → AreTasksTied scenario (with_state s x state) (with_task_state t x state)
 tied_state scenario s t x state tied =
     tied_thread scenario s t x (record (thread_at s x) { state = state }) (record (task_at t x) { state = state }) tied
     (ap (λ (task : Task). record task { state = state }) (tied_task scenario s t x tied))
 
-pub tied_restamp : (scenario : Scenario) (s : SchedulerState) (t : Tasks) (x : ℕ) → IsTied scenario s t
-    → IsTied scenario (with_stamped s x (thread_at s x)) (restamped t x)
+pub tied_restamp : (scenario : Scenario) (s : SchedulerState) (t : Tasks) (x : ℕ) → AreTasksTied scenario s t
+    → AreTasksTied scenario (with_stamped s x (thread_at s x)) (restamped t x)
 tied_restamp scenario s t x tied = tied_stamped scenario s t x (thread_at s x) (task_at t x) tied (tied_task scenario s t x tied)
 
-pub tied_spend : (scenario : Scenario) (s : SchedulerState) (t : Tasks) (ns : ℕ) (pick : Pick) → IsTied scenario s t
-    → IsTied scenario (spend s ns (Some pick)) (spent t pick.thread ns)
+pub tied_spend : (scenario : Scenario) (s : SchedulerState) (t : Tasks) (ns : ℕ) (pick : Pick) → AreTasksTied scenario s t
+    → AreTasksTied scenario (spend s ns (Some pick)) (time_passed t pick.thread ns)
 tied_spend scenario s t ns pick tied =
     let x = pick.thread in
     let thread = thread_at s x in
@@ -93,10 +93,10 @@ slice_same : (a b : Shape) (policy : Policy) (since : ℕ) → a.tick ≡ b.tick
 slice_same a b Fifo since tick = refl
 slice_same a b Rr since tick = ap (λ n. nat_le (4 * n) since) tick
 
-pub tied_give_back : (scenario : Scenario) (s : SchedulerState) (t : Tasks) (x : ℕ) → IsTied scenario s t
-    → IsTied scenario (give_back scenario s x (thread_at s x).state) (given_back t x (task_at t x).state)
+pub tied_give_back : (scenario : Scenario) (s : SchedulerState) (t : Tasks) (x : ℕ) → AreTasksTied scenario s t
+    → AreTasksTied scenario (give_back scenario s x (thread_at s x).state) (given_back t x (task_at t x).state)
 tied_give_back scenario s t x tied =
-    subst (λ (state : State). IsTied scenario (give_back scenario s x (thread_at s x).state) (given_back t x state))
+    subst (λ (state : State). AreTasksTied scenario (give_back scenario s x (thread_at s x).state) (given_back t x state))
     (sym (ap (λ (task : Task). task.state) (tied_task scenario s t x tied)))
     (by (thread_at s x).state)
   where
@@ -108,16 +108,16 @@ tied_give_back scenario s t x tied =
     ready : Bool → SchedulerState
     ready b = cond b (with_stamped s x (record (thread_at s x) { state = Ready })) (with_state s x Ready)
 
-    by_slice : (b : Bool) → IsTied scenario (cond b (with_stamped s x (record (thread_at s x) { state = Ready })) (with_state s x Ready)) (cond b (made_ready t x) (with_task_state t x Ready))
+    by_slice : (b : Bool) → AreTasksTied scenario (cond b (with_stamped s x (record (thread_at s x) { state = Ready })) (with_state s x Ready)) (cond b (made_ready t x) (with_task_state t x Ready))
     by_slice true =
         tied_stamped scenario s t x (record (thread_at s x) { state = Ready }) (record (task_at t x) { state = Ready }) tied
         (ap (λ (task : Task). record task { state = Ready }) (tied_task scenario s t x tied))
     by_slice false = tied_state scenario s t x Ready tied
 
-    by : (state : State) → IsTied scenario (give_back scenario s x state) (given_back t x state)
+    by : (state : State) → AreTasksTied scenario (give_back scenario s x state) (given_back t x state)
     by Ready = tied
     by (Running c) =
-        subst (λ (b : Bool). IsTied scenario (give_back scenario s x (Running c)) (cond b (made_ready t x) (with_task_state t x Ready))) (sym over)
+        subst (λ (b : Bool). AreTasksTied scenario (give_back scenario s x (Running c)) (cond b (made_ready t x) (with_task_state t x Ready))) (sym over)
         (by_slice (is_slice_over s.shape (thread_row scenario x).policy (thread_at s x).since))
     by (Sleeping until) = tied
     by (Sending c) = tied
@@ -141,7 +141,7 @@ duration_same a b Repeat call = ap (λ n. Some n) call
 duration_same a b Exit call = ap (λ n. Some n) call
 
 -- a thread enters the operation at a place, and stays in its state where that is no sleep
-entered_same : (scenario : Scenario) (s : SchedulerState) (t : Tasks) (x place now : ℕ) → IsTied scenario s t
+entered_same : (scenario : Scenario) (s : SchedulerState) (t : Tasks) (x place now : ℕ) → AreTasksTied scenario s t
     → entered t x place now ≡ task_of (enter scenario s.shape x place now (thread_at s x).state (thread_at s x))
 entered_same scenario s t x place now tied =
     let op = op_same scenario s t x place tied in
@@ -150,8 +150,8 @@ entered_same scenario s t x place now tied =
     ap (duration t.shape) op ∙ duration_same t.shape s.shape (op_at scenario x place) tied.call in
     λ j. record (task j) { place = place; left = left j; state = state_in (op j) now (task j).state }
 
-pub tied_enter : (scenario : Scenario) (s : SchedulerState) (t : Tasks) (x now c : ℕ) → IsTied scenario s t → (thread_at s x).state ≡ Running c
-    → IsTied scenario (enter_next scenario s x now (op_at scenario x (thread_at s x).place) (Running c)) (advanced t x now)
+pub tied_enter : (scenario : Scenario) (s : SchedulerState) (t : Tasks) (x now c : ℕ) → AreTasksTied scenario s t → (thread_at s x).state ≡ Running c
+    → AreTasksTied scenario (enter_next scenario s x now (op_at scenario x (thread_at s x).place) (Running c)) (operation_advanced t x now)
 tied_enter scenario s t x now c tied running =
     let op = tied_op scenario s t x tied in
     let task = tied_task scenario s t x tied in

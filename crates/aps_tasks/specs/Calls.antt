@@ -7,19 +7,19 @@ use Rattle.aps_model.specs.declared.state.State.{State}
 use Rattle.aps_model.specs.declared.state.State.TheVariants.{Ready, Running}
 use Rattle.aps_model.specs.Operation.{duration, is_slice_over, place_after, state_in}
 use Rattle.aps_tasks.specs.declared.task.Task.{Task}
-use Rattle.aps_tasks.specs.Tasks.{Tasks, op_at, op_of, plan_at, task_at, with_stamped, with_state, with_task}
+use Rattle.aps_tasks.specs.Tasks.{Tasks, planned_op, op_of, plan_at, task_at, tasks_with_stamped, tasks_with_state, with_task}
 
 -- the thread enters the operation at a place of its program
 abbrev pub entered : Tasks → ℕ → ℕ → ℕ → Task
 entered t x place now = record (task_at t x) {
   place = place;
-  left = duration t.shape (op_at t x place);
-  state = state_in (op_at t x place) now (task_at t x).state;
+  left = duration t.shape (planned_op t x place);
+  state = state_in (planned_op t x place) now (task_at t x).state;
 }
 
 -- it enters its next operation
-abbrev pub advanced : Tasks → ℕ → ℕ → Tasks
-advanced t x now = with_task t x (entered t x (place_after (op_of t x) (task_at t x).place) now)
+abbrev pub operation_advanced : Tasks → ℕ → ℕ → Tasks
+operation_advanced t x now = with_task t x (entered t x (place_after (op_of t x) (task_at t x).place) now)
 
 -- until when a thread sleeps that enters the operation now, if that is a sleep
 abbrev pub sleep_end : Op → ℕ → Option ℕ
@@ -28,16 +28,16 @@ sleep_end op now = None
 
 -- it is ready, with the next stamp
 abbrev pub made_ready : Tasks → ℕ → Tasks
-made_ready t x = with_stamped t x (record (task_at t x) { state = Ready })
+made_ready t x = tasks_with_stamped t x (record (task_at t x) { state = Ready })
 
 -- it has the next stamp
 abbrev pub restamped : Tasks → ℕ → Tasks
-restamped t x = with_stamped t x (task_at t x)
+restamped t x = tasks_with_stamped t x (task_at t x)
 
 -- a thread that runs is ready again, with the next stamp if its slice is over
 abbrev pub given_back : Tasks → ℕ → State → Tasks
 given_back t x (Running c) =
-    if is_slice_over t.shape (plan_at t x).policy (task_at t x).since then made_ready t x else with_state t x Ready
+    if is_slice_over t.shape (plan_at t x).policy (task_at t x).since then made_ready t x else tasks_with_state t x Ready
 given_back t x state = t
 
 -- what is left of an operation after so many ns of it
@@ -50,8 +50,8 @@ is_over (Some zero) = true
 is_over left = false
 
 -- it has run for so many ns
-abbrev pub spent : Tasks → ℕ → ℕ → Tasks
-spent t x ns = with_task t x (record (task_at t x) {
+abbrev pub time_passed : Tasks → ℕ → ℕ → Tasks
+time_passed t x ns = with_task t x (record (task_at t x) {
   left = left_after (task_at t x).left ns;
   since = (task_at t x).since + ns;
 })

@@ -30,23 +30,23 @@ abbrev pub plan_at : Tasks → ℕ → Plan
 plan_at t x = slice_index_or t.plans x no_plan
 
 -- the operation at a place of the thread's program
-abbrev pub op_at : Tasks → ℕ → ℕ → Op
-op_at t x place = slice_index_or (plan_at t x).program place Exit
+abbrev pub planned_op : Tasks → ℕ → ℕ → Op
+planned_op t x place = slice_index_or (plan_at t x).program place Exit
 
 -- the thread's operation
 abbrev pub op_of : Tasks → ℕ → Op
-op_of t x = op_at t x (task_at t x).place
+op_of t x = planned_op t x (task_at t x).place
 
 -- the thread's task is this one
 abbrev pub with_task : Tasks → ℕ → Task → Tasks
 with_task t x task = record t { tasks = slice_set t.tasks x task }
 
 -- the thread's task is this one, with the next stamp
-abbrev pub with_stamped : Tasks → ℕ → Task → Tasks
-with_stamped t x task = record t {
+abbrev pub tasks_with_stamped : Tasks → ℕ → Task → Tasks
+tasks_with_stamped t x task = record t {
   tasks = slice_set t.tasks x (record task { stamp = t.stamps; since = 0 });
   stamps = t.stamps + 1;
 }
 
-abbrev pub with_state : Tasks → ℕ → State → Tasks
-with_state t x state = with_task t x (record (task_at t x) { state = state })
+abbrev pub tasks_with_state : Tasks → ℕ → State → Tasks
+tasks_with_state t x state = with_task t x (record (task_at t x) { state = state })

@@ -6,5 +6,5 @@ use Rattle.aps_tasks.specs.Kept.{IsTasks}
 abbrev pub tasks_of : Inside → Tasks
 tasks_of t = record { shape = t.shape; plans = t.plans.items; tasks = t.table.tasks; stamps = t.table.stamps }
 
-abbrev pub keeps : Inside → Type 0
-keeps t = IsTasks (tasks_of t)
+abbrev pub KeepsTasks : Inside → Type 0
+KeepsTasks t = IsTasks (tasks_of t)

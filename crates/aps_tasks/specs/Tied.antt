@@ -6,7 +6,7 @@ use Rattle.aps_tasks.specs.Start.{plan_of, task_of}
 use Rattle.aps_tasks.specs.Tasks.{Tasks}
 
 -- the tasks are those of the state's threads, whose own values they leave out, and the plans are the scenario's
-pub record IsTied (scenario : Scenario) (s : SchedulerState) (t : Tasks) : Type 0 where
+pub record AreTasksTied (scenario : Scenario) (s : SchedulerState) (t : Tasks) : Type 0 where
   pub plans : t.plans ≡ map plan_of scenario.threads
   pub tick : t.shape.tick ≡ s.shape.tick
   pub call : t.shape.call_ns ≡ s.shape.call_ns

@@ -3,10 +3,10 @@ ghost use Rattle.std.specs.Prelude.{◌≡◌, ◌≢◌, ◌↔◌, ◌+◌, �
 ghost use Rattle.aps_model.specs.Limits.{last_moment, most_operations};
 ghost use Rattle.aps_model.specs.declared.program.Op.TheVariants.{Exit, Forever};
 ghost use Rattle.aps_model.specs.declared.state.State.TheVariants.{Gone, Running};
-ghost use Rattle.aps_tasks.specs.Calls.{advanced, given_back, is_over, left_after, made_ready, restamped, sleep_end, spent};
+ghost use Rattle.aps_tasks.specs.Calls.{operation_advanced, given_back, is_over, left_after, made_ready, restamped, sleep_end, time_passed};
 ghost use Rattle.aps_tasks.specs.Kept.{IsLeft, IsShort, IsTasks};
 ghost use Rattle.aps_tasks.specs.Start.{start_tasks};
-ghost use Rattle.aps_tasks.specs.Tasks.{op_at, op_of, plan_at, task_at, with_stamped, with_state, with_task};
+ghost use Rattle.aps_tasks.specs.Tasks.{planned_op, op_of, plan_at, task_at, tasks_with_stamped, tasks_with_state, with_task};
 
 use crate::operation::{is_over, left_after, place_after, sleep_end};
 use crate::plan::Plan;
@@ -43,11 +43,11 @@ impl Model for Tasks {
 
     ghost Value = { Plain };
 
-    ghost use Rattle.aps_tasks.specs.TasksView.{tasks_of, keeps};
+    ghost use Rattle.aps_tasks.specs.TasksView.{tasks_of, KeepsTasks};
 
     ghost view = { tasks_of };
 
-    ghost invariant = { keeps };
+    ghost invariant = { KeepsTasks };
 }
 
 impl Tasks {
@@ -104,7 +104,7 @@ impl Tasks {
         requires forever { op_of self.old x ≢ Forever }
         requires exit { op_of self.old x ≢ Exit }
         requires now { now ≤ last_moment }
-        ensures thread { self.new ≡ advanced self.old x now }
+        ensures thread { self.new ≡ operation_advanced self.old x now }
         ensures until { result ≡ sleep_end (op_of self.new x) now }
     {
         let task = self.task(x);
@@ -134,14 +134,14 @@ impl Tasks {
 
     /// The thread runs on the processor.
     pub fn run(&mut self, x: ThreadId, cpu: CpuId)
-        ensures { self.new ≡ with_state self.old x (Running cpu) }
+        ensures { self.new ≡ tasks_with_state self.old x (Running cpu) }
     {
         self.set_state(x, State::Running(cpu));
     }
 
     /// The thread waits in this state.
     pub fn block(&mut self, x: ThreadId, state: State)
-        ensures { self.new ≡ with_state self.old x state }
+        ensures { self.new ≡ tasks_with_state self.old x state }
     {
         self.set_state(x, state);
     }
@@ -156,7 +156,7 @@ impl Tasks {
 
     /// The thread is gone.
     pub fn exit(&mut self, x: ThreadId)
-        ensures { self.new ≡ with_state self.old x Gone }
+        ensures { self.new ≡ tasks_with_state self.old x Gone }
     {
         self.set_state(x, State::Gone);
     }
@@ -166,7 +166,7 @@ impl Tasks {
     pub fn spend(&mut self, x: ThreadId, ns: Nanos) -> bool
         requires left { IfSome (task_at self.old x).left (λ left. ns ≤ left) }
         requires since { (task_at self.old x).since + ns ≤ last_moment }
-        ensures thread { self.new ≡ spent self.old x ns }
+        ensures thread { self.new ≡ time_passed self.old x ns }
         ensures over { result ≡ is_over (left_after (task_at self.old x).left ns) }
     {
         let left = left_after(&self.task(x).left, ns);
@@ -177,7 +177,7 @@ impl Tasks {
     /// The thread's task.
     fn task(&self, x: ThreadId) -> Task
         ensures same { result ≡ task_at self.now x }
-        ensures left { x < length self.now.tasks → IsLeft (op_at self.now x result.place) result.left }
+        ensures left { x < length self.now.tasks → IsLeft (planned_op self.now x result.place) result.left }
         ensures keeps { IsTasks self.now }
     {
         self.table.task(x)
@@ -195,7 +195,7 @@ impl Tasks {
 
     /// The operation at a place of the thread's program; past its end that is `Exit`.
     fn op_at(&self, x: ThreadId, place: u16) -> Op
-        ensures same { result ≡ op_at self.now x place }
+        ensures same { result ≡ planned_op self.now x place }
         ensures short { IsShort result }
         ensures few { result ≢ Exit → place < most_operations }
     {
@@ -210,7 +210,7 @@ impl Tasks {
 
     /// The thread is in this state from now on.
     fn set_state(&mut self, x: ThreadId, state: State)
-        ensures { self.new ≡ with_state self.old x state }
+        ensures { self.new ≡ tasks_with_state self.old x state }
     {
         self.table.set_state(x, state);
     }

@@ -6,7 +6,7 @@ use Rattle.std.proofs.lemmas.List.Elements.{All-head, All-tail, All-push}
 use Rattle.aps_model.specs.declared.entry.Entry.{Entry}
 use Rattle.aps_model.specs.Journal.{entry_line, journal_text, IsLine, IsJournal}
 use Rattle.aps_text.specs.Line.{line_at}
-use Rattle.aps_text.specs.Place.{Place, place_after}
+use Rattle.aps_text.specs.Place.{Place, place_after_bytes}
 use Rattle.aps_text.specs.Refusal.{BeginsJournal, IsBadNext, IsFirstBad}
 use Rattle.aps_text.proofs.Readers.{IsBegun, ok_parts, cons_is}
 use Rattle.aps_text.proofs.Lines.{journal_text-push}
@@ -125,7 +125,7 @@ pub record IsBadFrom (bytes rest : List ℕ) (place : Place) : Type 0 where
   pub parts : bytes ≡ front ++ rest
   pub begun : BeginsJournal front
   pub bad : IsBadNext front rest
-  pub here : place ≡ place_after front
+  pub here : place ≡ place_after_bytes front
 
 -- behind whole lines, bytes that are no line: the text is bad where their reader stopped
 pub bad_from : (es : List Entry) (whole bytes rest : List ℕ) → All IsLine es → whole ≡ journal_text es ++ bytes → (bytes ≡ [] → ⊥) → line_at bytes ≡ Err rest

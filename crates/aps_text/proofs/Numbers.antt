@@ -5,7 +5,7 @@ use Rattle.std.proofs.lemmas.Bool.Decides.{nat_tests}
 use Rattle.std.proofs.lemmas.Fmt.{decimal_digit, decimal_step, decimal_by_steps}
 use Rattle.std.specs.Fmt.{decimal}
 use Rattle.std.specs.Char.{is_ascii_digit}
-use Rattle.aps_text.specs.Reader.{Reading, whole_word, digits_at, number_at}
+use Rattle.aps_text.specs.Reader.{ReadResult, whole_word, digits_at, number_at}
 use Rattle.aps_text.proofs.Readers.{IsReader, IsStuck, IsFront, IsBegun, ok_parts, IsReader-word, SpellsWord, BeginsOther}
 
 -- one digit more
@@ -15,10 +15,10 @@ decimal_push v d some small fits =
     let last : (v * 10 + d) % 10 ≡ d = omega arith in
     decimal_step (v * 10 + d) (omega arith) fits ∙ rw (front, last) refl
 
-pub err_apart : {A : Type 0} (left : List ℕ) (x : A × List ℕ) → (λ (r : Reading A). r) (Err left) ≡ Ok x → ⊥
+pub err_apart : {A : Type 0} (left : List ℕ) (x : A × List ℕ) → (λ (r : ReadResult A). r) (Err left) ≡ Ok x → ⊥
 err_apart left x e = cc
 
-err_is : (x y : List ℕ) → (λ (r : Reading ℕ). r) (Err x) ≡ Err y → x ≡ y
+err_is : (x y : List ℕ) → (λ (r : ReadResult ℕ). r) (Err x) ≡ Err y → x ≡ y
 err_is x y e = cc
 
 nil_apart : (x : ℕ) (xs : List ℕ) → [] ≡ x ∷ xs → ⊥

@@ -7,7 +7,7 @@ use Rattle.aps_model.specs.declared.entry.Done.{Done}
 use Rattle.aps_model.specs.declared.entry.Done.TheVariants.{Nothing, Run, Yield, SendBlocked, SendTo, ReceiveBlocked, ReceiveGot, ReceiveHolding, ReplyFreed, ReplyNoClient, Join, JoinNone, Priority, CriticalOn, CriticalOff, Repeat, Exit}
 use Rattle.aps_model.specs.Journal.{done_text, thread_in}
 use Rattle.aps_model.specs.Limits.{last_thread}
-use Rattle.aps_text.specs.Reader.{◌>>=◌, Reading, word_at, whole_word, after, nothing_at, number_at}
+use Rattle.aps_text.specs.Reader.{◌>>=◌, ReadResult, word_at, whole_word, after_byte, nothing_at, number_at}
 use Rattle.aps_text.specs.Operation.{named_at, critical_at, join_at, send_at, holding_at, receive_at, repeat_at, run_at, later_at, done_at}
 use Rattle.aps_text.proofs.Readers.{IsReader, IsInhabited, BeginsOther, SpellsAfter, SpellsBehind, SpellsWord, SpellsMade, IsReader-nothing, IsReader-after, IsReader-behind, IsReader-word, IsReader-made, IsReader-restated, after_begins_other, word_begins_other, behind_begins_other, nothing_begins_other, made_begins_other}
 use Rattle.aps_text.proofs.Numbers.{SpellsNumber, IsReader-number, number_begins_other}
@@ -18,7 +18,7 @@ abbrev pub SpellsDone : List ℕ → Done → Type 0
 SpellsDone text done = (text ≡ done_text done ++ 32 ∷ []) × IfSome (thread_in done) (λ x. x ≤ last_thread)
 
 -- a part of the tree: its reader, and that its texts behind the head are those of operations
-record IsPart (head : List ℕ) (read : List ℕ → Reading Done) (Spells : List ℕ → Done → Type 0) : Type 0 where
+record IsPart (head : List ℕ) (read : List ℕ → ReadResult Done) (Spells : List ℕ → Done → Type 0) : Type 0 where
   reader : IsReader read Spells
   some : IsInhabited Spells
   means : (text : List ℕ) (done : Done) → Spells text done → SpellsDone (head ++ text) done
@@ -54,28 +54,28 @@ after_means : (head : List ℕ) (byte : ℕ) (text s : List ℕ) (done : Done) �
 after_means head byte text s done e h =
     subst (λ (t : List ℕ). SpellsDone t done) (append_assoc head (byte ∷ []) s ∙ ap (λ (t : List ℕ). head ++ t) (sym e)) h
 
-means_after : (head : List ℕ) (byte : ℕ) (read : List ℕ → Reading Done) (Spells Other : List ℕ → Done → Type 0) → IsPart (head ++ byte ∷ []) read Spells → ((text : List ℕ) (done : Done) → Other text done → SpellsDone (head ++ text) done)
+means_after : (head : List ℕ) (byte : ℕ) (read : List ℕ → ReadResult Done) (Spells Other : List ℕ → Done → Type 0) → IsPart (head ++ byte ∷ []) read Spells → ((text : List ℕ) (done : Done) → Other text done → SpellsDone (head ++ text) done)
     → (text : List ℕ) (done : Done) → SpellsAfter byte Spells Other text done → SpellsDone (head ++ text) done
 means_after head byte read Spells Other p q text done (inl h) = after_means head byte text h.0 done h.1 (p.means h.0 done h.2)
 means_after head byte read Spells Other p q text done (inr h) = q text done h
 
-part_after : (head : List ℕ) (byte : ℕ) (read other : List ℕ → Reading Done) (Spells Other : List ℕ → Done → Type 0) → IsPart (head ++ byte ∷ []) read Spells → IsPart head other Other → BeginsOther byte Other
-    → IsPart head (after byte read other) (SpellsAfter byte Spells Other)
+part_after : (head : List ℕ) (byte : ℕ) (read other : List ℕ → ReadResult Done) (Spells Other : List ℕ → Done → Type 0) → IsPart (head ++ byte ∷ []) read Spells → IsPart head other Other → BeginsOther byte Other
+    → IsPart head (after_byte byte read other) (SpellsAfter byte Spells Other)
 part_after head byte read other Spells Other p q apart = record {
   reader = IsReader-after byte read other Spells Other p.reader p.some q.reader apart;
   some = (byte ∷ p.some.0, p.some.1, inl (p.some.0, refl, p.some.2));
   means = means_after head byte read Spells Other p q.means;
 }
 
-part_last : (head : List ℕ) (byte : ℕ) (read : List ℕ → Reading Done) (Spells : List ℕ → Done → Type 0) → IsPart (head ++ byte ∷ []) read Spells
-    → IsPart head (after byte read nothing_at) (SpellsAfter byte Spells (λ text done. ⊥))
+part_last : (head : List ℕ) (byte : ℕ) (read : List ℕ → ReadResult Done) (Spells : List ℕ → Done → Type 0) → IsPart (head ++ byte ∷ []) read Spells
+    → IsPart head (after_byte byte read nothing_at) (SpellsAfter byte Spells (λ text done. ⊥))
 part_last head byte read Spells p = record {
   reader = IsReader-after byte read nothing_at Spells (λ text done. ⊥) p.reader p.some IsReader-nothing (λ text done h. absurd h);
   some = (byte ∷ p.some.0, p.some.1, inl (p.some.0, refl, p.some.2));
   means = means_after head byte read Spells (λ text done. ⊥) p (λ text done h. absurd h);
 }
 
-part_behind : (head word : List ℕ) (read : List ℕ → Reading Done) (Spells : List ℕ → Done → Type 0) → IsPart (head ++ word) read Spells → IsPart head (λ (bytes : List ℕ). word_at word bytes >>= read) (SpellsBehind word Spells)
+part_behind : (head word : List ℕ) (read : List ℕ → ReadResult Done) (Spells : List ℕ → Done → Type 0) → IsPart (head ++ word) read Spells → IsPart head (λ (bytes : List ℕ). word_at word bytes >>= read) (SpellsBehind word Spells)
 part_behind head word read Spells p = record {
   reader = IsReader-behind word read Spells p.reader p.some;
   some = (word ++ p.some.0, p.some.1, (p.some.0, refl, p.some.2));

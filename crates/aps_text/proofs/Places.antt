@@ -14,7 +14,7 @@ use Rattle.aps_model.specs.declared.entry.Done.{Done}
 use Rattle.aps_model.specs.declared.entry.Done.TheVariants.{Nothing, Run, Yield, SendBlocked, SendTo, ReceiveBlocked, ReceiveGot, ReceiveHolding, ReplyFreed, ReplyNoClient, Join, JoinNone, Priority, CriticalOn, CriticalOff, Repeat, Exit}
 use Rattle.aps_model.specs.Journal.{option_text, done_text, thread_in, entry_line, journal_text, IsLine}
 use Rattle.aps_model.specs.Limits.{last_cpu, last_partition, last_thread}
-use Rattle.aps_text.specs.Place.{Place, next_place, place_after}
+use Rattle.aps_text.specs.Place.{Place, next_place, place_after_bytes}
 use Rattle.aps_text.proofs.Options.{mark_text}
 
 -- ---- no newline
@@ -124,7 +124,7 @@ over_lines (e ∷ es) line h =
     ∙ over_lines es (line + 1) (All-tail IsLine e es h) ∙ same_line (line + 1 + length es) (line + suc (length es)) (omega arith)
 
 -- behind these lines and a part of the next
-pub place_behind : (es : List Entry) (front : List ℕ) → All IsLine es → is_one_line front ≡ true → place_after (journal_text es ++ front) ≡ record { line = 1 + length es; column = 1 + length front }
+pub place_behind : (es : List Entry) (front : List ℕ) → All IsLine es → is_one_line front ≡ true → place_after_bytes (journal_text es ++ front) ≡ record { line = 1 + length es; column = 1 + length front }
 place_behind es front h e =
     let start : Place = record { line = 1; column = 1 } in
     fold-append next_place start (journal_text es) front ∙ ap (λ (p : Place). fold next_place p front) (over_lines es 1 h) ∙ along front (record { line = 1 + length es; column = 1 }) e

@@ -2,7 +2,7 @@
 use Rattle.std.proofs.Common.{◌≡◌, ℕ, Bool, true, false, cond, eqb, List, [], ◌∷◌, ◌++◌, Result, Ok, Err, refl, sym, ap, subst, ◌∙◌, ◌⊎◌, inl, inr, append_assoc}
 use Rattle.std.proofs.lemmas.Bool.{cases_Bool, cond-true, cond-false, eqb-true, eqb-false, eq-eqb, ne_eqb}
 use Rattle.std.proofs.lemmas.List.{append-nil}
-use Rattle.aps_text.specs.Reader.{◌>>=◌, Reading, word_at, whole_word, after, nothing_at}
+use Rattle.aps_text.specs.Reader.{◌>>=◌, ReadResult, word_at, whole_word, after_byte, nothing_at}
 
 -- a text of the kind begins so
 pub record IsBegun {A : Type 0} (Spells : List ℕ → A → Type 0) (front : List ℕ) : Type 0 where
@@ -13,7 +13,7 @@ pub record IsBegun {A : Type 0} (Spells : List ℕ → A → Type 0) (front : Li
   pub parts : text ≡ front ++ more
 
 -- the reader came this far: what it left begins with a byte that fits nothing, whatever follows it
-pub record IsStuck {A : Type 0} (read : List ℕ → Reading A) (Spells : List ℕ → A → Type 0) (bytes rest : List ℕ) : Type 0 where
+pub record IsStuck {A : Type 0} (read : List ℕ → ReadResult A) (Spells : List ℕ → A → Type 0) (bytes rest : List ℕ) : Type 0 where
   pub front : List ℕ
   pub parts : bytes ≡ front ++ rest
   pub begun : (front ≡ []) ⊎ IsBegun Spells front
@@ -25,7 +25,7 @@ pub record IsFront {A : Type 0} (Spells : List ℕ → A → Type 0) (bytes : Li
   pub spells : Spells text value
   pub parts : bytes ≡ text ++ rest
 
-pub record IsReader {A : Type 0} (read : List ℕ → Reading A) (Spells : List ℕ → A → Type 0) : Type 0 where
+pub record IsReader {A : Type 0} (read : List ℕ → ReadResult A) (Spells : List ℕ → A → Type 0) : Type 0 where
   pub again : (text : List ℕ) (value : A) (rest : List ℕ) → Spells text value → read (text ++ rest) ≡ Ok (value, rest)
   pub takes : (bytes : List ℕ) (value : A) (rest : List ℕ) → read bytes ≡ Ok (value, rest) → IsFront Spells bytes value rest
   pub stuck : (bytes rest : List ℕ) → read bytes ≡ Err rest → IsStuck read Spells bytes rest
@@ -36,7 +36,7 @@ IsInhabited {A} Spells = (text : List ℕ) × (value : A) × Spells text value
 
 -- ---- equal readers and equal kinds
 
-pub IsReader-same : {A : Type 0} (read twin : List ℕ → Reading A) (Spells : List ℕ → A → Type 0) → ((bytes : List ℕ) → read bytes ≡ twin bytes) → IsReader read Spells → IsReader twin Spells
+pub IsReader-same : {A : Type 0} (read twin : List ℕ → ReadResult A) (Spells : List ℕ → A → Type 0) → ((bytes : List ℕ) → read bytes ≡ twin bytes) → IsReader read Spells → IsReader twin Spells
 IsReader-same read twin Spells same r = record {
   again = λ text value rest h. sym (same (text ++ rest)) ∙ r.again text value rest h;
   takes = λ bytes value rest e. r.takes bytes value rest (same bytes ∙ e);
@@ -49,7 +49,7 @@ IsBegun-restated : {A : Type 0} (Spells Says : List ℕ → A → Type 0) (front
 IsBegun-restated Spells Says front to (inl e) = inl e
 IsBegun-restated Spells Says front to (inr b) = inr (record { text = b.text; value = b.value; more = b.more; spells = to b.text b.value b.spells; parts = b.parts })
 
-pub IsReader-restated : {A : Type 0} (read : List ℕ → Reading A) (Spells Says : List ℕ → A → Type 0) → ((text : List ℕ) (value : A) → Spells text value → Says text value) → ((text : List ℕ) (value : A) → Says text value → Spells text value)
+pub IsReader-restated : {A : Type 0} (read : List ℕ → ReadResult A) (Spells Says : List ℕ → A → Type 0) → ((text : List ℕ) (value : A) → Spells text value → Says text value) → ((text : List ℕ) (value : A) → Says text value → Spells text value)
     → IsReader read Spells → IsReader read Says
 IsReader-restated read Spells Says to from r = record {
   again = λ text value rest h. r.again text value rest (from text value h);
@@ -63,7 +63,7 @@ IsReader-restated read Spells Says to from r = record {
 
 -- ---- what an answer says
 
-abbrev done : {A : Type 0} → A × List ℕ → Reading A
+abbrev done : {A : Type 0} → A × List ℕ → ReadResult A
 done x = Ok x
 
 abbrev left : {A : Type 0} → List ℕ → Result A (List ℕ)
@@ -126,23 +126,23 @@ BeginsOther {A} byte Spells = (text : List ℕ) (value : A) → Spells text valu
 abbrev pub SpellsAfter : {A : Type 0} → ℕ → (List ℕ → A → Type 0) → (List ℕ → A → Type 0) → List ℕ → A → Type 0
 SpellsAfter byte Spells Other text value = ((s : List ℕ) × (text ≡ byte ∷ s) × Spells s value) ⊎ Other text value
 
-at_byte : {A : Type 0} (byte : ℕ) (read other : List ℕ → Reading A) (cs : List ℕ) → after byte read other (byte ∷ cs) ≡ read cs
+at_byte : {A : Type 0} (byte : ℕ) (read other : List ℕ → ReadResult A) (cs : List ℕ) → after_byte byte read other (byte ∷ cs) ≡ read cs
 at_byte byte read other cs = cond-true (eqb byte byte) (read cs) (other (byte ∷ cs)) (eq-eqb byte byte refl)
 
-at_other : {A : Type 0} (byte : ℕ) (read other : List ℕ → Reading A) (c : ℕ) (cs : List ℕ) → (c ≡ byte → ⊥) → after byte read other (c ∷ cs) ≡ other (c ∷ cs)
+at_other : {A : Type 0} (byte : ℕ) (read other : List ℕ → ReadResult A) (c : ℕ) (cs : List ℕ) → (c ≡ byte → ⊥) → after_byte byte read other (c ∷ cs) ≡ other (c ∷ cs)
 at_other byte read other c cs ne = cond-false (eqb c byte) (read cs) (other (c ∷ cs)) (ne_eqb c byte ne)
 
-again_after : {A : Type 0} (byte : ℕ) (read other : List ℕ → Reading A) (Spells Other : List ℕ → A → Type 0) → IsReader read Spells → IsReader other Other → BeginsOther byte Other
-    → (text : List ℕ) (value : A) (rest : List ℕ) → SpellsAfter byte Spells Other text value → after byte read other (text ++ rest) ≡ Ok (value, rest)
+again_after : {A : Type 0} (byte : ℕ) (read other : List ℕ → ReadResult A) (Spells Other : List ℕ → A → Type 0) → IsReader read Spells → IsReader other Other → BeginsOther byte Other
+    → (text : List ℕ) (value : A) (rest : List ℕ) → SpellsAfter byte Spells Other text value → after_byte byte read other (text ++ rest) ≡ Ok (value, rest)
 again_after byte read other Spells Other r q apart text value rest (inl h) =
     rw h.1 (at_byte byte read other (h.0 ++ rest) ∙ r.again h.0 value rest h.2)
 again_after byte read other Spells Other r q apart text value rest (inr h) =
     let first = apart text value h in
     let e : text ++ rest ≡ first.0 ∷ (first.1 ++ rest) = ap (λ (t : List ℕ). t ++ rest) first.2 in
-    ap (after byte read other) e ∙ at_other byte read other first.0 (first.1 ++ rest) first.3 ∙ ap other (sym e) ∙ q.again text value rest h
+    ap (after_byte byte read other) e ∙ at_other byte read other first.0 (first.1 ++ rest) first.3 ∙ ap other (sym e) ∙ q.again text value rest h
 
-takes_after : {A : Type 0} (byte : ℕ) (read other : List ℕ → Reading A) (Spells Other : List ℕ → A → Type 0) → IsReader read Spells → IsReader other Other
-    → (bytes : List ℕ) (value : A) (rest : List ℕ) → after byte read other bytes ≡ Ok (value, rest) → IsFront (SpellsAfter byte Spells Other) bytes value rest
+takes_after : {A : Type 0} (byte : ℕ) (read other : List ℕ → ReadResult A) (Spells Other : List ℕ → A → Type 0) → IsReader read Spells → IsReader other Other
+    → (bytes : List ℕ) (value : A) (rest : List ℕ) → after_byte byte read other bytes ≡ Ok (value, rest) → IsFront (SpellsAfter byte Spells Other) bytes value rest
 takes_after byte read other Spells Other r q [] value rest e =
     let t = q.takes [] value rest e in
     record { text = t.text; spells = inr t.spells; parts = t.parts }
@@ -157,8 +157,8 @@ takes_after byte read other Spells Other r q (c ∷ cs) value rest e =
     ]
 
 -- where the other reader is stuck, its front begins with another byte, or what it left does
-stays_other : {A : Type 0} (byte : ℕ) (read other : List ℕ → Reading A) (c : ℕ) (cs front rest : List ℕ) → (c ≡ byte → ⊥) → c ∷ cs ≡ front ++ rest
-    → (x : ℕ) (xs ys : List ℕ) → rest ≡ x ∷ xs → after byte read other (front ++ x ∷ ys) ≡ other (front ++ x ∷ ys)
+stays_other : {A : Type 0} (byte : ℕ) (read other : List ℕ → ReadResult A) (c : ℕ) (cs front rest : List ℕ) → (c ≡ byte → ⊥) → c ∷ cs ≡ front ++ rest
+    → (x : ℕ) (xs ys : List ℕ) → rest ≡ x ∷ xs → after_byte byte read other (front ++ x ∷ ys) ≡ other (front ++ x ∷ ys)
 stays_other byte read other c cs [] rest ne e x xs ys h =
     let first : c ∷ cs ≡ x ∷ xs = e ∙ h in
     let same : c ≡ x = cc in
@@ -177,8 +177,8 @@ begun_other : {A : Type 0} (byte : ℕ) (Spells Other : List ℕ → A → Type 
 begun_other byte Spells Other front (inl e) = inl e
 begun_other byte Spells Other front (inr b) = inr (record { text = b.text; value = b.value; more = b.more; spells = inr b.spells; parts = b.parts })
 
-stuck_after : {A : Type 0} (byte : ℕ) (read other : List ℕ → Reading A) (Spells Other : List ℕ → A → Type 0) → IsReader read Spells → IsInhabited Spells → IsReader other Other
-    → (bytes rest : List ℕ) → after byte read other bytes ≡ Err rest → IsStuck (after byte read other) (SpellsAfter byte Spells Other) bytes rest
+stuck_after : {A : Type 0} (byte : ℕ) (read other : List ℕ → ReadResult A) (Spells Other : List ℕ → A → Type 0) → IsReader read Spells → IsInhabited Spells → IsReader other Other
+    → (bytes rest : List ℕ) → after_byte byte read other bytes ≡ Err rest → IsStuck (after_byte byte read other) (SpellsAfter byte Spells Other) bytes rest
 stuck_after byte read other Spells Other r some q [] rest e =
     let s = q.stuck [] rest e in
     record { front = s.front; parts = s.parts; begun = begun_other byte Spells Other s.front s.begun; local = λ x xs ys h. absurd (nil_apart s.front x xs (s.parts ∙ ap (λ (t : List ℕ). s.front ++ t) h)) }
@@ -202,8 +202,8 @@ stuck_after byte read other Spells Other r some q (c ∷ cs) rest e =
           }
     ]
 
-pub IsReader-after : {A : Type 0} (byte : ℕ) (read other : List ℕ → Reading A) (Spells Other : List ℕ → A → Type 0) → IsReader read Spells → IsInhabited Spells → IsReader other Other → BeginsOther byte Other
-    → IsReader (after byte read other) (SpellsAfter byte Spells Other)
+pub IsReader-after : {A : Type 0} (byte : ℕ) (read other : List ℕ → ReadResult A) (Spells Other : List ℕ → A → Type 0) → IsReader read Spells → IsInhabited Spells → IsReader other Other → BeginsOther byte Other
+    → IsReader (after_byte byte read other) (SpellsAfter byte Spells Other)
 IsReader-after byte read other Spells Other r some q apart = record {
   again = again_after byte read other Spells Other r q apart;
   takes = takes_after byte read other Spells Other r q;
@@ -215,10 +215,10 @@ IsReader-after byte read other Spells Other r some q apart = record {
 abbrev pub SpellsBehind : {A : Type 0} → List ℕ → (List ℕ → A → Type 0) → List ℕ → A → Type 0
 SpellsBehind word Spells text value = (s : List ℕ) × (text ≡ word ++ s) × Spells s value
 
-word_is : {A : Type 0} (w : ℕ) (word : List ℕ) (read : List ℕ → Reading A) (bytes : List ℕ) → after w (λ rest. word_at word rest >>= read) nothing_at bytes ≡ (word_at (w ∷ word) bytes >>= read)
+word_is : {A : Type 0} (w : ℕ) (word : List ℕ) (read : List ℕ → ReadResult A) (bytes : List ℕ) → after_byte w (λ rest. word_at word rest >>= read) nothing_at bytes ≡ (word_at (w ∷ word) bytes >>= read)
 word_is w word read [] = refl
 word_is w word read (c ∷ cs) = bound (eqb c w) (word_at word cs) read (c ∷ cs) where
-  bound : {A : Type 0} (b : Bool) (r : Result (List ℕ) (List ℕ)) (f : List ℕ → Reading A) (bytes : List ℕ) → cond b (r >>= f) (Err bytes) ≡ (cond b r (Err bytes) >>= f)
+  bound : {A : Type 0} (b : Bool) (r : Result (List ℕ) (List ℕ)) (f : List ℕ → ReadResult A) (bytes : List ℕ) → cond b (r >>= f) (Err bytes) ≡ (cond b r (Err bytes) >>= f)
   bound true r f bytes = refl
   bound false r f bytes = refl
 
@@ -226,7 +226,7 @@ behind_to : {A : Type 0} (w : ℕ) (word : List ℕ) (Spells : List ℕ → A �
 behind_to w word Spells text value (inl h) = (h.2.0, h.1 ∙ ap (λ (t : List ℕ). w ∷ t) h.2.1, h.2.2)
 behind_to w word Spells text value (inr h) = absurd h
 
-pub IsReader-behind : {A : Type 0} (word : List ℕ) (read : List ℕ → Reading A) (Spells : List ℕ → A → Type 0) → IsReader read Spells → IsInhabited Spells → IsReader (λ (bytes : List ℕ). word_at word bytes >>= read) (SpellsBehind word Spells)
+pub IsReader-behind : {A : Type 0} (word : List ℕ) (read : List ℕ → ReadResult A) (Spells : List ℕ → A → Type 0) → IsReader read Spells → IsInhabited Spells → IsReader (λ (bytes : List ℕ). word_at word bytes >>= read) (SpellsBehind word Spells)
 IsReader-behind [] read Spells r some =
     IsReader-restated read Spells (SpellsBehind [] Spells) (λ text value h. (text, refl, h)) (λ text value h. subst (λ (t : List ℕ). Spells t value) (sym h.1) h.2) r
 IsReader-behind {A} (w ∷ word) read Spells r some =
@@ -253,7 +253,7 @@ IsReader-word word v =
 abbrev pub SpellsBoth : {A B : Type 0} → (List ℕ → A → Type 0) → (A → List ℕ → B → Type 0) → List ℕ → B → Type 0
 SpellsBoth {A} {B} First Second text value = (s : List ℕ) × (u : List ℕ) × (a : A) × (text ≡ s ++ u) × First s a × Second a u value
 
-takes_both : {A B : Type 0} (first : List ℕ → Reading A) (second : A × List ℕ → Reading B) (First : List ℕ → A → Type 0) (Second : A → List ℕ → B → Type 0) → IsReader first First → ((a : A) → IsReader (λ (bytes : List ℕ). second (a, bytes)) (Second a))
+takes_both : {A B : Type 0} (first : List ℕ → ReadResult A) (second : A × List ℕ → ReadResult B) (First : List ℕ → A → Type 0) (Second : A → List ℕ → B → Type 0) → IsReader first First → ((a : A) → IsReader (λ (bytes : List ℕ). second (a, bytes)) (Second a))
     → (bytes : List ℕ) (value : B) (rest : List ℕ) → (first bytes >>= second) ≡ Ok (value, rest) → IsFront (SpellsBoth First Second) bytes value rest
 takes_both first second First Second r q bytes value rest e =
     let x = bind_ok (first bytes) second (value, rest) e in
@@ -265,11 +265,11 @@ takes_both first second First Second r q bytes value rest e =
       parts = t.parts ∙ ap (λ (s : List ℕ). t.text ++ s) u.parts ∙ sym (append_assoc t.text u.text rest);
     }
 
-again_both : {A B : Type 0} (first : List ℕ → Reading A) (second : A × List ℕ → Reading B) (First : List ℕ → A → Type 0) (Second : A → List ℕ → B → Type 0) → IsReader first First → ((a : A) → IsReader (λ (bytes : List ℕ). second (a, bytes)) (Second a))
+again_both : {A B : Type 0} (first : List ℕ → ReadResult A) (second : A × List ℕ → ReadResult B) (First : List ℕ → A → Type 0) (Second : A → List ℕ → B → Type 0) → IsReader first First → ((a : A) → IsReader (λ (bytes : List ℕ). second (a, bytes)) (Second a))
     → (text : List ℕ) (value : B) (rest : List ℕ) → SpellsBoth First Second text value → (first (text ++ rest) >>= second) ≡ Ok (value, rest)
 again_both {A = A} first second First Second r q text value rest (s, u, a, parts, h, k) =
     let e : text ++ rest ≡ s ++ (u ++ rest) = ap (λ (t : List ℕ). t ++ rest) parts ∙ append_assoc s u rest in
-    ap (λ (t : List ℕ). first t >>= second) e ∙ ap (λ (x : Reading A). x >>= second) (r.again s a (u ++ rest) h) ∙ (q a).again u value rest k
+    ap (λ (t : List ℕ). first t >>= second) e ∙ ap (λ (x : ReadResult A). x >>= second) (r.again s a (u ++ rest) h) ∙ (q a).again u value rest k
 
 begun_first : {A B : Type 0} (First : List ℕ → A → Type 0) (Second : A → List ℕ → B → Type 0) (front : List ℕ) → ((a : A) → IsInhabited (Second a)) → (front ≡ []) ⊎ IsBegun First front → (front ≡ []) ⊎ IsBegun (SpellsBoth First Second) front
 begun_first First Second front some (inl e) = inl e
@@ -289,7 +289,7 @@ begun_second First Second text front a h some (inl e) =
 begun_second First Second text front a h some (inr b) =
     record { text = text ++ b.text; value = b.value; more = b.more; spells = (text, b.text, a, refl, h, b.spells); parts = ap (λ (t : List ℕ). text ++ t) b.parts ∙ sym (append_assoc text front b.more) }
 
-stuck_both : {A B : Type 0} (first : List ℕ → Reading A) (second : A × List ℕ → Reading B) (First : List ℕ → A → Type 0) (Second : A → List ℕ → B → Type 0) → IsReader first First → ((a : A) → IsReader (λ (bytes : List ℕ). second (a, bytes)) (Second a)) → ((a : A) → IsInhabited (Second a))
+stuck_both : {A B : Type 0} (first : List ℕ → ReadResult A) (second : A × List ℕ → ReadResult B) (First : List ℕ → A → Type 0) (Second : A → List ℕ → B → Type 0) → IsReader first First → ((a : A) → IsReader (λ (bytes : List ℕ). second (a, bytes)) (Second a)) → ((a : A) → IsInhabited (Second a))
     → (bytes rest : List ℕ) → (first bytes >>= second) ≡ Err rest → IsStuck (λ (bs : List ℕ). first bs >>= second) (SpellsBoth First Second) bytes rest
 stuck_both {A = A} first second First Second r q some bytes rest e =
     elim (bind_err (first bytes) second rest e) [
@@ -299,7 +299,7 @@ stuck_both {A = A} first second First Second r q some bytes rest e =
             front = s.front;
             parts = s.parts;
             begun = begun_first First Second s.front some s.begun;
-            local = λ x xs ys h. ap (λ (x : Reading A). x >>= second) (s.local x xs ys h);
+            local = λ x xs ys h. ap (λ (x : ReadResult A). x >>= second) (s.local x xs ys h);
           }
       | inr (x, here, there) ↦
           let t = r.takes bytes x.0 x.1 here in
@@ -310,11 +310,11 @@ stuck_both {A = A} first second First Second r q some bytes rest e =
             begun = inr (begun_second First Second t.text s.front x.0 t.spells (some x.0) s.begun);
             local = λ y xs ys h.
                 let grouped : (t.text ++ s.front) ++ y ∷ ys ≡ t.text ++ (s.front ++ y ∷ ys) = append_assoc t.text s.front (y ∷ ys) in
-                ap (λ (u : List ℕ). first u >>= second) grouped ∙ ap (λ (x : Reading A). x >>= second) (r.again t.text x.0 (s.front ++ y ∷ ys) t.spells) ∙ s.local y xs ys h;
+                ap (λ (u : List ℕ). first u >>= second) grouped ∙ ap (λ (x : ReadResult A). x >>= second) (r.again t.text x.0 (s.front ++ y ∷ ys) t.spells) ∙ s.local y xs ys h;
           }
     ]
 
-pub IsReader-both : {A B : Type 0} (first : List ℕ → Reading A) (second : A × List ℕ → Reading B) (First : List ℕ → A → Type 0) (Second : A → List ℕ → B → Type 0) → IsReader first First → ((a : A) → IsReader (λ (bytes : List ℕ). second (a, bytes)) (Second a)) → ((a : A) → IsInhabited (Second a))
+pub IsReader-both : {A B : Type 0} (first : List ℕ → ReadResult A) (second : A × List ℕ → ReadResult B) (First : List ℕ → A → Type 0) (Second : A → List ℕ → B → Type 0) → IsReader first First → ((a : A) → IsReader (λ (bytes : List ℕ). second (a, bytes)) (Second a)) → ((a : A) → IsInhabited (Second a))
     → IsReader (λ (bytes : List ℕ). first bytes >>= second) (SpellsBoth First Second)
 IsReader-both first second First Second r q some = record {
   again = again_both first second First Second r q;
@@ -323,14 +323,14 @@ IsReader-both first second First Second r q some = record {
 }
 
 -- a reader of a kind that has a text
-pub record IsLive {A : Type 0} (read : List ℕ → Reading A) (Spells : List ℕ → A → Type 0) : Type 0 where
+pub record IsLive {A : Type 0} (read : List ℕ → ReadResult A) (Spells : List ℕ → A → Type 0) : Type 0 where
   pub reader : IsReader read Spells
   pub some : IsInhabited Spells
 
 pub IsLive-value : {A : Type 0} (v : A) → IsLive (λ (rest : List ℕ). Ok (v, rest)) (SpellsNothing v)
 IsLive-value v = record { reader = IsReader-value v; some = ([], v, (refl, refl)) }
 
-pub IsLive-both : {A B : Type 0} (first : List ℕ → Reading A) (second : A × List ℕ → Reading B) (First : List ℕ → A → Type 0) (Second : A → List ℕ → B → Type 0) → IsLive first First → ((a : A) → IsLive (λ (bytes : List ℕ). second (a, bytes)) (Second a))
+pub IsLive-both : {A B : Type 0} (first : List ℕ → ReadResult A) (second : A × List ℕ → ReadResult B) (First : List ℕ → A → Type 0) (Second : A → List ℕ → B → Type 0) → IsLive first First → ((a : A) → IsLive (λ (bytes : List ℕ). second (a, bytes)) (Second a))
     → IsLive (λ (bytes : List ℕ). first bytes >>= second) (SpellsBoth First Second)
 IsLive-both first second First Second r q =
     let next = q r.some.1 in
@@ -344,9 +344,9 @@ IsLive-both first second First Second r q =
 abbrev pub SpellsMade : {A B : Type 0} → (A → B) → (List ℕ → A → Type 0) → List ℕ → B → Type 0
 SpellsMade {A} {B} make Spells text value = (a : A) × Spells text a × (value ≡ make a)
 
-pub IsReader-made : {A B : Type 0} (make : A → B) (read : List ℕ → Reading A) (Spells : List ℕ → A → Type 0) → IsReader read Spells → IsReader (λ (bytes : List ℕ). read bytes >>= λ x. Ok (make x.0, x.1)) (SpellsMade make Spells)
+pub IsReader-made : {A B : Type 0} (make : A → B) (read : List ℕ → ReadResult A) (Spells : List ℕ → A → Type 0) → IsReader read Spells → IsReader (λ (bytes : List ℕ). read bytes >>= λ x. Ok (make x.0, x.1)) (SpellsMade make Spells)
 IsReader-made {A = A} {B = B} make read Spells r =
-    let second : A × List ℕ → Reading B = λ x. Ok (make x.0, x.1) in
+    let second : A × List ℕ → ReadResult B = λ x. Ok (make x.0, x.1) in
     let Second : A → List ℕ → B → Type 0 = λ a. SpellsNothing (make a) in
     IsReader-restated (λ (bytes : List ℕ). read bytes >>= second) (SpellsBoth Spells Second) (SpellsMade make Spells)
     (λ text value h. (h.2, subst (λ (t : List ℕ). Spells t h.2) (sym (h.3 ∙ ap (λ (u : List ℕ). h.0 ++ u) h.5.0 ∙ append-nil h.0)) h.4, h.5.1))

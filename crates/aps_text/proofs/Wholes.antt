@@ -9,7 +9,7 @@ use Rattle.aps_model.specs.declared.entry.Entry.{Entry}
 use Rattle.aps_model.specs.Journal.{entry_line, journal_text, IsLine, IsJournal}
 use Rattle.aps_text.specs.Reader.{◌>>=◌}
 use Rattle.aps_text.specs.Line.{line_at}
-use Rattle.aps_text.specs.Place.{Place, place_after}
+use Rattle.aps_text.specs.Place.{Place, place_after_bytes}
 use Rattle.aps_text.specs.Refusal.{BeginsJournal, IsBadNext, IsFirstBad}
 use Rattle.aps_text.specs.Whole.{lines_at, journal_at, reads_on, begins_journal, place_of, first_bad_place}
 use Rattle.aps_text.proofs.Readers.{bind_ok, bind_err, cons_is}
@@ -48,8 +48,8 @@ same_front f g m r s begun bad e h =
 pub one_place : (bytes : List ℕ) (p q : Place) → IsFirstBad bytes p → IsFirstBad bytes q → p ≡ q
 one_place bytes p q b c =
     elim (fronts b.front c.front b.rest c.rest (sym b.parts ∙ c.parts)) [
-      | inl (m, e, h) ↦ b.here ∙ ap place_after (same_front b.front c.front m b.rest c.rest b.begun c.bad e h) ∙ sym c.here
-      | inr (m, e, h) ↦ b.here ∙ ap place_after (sym (same_front c.front b.front m c.rest b.rest c.begun b.bad e h)) ∙ sym c.here
+      | inl (m, e, h) ↦ b.here ∙ ap place_after_bytes (same_front b.front c.front m b.rest c.rest b.begun c.bad e h) ∙ sym c.here
+      | inr (m, e, h) ↦ b.here ∙ ap place_after_bytes (sym (same_front c.front b.front m c.rest b.rest c.begun b.bad e h)) ∙ sym c.here
     ]
 
 -- a text that is bad somewhere is no journal
@@ -147,11 +147,11 @@ stops_bad bytes rest e =
     let h = lines_err (length bytes) bytes rest (omega arith) e in
     (record { line = 1 + length h.entries; column = 1 + (length h.tail - length rest) }, bad_from h.entries bytes h.tail rest h.lines h.parts h.some h.err)
 
-computed_place : (bytes rest : List ℕ) (p : Place) → IsBadFrom bytes rest p → place_after (take (length bytes - length rest) bytes) ≡ p
+computed_place : (bytes rest : List ℕ) (p : Place) → IsBadFrom bytes rest p → place_after_bytes (take (length bytes - length rest) bytes) ≡ p
 computed_place bytes rest p b =
     let long : length b.front ≡ length bytes - length rest = omega (arith, ap length b.parts, length-append b.front rest) in
     let front : take (length bytes - length rest) bytes ≡ b.front = ap (take (length bytes - length rest)) b.parts ∙ take_at b.front rest (length bytes - length rest) long in
-    ap place_after front ∙ sym b.here
+    ap place_after_bytes front ∙ sym b.here
 
 read_whole : (bytes : List ℕ) (r : Result (List Entry) (List ℕ)) → journal_at bytes ≡ r → ((es : List Entry) × IsJournal es bytes × (r ≡ Ok es)) ⊎ ((rest : List ℕ) × (p : Place) × IsBadFrom bytes rest p × (r ≡ Err rest))
 read_whole bytes (Ok es) e = inl (es, lines_ok (length bytes) bytes es (omega arith) e, refl)
@@ -197,7 +197,7 @@ first_bad_is bytes p = (to, from) where
       elim (read_whole bytes (journal_at bytes) refl) [
         | inl (es, j, was) ↦ absurd (none_apart p (sym (ap (place_of bytes) was) ∙ e))
         | inr (rest, q, b, was) ↦
-            let same = some_is (place_after (take (length bytes - length rest) bytes)) p (sym (ap (place_of bytes) was) ∙ e) in
+            let same = some_is (place_after_bytes (take (length bytes - length rest) bytes)) p (sym (ap (place_of bytes) was) ∙ e) in
             subst (λ (t : Place). IsFirstBad bytes t) (sym (computed_place bytes rest q b) ∙ same) (first_bad bytes rest q b)
       ]
 
@@ -215,7 +215,7 @@ none_bad_is bytes = (to, from) where
   to e =
       elim (read_whole bytes (journal_at bytes) refl) [
         | inl (es, j, was) ↦ (es, j)
-        | inr (rest, q, b, was) ↦ absurd (none_apart (place_after (take (length bytes - length rest) bytes)) (sym e ∙ ap (place_of bytes) was))
+        | inr (rest, q, b, was) ↦ absurd (none_apart (place_after_bytes (take (length bytes - length rest) bytes)) (sym e ∙ ap (place_of bytes) was))
       ]
 
   from : (es : List Entry) × IsJournal es bytes → first_bad_place bytes ≡ None

@@ -1,7 +1,7 @@
 -- A line.
 use Rattle.std.specs.Prelude.{ℕ, List, Option, Some, None, Ok, Err}
 use Rattle.aps_model.specs.declared.entry.Entry.{Entry}
-use Rattle.aps_text.specs.Reader.{◌>>=◌, Reading, number_at}
+use Rattle.aps_text.specs.Reader.{◌>>=◌, ReadResult, number_at}
 use Rattle.aps_text.specs.Fields.{option_at, mark_at}
 use Rattle.aps_text.specs.Operation.{done_at}
 use Rattle.aps_model.specs.Limits.{last_cpu, last_moment, last_partition, last_thread}
@@ -11,7 +11,7 @@ abbrev pub longest_line : ℕ
 longest_line = 87
 
 -- an entry by its ten fields, from left to right
-unfoldable pub line_at : List ℕ → Reading Entry
+unfoldable pub line_at : List ℕ → ReadResult Entry
 line_at bytes = do
   cpu ← number_at last_cpu 32 bytes
   from ← number_at last_moment 32 cpu.1
@@ -39,7 +39,7 @@ line_at bytes = do
     flagged.1,
   )
 
-abbrev pub read_value : Reading ℕ → Option ℕ
+abbrev pub read_value : ReadResult ℕ → Option ℕ
 read_value (Ok x) = Some x.0
 read_value (Err rest) = None
 

@@ -12,5 +12,5 @@ next_place here byte =
     if byte == 10 then record { line = here.line + 1; column = 1 } else record { line = here.line; column = here.column + 1 }
 
 -- the place of the byte that follows these
-abbrev pub place_after : List ℕ → Place
-place_after bytes = fold next_place (record { line = 1; column = 1 }) bytes
+abbrev pub place_after_bytes : List ℕ → Place
+place_after_bytes bytes = fold next_place (record { line = 1; column = 1 }) bytes

@@ -4,7 +4,7 @@ use Rattle.aps_model.specs.declared.entry.Entry.{Entry}
 use Rattle.aps_model.specs.Journal.{IsJournal}
 use Rattle.aps_text.specs.declared.refusal.JournalRefusal.{JournalRefusal}
 use Rattle.aps_text.specs.declared.refusal.JournalRefusal.TheVariants.{BadLine, NoMemory}
-use Rattle.aps_text.specs.Place.{Place, place_after}
+use Rattle.aps_text.specs.Place.{Place, place_after_bytes}
 
 -- some journal begins with these bytes
 abbrev pub BeginsJournal : List ℕ → Type 0
@@ -23,7 +23,7 @@ pub record IsFirstBad (bytes : List ℕ) (place : Place) : Type 0 where
   pub parts : bytes ≡ front ++ rest
   pub begun : BeginsJournal front
   pub bad : IsBadNext front rest
-  pub here : place ≡ place_after front
+  pub here : place ≡ place_after_bytes front
 
 -- the refusal names that place
 abbrev pub Refuses : List ℕ → JournalRefusal → Type 0

@@ -3,7 +3,7 @@ use Rattle.std.specs.Prelude.{ℕ, zero, suc, ◌-◌, List, [], ◌∷◌, leng
 use Rattle.aps_model.specs.declared.entry.Entry.{Entry}
 use Rattle.aps_text.specs.Reader.{◌>>=◌}
 use Rattle.aps_text.specs.Line.{line_at}
-use Rattle.aps_text.specs.Place.{Place, place_after}
+use Rattle.aps_text.specs.Place.{Place, place_after_bytes}
 
 -- the entries of at most so many lines, or the text from the first byte on that no journal goes on with
 abbrev pub lines_at : ℕ → List ℕ → Result (List Entry) (List ℕ)
@@ -30,7 +30,7 @@ begins_journal bytes = reads_on (journal_at bytes)
 
 abbrev pub place_of : List ℕ → Result (List Entry) (List ℕ) → Option Place
 place_of bytes (Ok entries) = None
-place_of bytes (Err rest) = Some (place_after (take (length bytes - length rest) bytes))
+place_of bytes (Err rest) = Some (place_after_bytes (take (length bytes - length rest) bytes))
 
 -- where the text is bad first, if it is no journal
 abbrev pub first_bad_place : List ℕ → Option Place

@@ -1,6 +1,6 @@
 //! The fields of a line, read one after the other.
 ghost use Rattle.std.specs.Prelude.{◌≡◌, ◌≤◌, IfOk, IfSome, Option};
-ghost use Rattle.aps_text.specs.Reader.{Gives, word_at, digits_at, number_at};
+ghost use Rattle.aps_text.specs.Reader.{ReadsAs, word_at, digits_at, number_at};
 ghost use Rattle.aps_text.specs.Fields.{option_at, mark_at};
 ghost use Rattle.aps_model.specs.Limits.{last_moment, last_thread};
 
@@ -12,7 +12,7 @@ pub type Reading<'a, T> = Result<(T, &'a [u8]), &'a [u8]>;
 /// The bytes behind this word.
 #[inline(always)]
 pub fn word<'a>(bytes: &'a [u8], word: &[u8]) -> Result<&'a [u8], &'a [u8]>
-    ensures { Gives (λ rest. rest.now) result (word_at word.now bytes.now) }
+    ensures { ReadsAs (λ rest. rest.now) result (word_at word.now bytes.now) }
 {
     let mut rest = bytes;
     for expected in word {
@@ -31,7 +31,7 @@ pub fn word<'a>(bytes: &'a [u8], word: &[u8]) -> Result<&'a [u8], &'a [u8]>
 #[inline(always)]
 pub fn number(bytes: &[u8], most: u64, stop: u8) -> Reading<u64>
     requires { most ≤ last_moment }
-    ensures read { Gives (λ x. (x.0, x.1.now)) result (number_at most stop bytes.now) }
+    ensures read { ReadsAs (λ x. (x.0, x.1.now)) result (number_at most stop bytes.now) }
     ensures within { IfOk result (λ x. x.0 ≤ most) }
 {
     match bytes {
@@ -48,7 +48,7 @@ pub fn number(bytes: &[u8], most: u64, stop: u8) -> Reading<u64>
 fn digits(bytes: &[u8], most: u64, stop: u8, first: u64) -> Reading<u64>
     requires within { first ≤ most }
     requires most { most ≤ last_moment }
-    ensures read { Gives (λ x. (x.0, x.1.now)) result (digits_at most stop first bytes.now) }
+    ensures read { ReadsAs (λ x. (x.0, x.1.now)) result (digits_at most stop first bytes.now) }
     ensures within { IfOk result (λ x. x.0 ≤ most) }
 {
     let mut value = first;
@@ -74,7 +74,7 @@ fn digits(bytes: &[u8], most: u64, stop: u8, first: u64) -> Reading<u64>
 #[inline(always)]
 pub fn number_or_none(bytes: &[u8], most: u64, stop: u8) -> Reading<Option<u64>>
     requires { most ≤ last_moment }
-    ensures read { Gives (λ x. (x.0, x.1.now)) result (option_at most stop bytes.now) }
+    ensures read { ReadsAs (λ x. (x.0, x.1.now)) result (option_at most stop bytes.now) }
     ensures within { IfOk result (λ x. IfSome x.0 (λ n. n ≤ most)) }
 {
     if let [b'-', rest @ ..] = bytes {
@@ -87,7 +87,7 @@ pub fn number_or_none(bytes: &[u8], most: u64, stop: u8) -> Reading<Option<u64>>
 /// The number of a thread, and a space.
 #[inline(always)]
 pub fn thread(bytes: &[u8]) -> Reading<u64>
-    ensures read { Gives (λ x. (x.0, x.1.now)) result (number_at last_thread 32 bytes.now) }
+    ensures read { ReadsAs (λ x. (x.0, x.1.now)) result (number_at last_thread 32 bytes.now) }
     ensures within { IfOk result (λ x. x.0 ≤ last_thread) }
 {
     number(bytes, LAST_THREAD, b' ')
@@ -96,7 +96,7 @@ pub fn thread(bytes: &[u8]) -> Reading<u64>
 /// The mark of critical time, and a space.
 #[inline(always)]
 pub fn mark(bytes: &[u8]) -> Reading<bool>
-    ensures { Gives (λ x. (x.0, x.1.now)) result (mark_at bytes.now) }
+    ensures { ReadsAs (λ x. (x.0, x.1.now)) result (mark_at bytes.now) }
 {
     if let [b'c', rest @ ..] = bytes {
         return Ok((true, word(rest, b" ")?));

@@ -3,7 +3,7 @@ ghost use Rattle.std.specs.Prelude.{◌≡◌, ◌≤◌, IfOk, IfErr, IfSome, M
 ghost use Rattle.aps_model.specs.declared.entry.Entry.{Entry as PlainEntry};
 ghost use Rattle.aps_model.specs.Journal.{IsJournal};
 ghost use Rattle.aps_model.specs.Limits.{last_cpu, last_partition, last_thread};
-ghost use Rattle.aps_text.specs.Reader.{Gives};
+ghost use Rattle.aps_text.specs.Reader.{ReadsAs};
 ghost use Rattle.aps_text.specs.Line.{cpu_of_line, line_at};
 ghost use Rattle.aps_text.specs.Refusal.{Refuses};
 ghost use Rattle.aps_text.specs.declared.refusal.JournalRefusal.TheVariants.{NoMemory};
@@ -61,7 +61,7 @@ pub fn cpu_of_line(bytes: &[u8]) -> Option<CpuId>
 // An entry by its line.
 #[tactic(auto, unfolding(crate::specs::Line::line_at))]
 fn line(bytes: &[u8]) -> Reading<Entry>
-    ensures { Gives (λ x. (x.0, x.1.now)) result (line_at bytes.now) }
+    ensures { ReadsAs (λ x. (x.0, x.1.now)) result (line_at bytes.now) }
 {
     let (cpu, rest) = number(bytes, LAST_CPU, b' ')?;
     let (from, rest) = number(rest, LAST_MOMENT, b' ')?;

@@ -6,12 +6,12 @@ use Rattle.std.proofs.lemmas.List.{get_or-replicate, length-replicate}
 use Rattle.std.proofs.lemmas.Nat.Bits.{bit_at-zero}
 use Rattle.std.proofs.Math.ListN.{get_or-eq_default}
 use Rattle.aps_model.specs.Limits.{last_thread}
-use Rattle.aps_levels.specs.Bits.{has}
+use Rattle.aps_levels.specs.Bits.{set_has}
 use Rattle.aps_levels.specs.declared.bits.Bits64.{Bits64}
 use Rattle.aps_model.specs.TickWork.{is_earlier}
-use Rattle.aps_timer.specs.Buckets.{AreKept, AreNear, IsFurther, IsNear, IsPlaced, bucket_count, bucket_of, further_line}
+use Rattle.aps_timer.specs.Buckets.{AreKept, AreNear, IsFurther, IsNear, IsSleeperPlaced, bucket_count, bucket_of, further_line}
 use Rattle.aps_timer.specs.Lines.{IsOfLine, no_bits, stands_in, words_of_line}
-use Rattle.aps_timer.specs.Order.{goes_before}
+use Rattle.aps_timer.specs.Order.{wakes_before}
 use Rattle.aps_timer.specs.Sleepers.{IsFirstDue, SleepsUntil}
 
 abbrev Row : Type 0
@@ -55,7 +55,7 @@ others_same lines lines' line x y is_in few other is l =
 -- a thread that stands in its bucket or in the further list and leaves both stands nowhere
 pub stands_nowhere : (lines between lines' : List Bits64) (begin further x until : ℕ) → x ≤ last_thread
     → IsSet lines between (bucket_of until % bucket_count) x false → IsSet between lines' further_line x false
-    → IsPlaced lines begin further x (Some until) → (l : ℕ) → stands_in lines' l x ≡ false
+    → IsSleeperPlaced lines begin further x (Some until) → (l : ℕ) → stands_in lines' l x ≡ false
 stands_nowhere lines between lines' begin further x until few one two placed l =
     two l x few ∙ rw (same_here x, one l x few, same_here x) (by placed)
   where
@@ -69,13 +69,13 @@ stands_nowhere lines between lines' begin further x until few one two placed l =
     right false true = refl
     right false false = refl
 
-    by : IsPlaced lines begin further x (Some until)
+    by : IsSleeperPlaced lines begin further x (Some until)
         → cond (nat_eq l further_line && true) false (cond (nat_eq l (bucket_of until % bucket_count) && true) false (stands_in lines l x)) ≡ false
     by (inl near) = rw (near.stands l) (left (nat_eq l further_line) (nat_eq l (bucket_of until % bucket_count)))
     by (inr late) = rw (late.stands l) (right (nat_eq l further_line) (nat_eq l (bucket_of until % bucket_count)))
 
 pub placed_still : (lines lines' : List Bits64) (begin further further' y : ℕ) (other : Option ℕ) → ((l : ℕ) → stands_in lines' l y ≡ stands_in lines l y)
-    → further' ≤ further → IsPlaced lines begin further y other → IsPlaced lines' begin further' y other
+    → further' ≤ further → IsSleeperPlaced lines begin further y other → IsSleeperPlaced lines' begin further' y other
 placed_still lines lines' begin further further' y None same less placed = λ l. same l ∙ placed l
 placed_still lines lines' begin further further' y (Some until) same less (inl near) =
     inl (record { from = near.from; before = near.before; stands = λ l. same l ∙ near.stands l })
@@ -83,11 +83,11 @@ placed_still lines lines' begin further further' y (Some until) same less (inr l
     inr (record { from = omega (arith, less, late.from); stands = λ l. same l ∙ late.stands l })
 
 -- nobody stands anywhere at first
-pub kept_at_first : (lines : List Bits64) (bits : Bits64) (threads words further : ℕ) → lines ≡ replicate words bits → ((k : ℕ) → has bits k ≡ false)
+pub kept_at_first : (lines : List Bits64) (bits : Bits64) (threads words further : ℕ) → lines ≡ replicate words bits → ((k : ℕ) → set_has bits k ≡ false)
     → AreKept (replicate threads None) lines 0 further
 kept_at_first lines bits threads words further are none = record {
   few = λ x until asleep. (let never : None ≡ Some until = sym (awake x) ∙ asleep in absurd cc);
-  each = λ x few. subst (IsPlaced lines 0 further x) (sym (awake x)) (λ line. nowhere line x);
+  each = λ x few. subst (IsSleeperPlaced lines 0 further x) (sym (awake x)) (λ line. nowhere line x);
 }
   where
     within_or_not : (i n : ℕ) → (i < n) ⊎ (n ≤ i)
@@ -111,15 +111,15 @@ kept_at_first lines bits threads words further are none = record {
     nowhere : (line x : ℕ) → stands_in lines line x ≡ false
     nowhere line x =
         ap (λ (l : Lines). stands_in l line x) are ∙ (elim (read words (words_of_line * line + x / 64) bits no_bits) [
-          | inl e ↦ ap (λ (b : Bits64). has b (x % 64)) e ∙ none (x % 64)
-          | inr e ↦ ap (λ (b : Bits64). has b (x % 64)) e ∙ ap (λ (b : ℕ). nat_eq b 1) (bit_at-zero (x % 64))
+          | inl e ↦ ap (λ (b : Bits64). set_has b (x % 64)) e ∙ none (x % 64)
+          | inr e ↦ ap (λ (b : Bits64). set_has b (x % 64)) e ∙ ap (λ (b : ℕ). nat_eq b 1) (bit_at-zero (x % 64))
         ])
 
 -- ---- a thread falls asleep, or wakes
 
 pub kept_set : (row : List (Option ℕ)) (lines lines' : List Bits64) (begin begin' further further' x : ℕ) (o : Option ℕ) → AreKept row lines begin further
-    → x < length row → x ≤ last_thread → IsPlaced lines' begin' further' x o
-    → ((y : ℕ) (other : Option ℕ) → y ≤ last_thread → y ≢ x → IsPlaced lines begin further y other → IsPlaced lines' begin' further' y other)
+    → x < length row → x ≤ last_thread → IsSleeperPlaced lines' begin' further' x o
+    → ((y : ℕ) (other : Option ℕ) → y ≤ last_thread → y ≢ x → IsSleeperPlaced lines begin further y other → IsSleeperPlaced lines' begin' further' y other)
     → AreKept (set row x o) lines' begin' further'
 kept_set row lines lines' begin begin' further further' x o kept within few here others = record {
   few = λ y until asleep. by y until asleep (cases_eq y x);
@@ -130,17 +130,17 @@ kept_set row lines lines' begin begin' further further' x o kept within few here
     by y until asleep (inl same) = omega (arith, same, few)
     by y until asleep (inr apart) = kept.few y until (sym (get_or-set_other row x y o None apart) ∙ asleep)
 
-    stands : (y : ℕ) → y ≤ last_thread → (y ≡ x) ⊎ (y ≢ x) → IsPlaced lines' begin' further' y (get_or (set row x o) y None)
+    stands : (y : ℕ) → y ≤ last_thread → (y ≡ x) ⊎ (y ≢ x) → IsSleeperPlaced lines' begin' further' y (get_or (set row x o) y None)
     stands y fits (inl same) =
-        subst (λ (z : ℕ). IsPlaced lines' begin' further' z (get_or (set row x o) z None)) (sym same)
-        (subst (IsPlaced lines' begin' further' x) (sym (get_or-set_same row x o None within)) here)
+        subst (λ (z : ℕ). IsSleeperPlaced lines' begin' further' z (get_or (set row x o) z None)) (sym same)
+        (subst (IsSleeperPlaced lines' begin' further' x) (sym (get_or-set_same row x o None within)) here)
     stands y fits (inr apart) =
-        subst (IsPlaced lines' begin' further' y) (sym (get_or-set_other row x y o None apart)) (others y (get_or row y None) fits apart (kept.each y fits))
+        subst (IsSleeperPlaced lines' begin' further' y) (sym (get_or-set_other row x y o None apart)) (others y (get_or row y None) fits apart (kept.each y fits))
 
 -- where whoever sleeps stands
 pub placed : (row : List (Option ℕ)) (lines : List Bits64) (begin further x until : ℕ) → AreKept row lines begin further → SleepsUntil row x until
-    → IsPlaced lines begin further x (Some until)
-placed row lines begin further x until kept asleep = subst (IsPlaced lines begin further x) asleep (kept.each x (kept.few x until asleep))
+    → IsSleeperPlaced lines begin further x (Some until)
+placed row lines begin further x until kept asleep = subst (IsSleeperPlaced lines begin further x) asleep (kept.each x (kept.few x until asleep))
 
 -- whoever sleeps still stands where it is looked for
 pub kept_still : (row : List (Option ℕ)) (lines : List Bits64) (begin begin' further further' : ℕ) → AreKept row lines begin further
@@ -152,11 +152,11 @@ kept_still row lines begin begin' further further' kept near late = record {
   each = λ x few. by x few (get_or row x None) refl (kept.each x few);
 }
   where
-    by : (x : ℕ) → x ≤ last_thread → (o : Option ℕ) → get_or row x None ≡ o → IsPlaced lines begin further x (get_or row x None)
-        → IsPlaced lines begin' further' x (get_or row x None)
-    by x few None is stands = subst (IsPlaced lines begin' further' x) (sym is) (subst (IsPlaced lines begin further x) is stands)
+    by : (x : ℕ) → x ≤ last_thread → (o : Option ℕ) → get_or row x None ≡ o → IsSleeperPlaced lines begin further x (get_or row x None)
+        → IsSleeperPlaced lines begin' further' x (get_or row x None)
+    by x few None is stands = subst (IsSleeperPlaced lines begin' further' x) (sym is) (subst (IsSleeperPlaced lines begin further x) is stands)
     by x few (Some until) is stands =
-        subst (IsPlaced lines begin' further' x) (sym is) (elim (subst (IsPlaced lines begin further x) is stands) [
+        subst (IsSleeperPlaced lines begin' further' x) (sym is) (elim (subst (IsSleeperPlaced lines begin further x) is stands) [
           | inl at ↦ inl (near x until few is at)
           | inr at ↦ inr (late x until few is at)
         ])
@@ -165,13 +165,13 @@ kept_still row lines begin begin' further further' kept near late = record {
 pub kept_near : (row : List (Option ℕ)) (lines : List Bits64) (begin further : ℕ) → AreKept row lines begin further → AreNear row lines begin
 kept_near row lines begin further kept line x below few stands = by (get_or row x None) refl (kept.each x few)
   where
-    by : (o : Option ℕ) → get_or row x None ≡ o → IsPlaced lines begin further x (get_or row x None)
+    by : (o : Option ℕ) → get_or row x None ≡ o → IsSleeperPlaced lines begin further x (get_or row x None)
         → (until : ℕ) × SleepsUntil row x until × IsNear lines begin x until
     by None is at =
-        let nowhere : IsPlaced lines begin further x None = subst (IsPlaced lines begin further x) is at in
+        let nowhere : IsSleeperPlaced lines begin further x None = subst (IsSleeperPlaced lines begin further x) is at in
         let never : true ≡ false = sym stands ∙ nowhere line in
         absurd cc
-    by (Some until) is at = elim (subst (IsPlaced lines begin further x) is at) [
+    by (Some until) is at = elim (subst (IsSleeperPlaced lines begin further x) is at) [
       | inl near ↦ (until, is, near)
       | inr late ↦
           let never : nat_eq line further_line ≡ true = sym (late.stands line) ∙ stands in
@@ -189,7 +189,7 @@ pub record IsPassed (row : List (Option ℕ)) (lines : List Bits64) (begin bucke
 -- the first of a line in which nobody wakes before this moment
 abbrev pub IsFirstIn : List (Option ℕ) → List Bits64 → ℕ → ℕ → Option (ℕ × ℕ) → Type 0
 IsFirstIn row lines begin line first = (x until : ℕ) → x ≤ last_thread → stands_in lines line x ≡ true → SleepsUntil row x until → begin ≤ until
-    → goes_before (Some (until, x)) first ≡ false
+    → wakes_before (Some (until, x)) first ≡ false
 
 -- it stands in the line of its bucket
 stands_near : (lines : Lines) (begin bucket x until : ℕ) → IsNear lines begin x until → bucket_of until ≡ bucket → stands_in lines (bucket % bucket_count) x ≡ true
@@ -204,7 +204,7 @@ near_on lines begin later x until near more still = record {
   stands = near.stands;
 }
 
-earlier_bucket : (until x : ℕ) (s : ℕ × ℕ) → bucket_of s.0 < bucket_of until → goes_before (Some (until, x)) (Some s) ≡ false
+earlier_bucket : (until x : ℕ) (s : ℕ × ℕ) → bucket_of s.0 < bucket_of until → wakes_before (Some (until, x)) (Some s) ≡ false
 earlier_bucket until x (moment, y) less = let before : moment < until = omega (arith, less) in grind (arith, nat_tests)
 
 -- of 1,024 buckets in a row no two have the same line
@@ -230,10 +230,10 @@ of_bucket row lines begin bucket s near from before is = by (near (bucket % buck
 -- the first of the bucket at hand is the first of all buckets
 pub first_of_near : (row : List (Option ℕ)) (lines : List Bits64) (begin bucket : ℕ) (s : ℕ × ℕ) → AreNear row lines begin → IsPassed row lines begin bucket
     → bucket < bucket_of begin + bucket_count → IsOfLine row lines (bucket % bucket_count) s → IsFirstIn row lines begin (bucket % bucket_count) (Some s)
-    → (x until : ℕ) → x ≤ last_thread → SleepsUntil row x until → IsNear lines begin x until → goes_before (Some (until, x)) (Some s) ≡ false
+    → (x until : ℕ) → x ≤ last_thread → SleepsUntil row x until → IsNear lines begin x until → wakes_before (Some (until, x)) (Some s) ≡ false
 first_of_near row lines begin bucket s all is before one first x until few asleep near = by (cases_eq (bucket_of until) bucket)
   where
-    by : (bucket_of until ≡ bucket) ⊎ (bucket_of until ≢ bucket) → goes_before (Some (until, x)) (Some s) ≡ false
+    by : (bucket_of until ≡ bucket) ⊎ (bucket_of until ≢ bucket) → wakes_before (Some (until, x)) (Some s) ≡ false
     by (inl same) = first x until few (stands_near lines begin bucket x until near same) asleep near.from
     by (inr other) =
         earlier_bucket until x s (omega (arith, other, of_bucket row lines begin bucket s all is.from before one, is.none x until few asleep near))
@@ -254,7 +254,7 @@ due_or_not until now = search arith
 
 -- nobody whose moment has come goes before this one
 abbrev pub IsFirst : List (Option ℕ) → ℕ → Option (ℕ × ℕ) → Type 0
-IsFirst row now o = (x until : ℕ) → SleepsUntil row x until → until ≤ now → goes_before (Some (until, x)) o ≡ false
+IsFirst row now o = (x until : ℕ) → SleepsUntil row x until → until ≤ now → wakes_before (Some (until, x)) o ≡ false
 
 pub first_due : (row : List (Option ℕ)) (now : ℕ) (s : ℕ × ℕ) → SleepsUntil row s.1 s.0 → IsFirst row now (Some s) → s.0 ≤ now
     → IsFirstDue row now s.1

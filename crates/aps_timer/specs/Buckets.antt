@@ -34,14 +34,14 @@ pub record IsFurther (lines : List Bits64) (further x until : ℕ) : Type 0 wher
   pub stands : (line : ℕ) → stands_in lines line x ≡ nat_eq line further_line
 
 -- where a thread stands that sleeps until this moment; if it doesn't sleep, nowhere
-abbrev pub IsPlaced : List Bits64 → ℕ → ℕ → ℕ → Option ℕ → Type 0
-IsPlaced lines begin further x None = (line : ℕ) → stands_in lines line x ≡ false
-IsPlaced lines begin further x (Some until) = IsNear lines begin x until ⊎ IsFurther lines further x until
+abbrev pub IsSleeperPlaced : List Bits64 → ℕ → ℕ → ℕ → Option ℕ → Type 0
+IsSleeperPlaced lines begin further x None = (line : ℕ) → stands_in lines line x ≡ false
+IsSleeperPlaced lines begin further x (Some until) = IsNear lines begin x until ⊎ IsFurther lines further x until
 
 -- each thread of the row stands where it is looked for
 pub record AreKept (row : List (Option ℕ)) (lines : List Bits64) (begin further : ℕ) : Type 0 where
   pub few : (x until : ℕ) → SleepsUntil row x until → x ≤ last_thread
-  pub each : (x : ℕ) → x ≤ last_thread → IsPlaced lines begin further x (slice_index_or row x None)
+  pub each : (x : ℕ) → x ≤ last_thread → IsSleeperPlaced lines begin further x (slice_index_or row x None)
 
 -- whoever stands in the line of a bucket sleeps until a moment of one of the buckets from this one on
 abbrev pub AreNear : List (Option ℕ) → List Bits64 → ℕ → Type 0

@@ -40,9 +40,9 @@ later_due [] = []
 later_due (sleeper ∷ sleepers) = sleepers
 
 -- the row without this sleeper, if there is one
-abbrev pub without : List (Option ℕ) → Option ℕ → List (Option ℕ)
-without row None = row
-without row (Some x) = slice_set row x None
+abbrev pub sleepers_without : List (Option ℕ) → Option ℕ → List (Option ℕ)
+sleepers_without row None = row
+sleepers_without row (Some x) = slice_set row x None
 
 -- the sleepers among the threads below n whose moment has come, in that order
 abbrev pub due_below : List (Option ℕ) → ℕ → ℕ → List (ℕ × ℕ)

@@ -1,6 +1,6 @@
 //! The threads that sleep, by their numbers and in buckets.
 ghost use Rattle.std.specs.Prelude.{◌≡◌, ℕ, ◌<◌, ◌≤◌, [], length, replicate, slice_index_or, slice_set, IfOk, IfSome, None};
-ghost use Rattle.aps_timer.specs.Sleepers.{IsFirstDue, IsNoted, SleepsUntil, all_due, later_due, next_due, without};
+ghost use Rattle.aps_timer.specs.Sleepers.{IsFirstDue, IsNoted, SleepsUntil, all_due, later_due, next_due, sleepers_without};
 
 use crate::buckets::{Buckets, SPAN};
 use crate::lines::{add_of_word, moment_of, words_of};
@@ -93,7 +93,7 @@ impl Asleep {
         ensures first { IfSome result (λ x. IsFirstDue self.old now x) }
         ensures next { result ≡ next_due (all_due self.old now) }
         ensures others { all_due self.new now ≡ later_due (all_due self.old now) }
-        ensures left { self.new ≡ without self.old result }
+        ensures left { self.new ≡ sleepers_without self.old result }
     {
         let sleeper = self.first_due(now)?;
         self.wake(sleeper.thread, sleeper.until);

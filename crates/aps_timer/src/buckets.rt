@@ -1,9 +1,9 @@
 //! Sleepers in buckets by their moment, and one further list of all others.
 ghost use Rattle.std.specs.Prelude.{◌≡◌, ◌≢◌, ℕ, List, Option, ◌%◌, ◌≤◌, ◌/◌, ◌<◌, length, replicate, IfOk, IfSome, Some, None, true, false};
 ghost use Rattle.aps_model.specs.Limits.{last_thread};
-ghost use Rattle.aps_levels.specs.Bits.{has};
-ghost use Rattle.aps_timer.specs.Buckets.{AreKept, AreNear, IsFurther, IsNear, IsPlaced, bucket_count, bucket_of, words_in_all};
-ghost use Rattle.aps_timer.specs.Order.{goes_before};
+ghost use Rattle.aps_levels.specs.Bits.{set_has};
+ghost use Rattle.aps_timer.specs.Buckets.{AreKept, AreNear, IsFurther, IsNear, IsSleeperPlaced, bucket_count, bucket_of, words_in_all};
+ghost use Rattle.aps_timer.specs.Order.{wakes_before};
 ghost use Rattle.aps_timer.specs.Sleepers.{SleepsUntil};
 ghost use Rattle.aps_timer.specs.Lines.{words_of_line};
 
@@ -49,13 +49,13 @@ impl Buckets {
 
     /// The thread, which stands nowhere, sleeps until this moment and stands where it is looked for.
     pub fn put(&mut self, x: ThreadId, until: Nanos)
-        requires { IsPlaced self.old.lines.items self.old.begin self.old.further x None }
-        ensures here { IsPlaced self.new.lines.items self.new.begin self.new.further x (Some until) }
+        requires { IsSleeperPlaced self.old.lines.items self.old.begin self.old.further x None }
+        ensures here { IsSleeperPlaced self.new.lines.items self.new.begin self.new.further x (Some until) }
         ensures others { (y : ℕ) (other : Option ℕ)
             → y ≤ last_thread
             → y ≢ x
-            → IsPlaced self.old.lines.items self.old.begin self.old.further y other
-            → IsPlaced self.new.lines.items self.new.begin self.new.further y other }
+            → IsSleeperPlaced self.old.lines.items self.old.begin self.old.further y other
+            → IsSleeperPlaced self.new.lines.items self.new.begin self.new.further y other }
     {
         if self.begin <= until && bucket_of(until) - bucket_of(self.begin) < BUCKETS {
             place(&mut self.lines, line_until(until), x, true);
@@ -67,13 +67,13 @@ impl Buckets {
 
     /// The thread, which slept until this moment, stands nowhere.
     pub fn take(&mut self, x: ThreadId, until: Nanos)
-        requires { IsPlaced self.old.lines.items self.old.begin self.old.further x (Some until) }
-        ensures here { IsPlaced self.new.lines.items self.new.begin self.new.further x None }
+        requires { IsSleeperPlaced self.old.lines.items self.old.begin self.old.further x (Some until) }
+        ensures here { IsSleeperPlaced self.new.lines.items self.new.begin self.new.further x None }
         ensures others { (y : ℕ) (other : Option ℕ)
             → y ≤ last_thread
             → y ≢ x
-            → IsPlaced self.old.lines.items self.old.begin self.old.further y other
-            → IsPlaced self.new.lines.items self.new.begin self.new.further y other }
+            → IsSleeperPlaced self.old.lines.items self.old.begin self.old.further y other
+            → IsSleeperPlaced self.new.lines.items self.new.begin self.new.further y other }
     {
         place(&mut self.lines, line_until(until), x, false);
         place(&mut self.lines, FURTHER, x, false);
@@ -84,7 +84,7 @@ impl Buckets {
         requires { AreKept row.now self.old.lines.items self.old.begin self.old.further }
         ensures kept { AreKept row.now self.new.lines.items self.new.begin self.new.further }
         ensures one { IfSome result (λ s. SleepsUntil row.now s.1 s.0) }
-        ensures others { (x until : ℕ) → SleepsUntil row.now x until → until ≤ now → goes_before (Some (until, x)) result ≡ false }
+        ensures others { (x until : ℕ) → SleepsUntil row.now x until → until ≤ now → wakes_before (Some (until, x)) result ≡ false }
     {
         let (begin, near) = first_near(row, &self.lines, self.begin, now);
         let (further, late) = first_further(row, &self.lines, self.further, now);
@@ -97,8 +97,8 @@ impl Buckets {
     /// where it is time to look for anybody there.
     pub fn may_be_due(&self, word: usize, now: Nanos) -> Bits64
         requires { word < words_of_line }
-        ensures { (x until : ℕ) → x / 64 ≡ word → IsPlaced self.now.lines.items self.now.begin self.now.further x (Some until)
-            → until ≤ now → has result (x % 64) ≡ true }
+        ensures { (x until : ℕ) → x / 64 ≡ word → IsSleeperPlaced self.now.lines.items self.now.begin self.now.further x (Some until)
+            → until ≤ now → set_has result (x % 64) ≡ true }
     {
         let mut bits = self.late(word, now);
         let (first, last) = (bucket_of(self.begin), bucket_of(now));
@@ -114,7 +114,7 @@ impl Buckets {
     fn late(&self, word: usize, now: Nanos) -> Bits64
         requires { word < words_of_line }
         ensures { (x until : ℕ) → x / 64 ≡ word → IsFurther self.now.lines.items self.now.further x until → until ≤ now
-            → has result (x % 64) ≡ true }
+            → set_has result (x % 64) ≡ true }
     {
         if now < self.further {
             Bits64::none()
@@ -175,7 +175,7 @@ fn first_near(
         → IsNear lines.now begin x until
         → IsNear lines.now result.0 x until }
     ensures others { (x until : ℕ) → x ≤ last_thread → SleepsUntil row.now x until → IsNear lines.now begin x until → until ≤ now
-        → goes_before (Some (until, x)) result.1 ≡ false }
+        → wakes_before (Some (until, x)) result.1 ≡ false }
 {
     let (low, high) = (bucket_of(begin), bucket_of(now));
     let mut bucket = low;
@@ -201,7 +201,7 @@ fn first_further(
     ensures still { (x until : ℕ) → x ≤ last_thread → SleepsUntil row.now x until → IsFurther lines.now further x until
         → IsFurther lines.now result.0 x until }
     ensures others { (x until : ℕ) → x ≤ last_thread → SleepsUntil row.now x until → IsFurther lines.now further x until → until ≤ now
-        → goes_before (Some (until, x)) result.1 ≡ false }
+        → wakes_before (Some (until, x)) result.1 ≡ false }
 {
     if now < further {
         return (further, None);

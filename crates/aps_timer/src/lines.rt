@@ -1,9 +1,9 @@
 //! Lines in which threads stand, a bit for each, and who of a line wakes first.
 ghost use Rattle.std.specs.Prelude.{◌≡◌, ℕ, ◌+◌, ◌*◌, ◌/◌, ◌<◌, ◌≤◌, ◌&&◌, nat_eq, if◌then◌else◌, length, slice_index_or, IfSome, Some, None, true, false};
 ghost use Rattle.aps_model.specs.Limits.{last_thread};
-ghost use Rattle.aps_levels.specs.Bits.{has};
+ghost use Rattle.aps_levels.specs.Bits.{set_has};
 ghost use Rattle.aps_timer.specs.Lines.{IsOfLine, IsOfWord, sleeper_of, stands_in, words_of_line};
-ghost use Rattle.aps_timer.specs.Order.{goes_before};
+ghost use Rattle.aps_timer.specs.Order.{wakes_before};
 ghost use Rattle.aps_timer.specs.Sleepers.{SleepsUntil, due_below};
 
 use crate::list::Due;
@@ -36,7 +36,7 @@ pub fn first_in(
     requires { words_of_line * line + 15 < length lines.now }
     ensures one { IfSome result (IsOfLine row.now lines.now line) }
     ensures others { (x until : ℕ) → x ≤ last_thread → stands_in lines.now line x ≡ true → SleepsUntil row.now x until → begin ≤ until
-        → goes_before (Some (until, x)) result ≡ false }
+        → wakes_before (Some (until, x)) result ≡ false }
 {
     let mut first = None;
     for word in 0..words_of(row.len()) {
@@ -67,8 +67,8 @@ pub fn words_of(threads: usize) -> usize
 fn first_in_word(row: &[Option<Nanos>], bits: Bits64, word: usize, begin: Nanos) -> Option<Sleeper>
     requires { word < words_of_line }
     ensures one { IfSome result (IsOfWord row.now bits word) }
-    ensures others { (k until : ℕ) → k < 64 → has bits k ≡ true → SleepsUntil row.now (64 * word + k) until → begin ≤ until
-        → goes_before (Some (until, 64 * word + k)) result ≡ false }
+    ensures others { (k until : ℕ) → k < 64 → set_has bits k ≡ true → SleepsUntil row.now (64 * word + k) until → begin ≤ until
+        → wakes_before (Some (until, 64 * word + k)) result ≡ false }
 {
     let mut first = None;
     let mut left = bits;
@@ -116,7 +116,7 @@ fn sleeper_of(x: ThreadId, until: Option<Nanos>) -> Option<Sleeper>
 pub fn add_of_word(row: &[Option<Nanos>], bits: Bits64, word: usize, now: Nanos, due: &mut Due)
     requires few { word < words_of_line }
     requires before { due.old ≡ due_below row.now now (64 * word) }
-    requires bits { (k until : ℕ) → k < 64 → SleepsUntil row.now (64 * word + k) until → until ≤ now → has bits k ≡ true }
+    requires bits { (k until : ℕ) → k < 64 → SleepsUntil row.now (64 * word + k) until → until ≤ now → set_has bits k ≡ true }
     ensures { due.new ≡ due_below row.now now (64 * word + 64) }
 {
     let mut left = bits;

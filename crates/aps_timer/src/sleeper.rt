@@ -1,7 +1,7 @@
 //! A thread that sleeps, and who goes before whom.
 ghost use Rattle.std.specs.Prelude.{◌≡◌};
 ghost use Rattle.aps_model.specs.TickWork.{is_earlier};
-ghost use Rattle.aps_timer.specs.Order.{goes_before, first_of, wakes_by};
+ghost use Rattle.aps_timer.specs.Order.{wakes_before, earlier_sleeper, wakes_by};
 
 use aps_model::{Nanos, ThreadId};
 use std::marker::Model;
@@ -32,7 +32,7 @@ pub fn is_earlier(a: &Sleeper, b: &Sleeper) -> bool
 
 /// Whether one sleeper, if there is one, goes before another; where there is none it comes last.
 fn goes_before(a: &Option<Sleeper>, b: &Option<Sleeper>) -> bool
-    ensures { result ≡ goes_before a.now b.now }
+    ensures { result ≡ wakes_before a.now b.now }
 {
     match (a, b) {
         (Some(one), Some(other)) => is_earlier(one, other),
@@ -53,7 +53,7 @@ pub fn wakes_by(sleeper: &Option<Sleeper>, moment: Nanos) -> bool
 
 /// The one of two that goes first.
 pub fn first_of(a: Option<Sleeper>, b: Option<Sleeper>) -> Option<Sleeper>
-    ensures { result ≡ first_of a b }
+    ensures { result ≡ earlier_sleeper a b }
 {
     if goes_before(&b, &a) { b } else { a }
 }

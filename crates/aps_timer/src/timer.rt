@@ -1,6 +1,6 @@
 //! The timer of a run.
 ghost use Rattle.std.specs.Prelude.{◌≡◌, ℕ, ◌+◌, ◌<◌, ◌≤◌, ◌++◌, length, replicate, slice_index_or, slice_set, vec_capacity, IfOk, IfSome, Some, None};
-ghost use Rattle.aps_timer.specs.Sleepers.{IsFirstDue, all_due, later_due, next_due, numbers_of, without, without_all};
+ghost use Rattle.aps_timer.specs.Sleepers.{IsFirstDue, all_due, later_due, next_due, numbers_of, sleepers_without, without_all};
 
 use crate::asleep::Asleep;
 use crate::list::Due;
@@ -77,7 +77,7 @@ impl Timer {
         ensures first { IfSome result (λ x. IsFirstDue self.old now x) }
         ensures next { result ≡ next_due (all_due self.old now) }
         ensures others { all_due self.new now ≡ later_due (all_due self.old now) }
-        ensures left { self.new ≡ without self.old result }
+        ensures left { self.new ≡ sleepers_without self.old result }
     {
         self.asleep.due_at(now)
     }

@@ -4,12 +4,12 @@ use Rattle.aps_model.specs.declared.entry.Entry.{Entry}
 use Rattle.aps_model.specs.Journal.{IsJournal}
 use Rattle.aps_model.specs.Scenario.{Scenario}
 use Rattle.aps_scenario.specs.Reading.{reads}
-use Rattle.aps_scenario.specs.Refusal.{Refusal, Refuses}
+use Rattle.aps_scenario.specs.Refusal.{Refusal, RefusesScenario}
 use Rattle.aps_scenario.specs.declared.refusal.ScenarioRefusal.{ScenarioRefusal}
 use Rattle.aps_scenario.specs.declared.refusal.ScenarioRefusal.TheVariants.{Refused, NoMemory}
 use Rattle.aps_text.specs.declared.separator.JournalAt.{JournalAt}
 use Rattle.aps_text.specs.Place.{Place}
-use Rattle.aps_text.specs.Refusal.{IsFirstBad, Refuses as BadFirst}
+use Rattle.aps_text.specs.Refusal.{IsFirstBad, RefusesScenario as BadFirst}
 use Rattle.aps_text.specs.declared.refusal.JournalRefusal.{JournalRefusal}
 use Rattle.aps_text.specs.declared.refusal.JournalRefusal.TheVariants as journal
 use Rattle.aps_text.specs.Separator.{journal_place}
@@ -29,7 +29,7 @@ module _ (bytes : List ℕ) (at : JournalAt) (parted : journal_place bytes ≡ S
   no_scenario refusal read = rw (parted, read) refl
 
   -- the same of what `scenario_of` answered
-  pub refused_scenario : (refusal : ScenarioRefusal) → Refuses refusal (reads (take at.scenario_len bytes))
+  pub refused_scenario : (refusal : ScenarioRefusal) → RefusesScenario refusal (reads (take at.scenario_len bytes))
       → RefusesText (check_refusal bytes) (of_refusal refusal)
   refused_scenario (Refused kind path) read = no_scenario (record { kind = kind; path = path }) read
   refused_scenario NoMemory read = tt

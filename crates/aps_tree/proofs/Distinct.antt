@@ -11,7 +11,7 @@ use Rattle.aps_model.specs.Limits.{percent, thousandths}
 use Rattle.aps_model.specs.Name.{IsName}
 use Rattle.aps_model.specs.Partition.{IsFundedRow, no_row, partition_named, row_or_none}
 use Rattle.aps_tree.specs.Named.{names_of}
-use Rattle.aps_tree.specs.Tree.{IsTree, root_row}
+use Rattle.aps_tree.specs.Tree.{IsBudgetTree, root_row}
 
 -- no name after the first equals it
 apart : (name : List ℕ) (rows : List PartitionRow) (i : ℕ) → i < length rows → AllByRecursion (λ other. bytes_eq name other ≡ false) (names_of rows) → bytes_eq name (row_or_none rows i).name ≡ false
@@ -42,7 +42,7 @@ system_named : IsName (codes "System")
 system_named = record { some = omega arith; few = omega arith; bytes = refl }
 
 -- the root alone is a tree
-pub root_tree : (parts : ℕ) → (parts ≡ percent) ⊎ (parts ≡ thousandths) → IsTree (record { parts = parts; rows = root_row parts ∷ [] })
+pub root_tree : (parts : ℕ) → (parts ≡ percent) ⊎ (parts ≡ thousandths) → IsBudgetTree (record { parts = parts; rows = root_row parts ∷ [] })
 unfolding IsDistinct
 root_tree parts whole = record {
   parts = whole;

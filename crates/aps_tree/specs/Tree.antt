@@ -13,7 +13,7 @@ pub record Tree : Type 0 where
 
 -- what each tree keeps: its rows are a tree by parents with distinct names, budgets sum to the parts, each is at most
 -- its maximum, and each maximum at most the parts
-pub record IsTree (tree : Tree) : Type 0 where
+pub record IsBudgetTree (tree : Tree) : Type 0 where
   pub parts : (tree.parts ≡ percent) ⊎ (tree.parts ≡ thousandths)
   pub named : IsNamedTree tree.rows
   pub funded : AreRows tree.parts tree.rows

@@ -7,7 +7,7 @@ ghost use Rattle.aps_model.specs.Tree.{create_refusal, rows_created, modify_refu
 ghost use Rattle.laws_runs.specs.Rows.{IsNamedTree};
 ghost use Rattle.aps_tree.specs.Changes.{parent_of, rows_with_child};
 ghost use Rattle.aps_tree.specs.Refusals.{max_refusal};
-ghost use Rattle.aps_tree.specs.Tree.{IsTree, root_row, unless_refused, rows_unless_refused};
+ghost use Rattle.aps_tree.specs.Tree.{IsBudgetTree, root_row, unless_refused, rows_unless_refused};
 
 use crate::changes::{add_child, clear_critical, giving, row_modified, set_child};
 use crate::rows::Rows;
@@ -39,11 +39,11 @@ impl Model for Tree {
 
     ghost Value = { Plain };
 
-    ghost use Rattle.aps_tree.specs.TreeView.{tree_of, keeps};
+    ghost use Rattle.aps_tree.specs.TreeView.{tree_of, KeepsTree};
 
     ghost view = { tree_of };
 
-    ghost invariant = { keeps };
+    ghost invariant = { KeepsTree };
 }
 
 impl Tree {
@@ -82,7 +82,7 @@ impl Tree {
     /// The rows, in order of their ids.
     pub fn rows(&self) -> &[PartitionRow]
         ensures same { result.now ≡ self.now.rows }
-        ensures keeps { IsTree self.now }
+        ensures keeps { IsBudgetTree self.now }
     {
         self.rows.as_slice()
     }
@@ -90,7 +90,7 @@ impl Tree {
     /// How many partitions there are, 1 to 32.
     pub fn count(&self) -> u8
         ensures same { result ≡ length self.now.rows }
-        ensures keeps { IsTree self.now }
+        ensures keeps { IsBudgetTree self.now }
     {
         self.rows.as_slice().len() as u8
     }
@@ -135,7 +135,7 @@ impl Tree {
             (create_refusal self.old.parts self.old.rows name parent budget critical max) self.old.rows
             (rows_created self.old.rows name parent budget critical max) }
         ensures parts { self.new.parts ≡ self.old.parts }
-        ensures keeps { IsTree self.new }
+        ensures keeps { IsBudgetTree self.new }
     {
         // by this call the check knows of the text that it is a name
         let _text = name.text();
@@ -203,7 +203,7 @@ impl Tree {
             (modify_refusal self.old.parts self.old.rows p budget critical max) self.old.rows
             (rows_modified self.old.rows p budget critical max) }
         ensures parts { self.new.parts ≡ self.old.parts }
-        ensures keeps { IsTree self.new }
+        ensures keeps { IsBudgetTree self.new }
     {
         if let Some(why) = self.modify_refusal(p, budget, critical, max) {
             return Err(why);
@@ -268,7 +268,7 @@ impl Tree {
         requires { p < length self.old.rows }
         ensures rows { self.new.rows ≡ rows_cancelled self.old.rows p }
         ensures parts { self.new.parts ≡ self.old.parts }
-        ensures keeps { IsTree self.new }
+        ensures keeps { IsBudgetTree self.new }
     {
         clear_critical(&mut self.rows, p);
     }

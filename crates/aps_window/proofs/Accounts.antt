@@ -12,24 +12,24 @@ use Rattle.aps_window.specs.Account.{IsAccount, IsUnused, account_moved, account
 use Rattle.aps_window.specs.Bills.{Bill, bills_critical, bills_used}
 use Rattle.aps_window.specs.Slots.{no_slots, slot_at, slots_billed, slots_moved, slots_total}
 use Rattle.aps_window.specs.StandsFor.{StandsFor}
-use Rattle.aps_window.specs.Whole.{IsWhole}
-use Rattle.aps_window.specs.Window.{Window, advanced, billed, billed_on, opened, resized, slots_of, total_of}
+use Rattle.aps_window.specs.Whole.{IsWholeWindow}
+use Rattle.aps_window.specs.Window.{Window, advanced, window_billed, billed_on, opened, resized, slots_of, total_of}
 use Rattle.aps_window.specs.WindowView.{Keeps, window_of}
 use Rattle.aps_window.proofs.Moves.{advanced_is, map_moved_min}
 use Rattle.aps_window.proofs.Stands.{total_stands}
 use Rattle.aps_window.proofs.Totals.{account_total, billed_are_slots, is_account, length-moved, moved_are_slots}
 use Rattle.aps_window.proofs.Unused.{no_account_is, no_account_moved, no_account_resized, unused_kept, unused_rest}
 
-pub whole_of : (inside : Inside) (window : Window) → Keeps inside → window_of inside ≡ window → IsWhole window
+pub whole_of : (inside : Inside) (window : Window) → Keeps inside → window_of inside ≡ window → IsWholeWindow window
 whole_of inside window keeps view =
     let accounts = inside.accounts.items in
-    let whole : IsWhole (window_of inside) = record {
+    let whole : IsWholeWindow (window_of inside) = record {
       count = length-map accounts slots_in ∙ keeps.count;
       full = All-map (λ (slots : List Slot). length slots ≡ longest_window) slots_in accounts
           (All-weaker (IsAccount inside.span) (λ (a : Account). length (slots_in a)
           ≡ longest_window) (λ a h. h.full) accounts keeps.accounts);
     } in
-    subst IsWhole view whole
+    subst IsWholeWindow view whole
 
 pub span_of : (inside : Inside) (window : Window) → Keeps inside → window_of inside ≡ window → window.span ≤ longest_window
 span_of inside window keeps view = subst (λ (w : Window). w.span ≤ longest_window) view keeps.most
@@ -119,7 +119,7 @@ pub billed_view : (inside after : Inside) (window : Window) (p q tick ns : ℕ) 
     → window_of inside ≡ window → q ≡ p → q ≤ last_partition → account ≡ get_or inside.accounts.items q account
     → next ≡ account_of inside.span (slots_billed account.ring.items (inside.tick - tick) ns critical)
     → after.tick ≡ inside.tick → after.span ≡ inside.span → after.accounts.items ≡ set inside.accounts.items q next
-    → window_of after ≡ billed window p tick ns critical
+    → window_of after ≡ window_billed window p tick ns critical
 billed_view inside after window p q tick ns critical account next keeps view same few e is at span accounts =
     let items = inside.accounts.items in
     let mine : slots_in next ≡ slots_billed (slots_of (window_of inside) q) (inside.tick - tick) ns critical =
@@ -128,7 +128,7 @@ billed_view inside after window p q tick ns critical account next keeps view sam
     let slots : map slots_in after.accounts.items
     ≡ set (map slots_in items) q (slots_billed (slots_of (window_of inside) q) (inside.tick - tick) ns critical) =
     ap (map slots_in) accounts ∙ map-set slots_in items q next ∙ ap (set (map slots_in items) q) mine in
-    (λ i. record { tick = at i; span = span i; slots = slots i }) ∙ (λ i. billed (view i) (same i) tick ns critical)
+    (λ i. record { tick = at i; span = span i; slots = slots i }) ∙ (λ i. window_billed (view i) (same i) tick ns critical)
 
 -- all accounts move or count anew
 same_keeps : (inside after : Inside) → Keeps inside → after.tick ≤ last_tick → shortest_window ≤ after.span → after.span ≤ longest_window

@@ -9,7 +9,7 @@ use Rattle.aps_model.specs.declared.entry.Entry.{Entry}
 use Rattle.aps_model.specs.Due.{next_boundary}
 use Rattle.aps_model.specs.Usage.{billed_by, critical_by, critical_used, names, overlap, used}
 use Rattle.aps_window.specs.Bills.{Bill, all_time, bills_critical, bills_used, critical_time, time_in}
-use Rattle.aps_window.specs.Entries.{AreInOneTick, IsInOneTick, bill_to, bills_of, with_billed, with_entry}
+use Rattle.aps_window.specs.Entries.{AreInOneTick, IsInOneTick, bill_to, bills_of, with_billed, bills_with_entry}
 
 -- ---- a time within one tick
 
@@ -61,7 +61,7 @@ no_time tick a b from to true none = omega arith
 no_time tick a b from to false none = refl
 
 used_billed : (tick p a b : ℕ) (bills : List Bill) (e : Entry) → IsInOneTick tick e
-    → sum_by (time_in all_time p a b) (with_entry tick bills e) ≡ sum_by (time_in all_time p a b) bills + billed_by tick p a b e
+    → sum_by (time_in all_time p a b) (bills_with_entry tick bills e) ≡ sum_by (time_in all_time p a b) bills + billed_by tick p a b e
 used_billed tick p a b bills e short = by_billed e.billed
   where
     f : Bill → ℕ
@@ -84,7 +84,7 @@ used_billed tick p a b bills e short = by_billed e.billed
     by_billed (Some q) = by_time q (nat_lt e.from e.to) refl
 
 critical_billed : (tick p a b : ℕ) (bills : List Bill) (e : Entry) → IsInOneTick tick e
-    → sum_by (time_in critical_time p a b) (with_entry tick bills e) ≡ sum_by (time_in critical_time p a b) bills + critical_by tick p a b e
+    → sum_by (time_in critical_time p a b) (bills_with_entry tick bills e) ≡ sum_by (time_in critical_time p a b) bills + critical_by tick p a b e
 critical_billed tick p a b bills e short = by_billed e.billed
   where
     f : Bill → ℕ
@@ -109,12 +109,12 @@ critical_billed tick p a b bills e short = by_billed e.billed
 -- ---- all entries
 
 sum_over : (f : Bill → ℕ) (g : Entry → ℕ) (tick : ℕ) (h : List Entry)
-    → ((bills : List Bill) (e : Entry) → IsInOneTick tick e → sum_by f (with_entry tick bills e) ≡ sum_by f bills + g e)
-    → AreInOneTick tick h → (bills : List Bill) → sum_by f (fold (with_entry tick) bills h) ≡ sum_by f bills + sum_by g h
+    → ((bills : List Bill) (e : Entry) → IsInOneTick tick e → sum_by f (bills_with_entry tick bills e) ≡ sum_by f bills + g e)
+    → AreInOneTick tick h → (bills : List Bill) → sum_by f (fold (bills_with_entry tick) bills h) ≡ sum_by f bills + sum_by g h
 sum_over f g tick [] one each bills = omega arith
 sum_over f g tick (e ∷ h) one each bills =
     let here = one bills e (All-head (IsInOneTick tick) e h each) in
-    let rest = sum_over f g tick h one (All-tail (IsInOneTick tick) e h each) (with_entry tick bills e) in
+    let rest = sum_over f g tick h one (All-tail (IsInOneTick tick) e h each) (bills_with_entry tick bills e) in
     let sum = sum_by-cons g e h in
     omega (arith, here, rest, sum)
 

@@ -11,8 +11,8 @@ use Rattle.aps_window.specs.declared.slot.Slot.{Slot}
 use Rattle.aps_window.specs.Bills.{Bill, all_time, critical_time, lies_in, time_in}
 use Rattle.aps_window.specs.Slots.{no_slot, no_slots, slot_at, slot_billed, slots_billed, slots_rotated}
 use Rattle.aps_window.specs.StandsFor.{StandsFor}
-use Rattle.aps_window.specs.Whole.{IsWhole}
-use Rattle.aps_window.specs.Window.{Window, advanced, billed, billed_on, opened, resized, rotated, slots_of, total_of}
+use Rattle.aps_window.specs.Whole.{IsWholeWindow}
+use Rattle.aps_window.specs.Window.{Window, advanced, window_billed, billed_on, opened, resized, rotated, slots_of, total_of}
 use Rattle.aps_window.proofs.Sums.{sum_of_slots, sum_past, time_elsewhere, time_here, time_of_others}
 
 -- two numbers are equal or not
@@ -29,7 +29,7 @@ away_from now tick age past other = elim (cases_order tick (now - age)) [
   | inr differ ↦ elim differ [ inl less ↦ inl less | inr more ↦ inr (omega arith) ]
 ]
 
-pub full_of : (window : Window) (p : ℕ) → IsWhole window → p < most_partitions → length (slots_of window p) ≡ longest_window
+pub full_of : (window : Window) (p : ℕ) → IsWholeWindow window → p < most_partitions → length (slots_of window p) ≡ longest_window
 full_of window p whole inside =
     All-get_or (λ (slots : List Slot). length slots ≡ longest_window) window.slots p [] (omega (arith, whole.count)) whole.full
 
@@ -48,7 +48,7 @@ opened_stands span = record {
 }
 
 -- after a rotation
-rotated_slot : (window : Window) (p age : ℕ) → IsWhole window → p < most_partitions → suc age < longest_window
+rotated_slot : (window : Window) (p age : ℕ) → IsWholeWindow window → p < most_partitions → suc age < longest_window
     → slot_at (slots_of (rotated window) p) (suc age) ≡ slot_at (slots_of window p) age
 rotated_slot window p age whole inside kept =
     let slots = slots_of window p in
@@ -59,7 +59,7 @@ rotated_slot window p age whole inside kept =
     )))
     ∙ get_or-take (length slots) (no_slot ∷ slots) (suc age) no_slot short
 
-rotated_first : (window : Window) (p : ℕ) → IsWhole window → p < most_partitions
+rotated_first : (window : Window) (p : ℕ) → IsWholeWindow window → p < most_partitions
     → slot_at (slots_of (rotated window) p) 0 ≡ no_slot
 rotated_first window p whole inside =
     let slots = slots_of window p in
@@ -70,7 +70,7 @@ rotated_first window p whole inside =
     )))
     ∙ get_or-take (length slots) (no_slot ∷ slots) 0 no_slot some
 
-rotated_part : (part : Slot → ℕ) (time : Bill → ℕ) (window : Window) (bills : List Bill) → IsWhole window
+rotated_part : (part : Slot → ℕ) (time : Bill → ℕ) (window : Window) (bills : List Bill) → IsWholeWindow window
     → part no_slot ≡ 0
     → All (λ (bill : Bill). bill.tick ≤ window.tick) bills
     → ((p age : ℕ) → p < most_partitions → age < longest_window
@@ -90,7 +90,7 @@ rotated_part part time window bills whole none past each p (suc age) inside kept
     ∙ each p age inside (omega arith)
     ∙ (λ i. sum_by (time_in time p (sym from i) (sym to i)) bills)
 
-pub rotated_stands : (window : Window) (bills : List Bill) → IsWhole window → StandsFor window bills
+pub rotated_stands : (window : Window) (bills : List Bill) → IsWholeWindow window → StandsFor window bills
     → StandsFor (rotated window) bills
 rotated_stands window bills whole stands = record {
   past = All-weaker (λ (bill : Bill). bill.tick ≤ window.tick) (λ (bill : Bill). bill.tick ≤ window.tick + 1)
@@ -100,7 +100,7 @@ rotated_stands window bills whole stands = record {
       stands.critical;
 }
 
-pub rotated_whole : (window : Window) → IsWhole window → IsWhole (rotated window)
+pub rotated_whole : (window : Window) → IsWholeWindow window → IsWholeWindow (rotated window)
 rotated_whole window whole = record {
   count = length-map window.slots slots_rotated ∙ whole.count;
   full = All-map (λ (slots : List Slot). length slots ≡ longest_window) slots_rotated window.slots
@@ -109,18 +109,18 @@ rotated_whole window whole = record {
       (λ slots h. omega (arith, h, length-take (length slots) (no_slot ∷ slots))) window.slots whole.full);
 }
 
-pub advanced_whole : (ticks : ℕ) (window : Window) → IsWhole window → IsWhole (advanced ticks window)
+pub advanced_whole : (ticks : ℕ) (window : Window) → IsWholeWindow window → IsWholeWindow (advanced ticks window)
 advanced_whole zero window whole = whole
 advanced_whole (suc ticks) window whole = rotated_whole (advanced ticks window) (advanced_whole ticks window whole)
 
-pub advanced_stands : (ticks : ℕ) (window : Window) (bills : List Bill) → IsWhole window → StandsFor window bills
+pub advanced_stands : (ticks : ℕ) (window : Window) (bills : List Bill) → IsWholeWindow window → StandsFor window bills
     → StandsFor (advanced ticks window) bills
 advanced_stands zero window bills whole stands = stands
 advanced_stands (suc ticks) window bills whole stands =
     rotated_stands (advanced ticks window) bills (advanced_whole ticks window whole)
     (advanced_stands ticks window bills whole stands)
 
-pub opened_whole : (span : ℕ) → IsWhole (opened span)
+pub opened_whole : (span : ℕ) → IsWholeWindow (opened span)
 unfolding no_slots
 opened_whole span = record {
   count = length-replicate most_partitions no_slots;
@@ -128,8 +128,8 @@ opened_whole span = record {
 }
 
 -- also where there is no such partition
-pub billed_whole : (window : Window) (p tick ns : ℕ) (critical : Bool) → IsWhole window
-    → IsWhole (billed window p tick ns critical)
+pub billed_whole : (window : Window) (p tick ns : ℕ) (critical : Bool) → IsWholeWindow window
+    → IsWholeWindow (window_billed window p tick ns critical)
 billed_whole window p tick ns critical whole =
     let slots = slots_of window p in
     let next = slots_billed slots (window.tick - tick) ns critical in
@@ -154,16 +154,16 @@ resized_stands span window bills stands = record {
 }
 
 -- after a bill
-billed_there : (window : Window) (p tick ns : ℕ) (critical : Bool) → IsWhole window → p < most_partitions
-    → slots_of (billed window p tick ns critical) p
+billed_there : (window : Window) (p tick ns : ℕ) (critical : Bool) → IsWholeWindow window → p < most_partitions
+    → slots_of (window_billed window p tick ns critical) p
     ≡ slots_billed (slots_of window p) (window.tick - tick) ns critical
 billed_there window p tick ns critical whole inside =
     get_or-set_at window.slots p p (slots_billed (slots_of window p) (window.tick - tick) ns critical) [] refl
     (omega (arith, whole.count))
 
-billed_slot : (window : Window) (p tick ns : ℕ) (critical : Bool) → IsWhole window → p < most_partitions → window.tick - tick < longest_window
+billed_slot : (window : Window) (p tick ns : ℕ) (critical : Bool) → IsWholeWindow window → p < most_partitions → window.tick - tick < longest_window
     → (age : ℕ) → age ≡ window.tick - tick
-    → slot_at (slots_of (billed window p tick ns critical) p) age
+    → slot_at (slots_of (window_billed window p tick ns critical) p) age
     ≡ slot_billed (slot_at (slots_of window p) age) ns critical
 billed_slot window p tick ns critical whole inside kept age here =
     let slots = slots_of window p in
@@ -173,9 +173,9 @@ billed_slot window p tick ns critical whole inside kept age here =
     (window.tick - tick)) ns critical) no_slot here short
     ∙ ap (λ (age : ℕ). slot_billed (slot_at slots age) ns critical) (sym here)
 
-other_slot : (window : Window) (p tick ns : ℕ) (critical : Bool) → IsWhole window → p < most_partitions
+other_slot : (window : Window) (p tick ns : ℕ) (critical : Bool) → IsWholeWindow window → p < most_partitions
     → (age : ℕ) → age ≢ window.tick - tick
-    → slot_at (slots_of (billed window p tick ns critical) p) age ≡ slot_at (slots_of window p) age
+    → slot_at (slots_of (window_billed window p tick ns critical) p) age ≡ slot_at (slots_of window p) age
 other_slot window p tick ns critical whole inside age other =
     let slots = slots_of window p in
     ap (λ (slots : List Slot). slot_at slots age) (billed_there window p tick ns critical whole inside)
@@ -183,20 +183,20 @@ other_slot window p tick ns critical whole inside age other =
     (window.tick - tick)) ns critical) no_slot other
 
 other_slots : (window : Window) (q tick ns : ℕ) (critical : Bool) (p : ℕ) → p ≢ q
-    → slots_of (billed window q tick ns critical) p ≡ slots_of window p
+    → slots_of (window_billed window q tick ns critical) p ≡ slots_of window p
 other_slots window q tick ns critical p other =
     get_or-set_other window.slots q p (slots_billed (slots_of window q) (window.tick - tick) ns critical) [] other
 
 billed_part : (part : Slot → ℕ) (time : Bill
     → ℕ) (window : Window) (bills : List Bill) (q tick ns : ℕ) (critical : Bool)
-    → IsWhole window → q < most_partitions → tick ≤ window.tick → window.tick < tick + longest_window
+    → IsWholeWindow window → q < most_partitions → tick ≤ window.tick → window.tick < tick + longest_window
     → ((slot : Slot) → part (slot_billed slot ns critical)
     ≡ time (record { partition = q; tick = tick; ns = ns; critical = critical }) + part slot)
     → ((p age : ℕ) → p < most_partitions → age < longest_window
     → part (slot_at (slots_of window p) age)
     ≡ sum_by (time_in time p (window.tick - age) (window.tick + 1 - age)) bills)
     → (p age : ℕ) → p < most_partitions → age < longest_window
-    → part (slot_at (slots_of (billed window q tick ns critical) p) age)
+    → part (slot_at (slots_of (window_billed window q tick ns critical) p) age)
     ≡ sum_by (time_in time p (window.tick - age) (window.tick + 1 - age))
     (record { partition = q; tick = tick; ns = ns; critical = critical } ∷ bills)
 billed_part part time window bills q tick ns critical whole inside past kept adds each p age inside-p kept-age =
@@ -208,9 +208,9 @@ billed_part part time window bills q tick ns critical whole inside past kept add
     elim (nat_cases p q) [
       | inl same ↦ elim (nat_cases age (window.tick - tick)) [
         | inl here ↦
-            let mine : slot_at (slots_of (billed window q tick ns critical) p) age
+            let mine : slot_at (slots_of (window_billed window q tick ns critical) p) age
             ≡ slot_billed (slot_at (slots_of window p) age) ns critical =
-            subst (λ (r : ℕ). slot_at (slots_of (billed window q tick ns critical) r) age
+            subst (λ (r : ℕ). slot_at (slots_of (window_billed window q tick ns critical) r) age
             ≡ slot_billed (slot_at (slots_of window r) age) ns critical) (sym same)
             (billed_slot window q tick ns critical whole inside (omega arith) age here) in
             let counted : time_in time p from to bill ≡ time bill =
@@ -218,8 +218,8 @@ billed_part part time window bills q tick ns critical whole inside past kept add
             ≡ time bill) (sym same) (time_here (time bill) q from to tick (omega arith) (omega arith)) in
             omega (arith, ap part mine, adds (slot_at (slots_of window p) age), counted, sum, before)
         | inr other ↦
-            let mine : slot_at (slots_of (billed window q tick ns critical) p) age ≡ slot_at (slots_of window p) age =
-            subst (λ (r : ℕ). slot_at (slots_of (billed window q tick ns critical) r) age
+            let mine : slot_at (slots_of (window_billed window q tick ns critical) p) age ≡ slot_at (slots_of window p) age =
+            subst (λ (r : ℕ). slot_at (slots_of (window_billed window q tick ns critical) r) age
             ≡ slot_at (slots_of window r) age) (sym same)
             (other_slot window q tick ns critical whole inside age other) in
             let away : (tick < from) ⊎ (to ≤ tick) = away_from window.tick tick age past other in
@@ -234,9 +234,9 @@ billed_part part time window bills q tick ns critical whole inside past kept add
     ]
 
 pub billed_stands : (window : Window) (bills : List Bill) (p tick ns : ℕ) (critical : Bool)
-    → IsWhole window → p < most_partitions → tick ≤ window.tick → window.tick < tick + longest_window
+    → IsWholeWindow window → p < most_partitions → tick ≤ window.tick → window.tick < tick + longest_window
     → StandsFor window bills
-    → StandsFor (billed window p tick ns critical)
+    → StandsFor (window_billed window p tick ns critical)
     (record { partition = p; tick = tick; ns = ns; critical = critical } ∷ bills)
 billed_stands window bills p tick ns critical whole inside past kept stands =
     let bill : Bill = record { partition = p; tick = tick; ns = ns; critical = critical } in
@@ -251,7 +251,7 @@ billed_stands window bills p tick ns critical whole inside past kept stands =
     }
 
 -- the totals
-pub total_stands : (window : Window) (bills : List Bill) (p : ℕ) → IsWhole window → p < most_partitions → window.span ≤ longest_window
+pub total_stands : (window : Window) (bills : List Bill) (p : ℕ) → IsWholeWindow window → p < most_partitions → window.span ≤ longest_window
     → StandsFor window bills
     → ((total_of window p).billed ≡ sum_by (time_in all_time p (window.tick + 1 - window.span)
     (window.tick + 1)) bills)

@@ -14,12 +14,12 @@ abbrev pub with_billed : ℕ → List Bill → Entry → Option ℕ → List Bil
 with_billed tick bills e None = bills
 with_billed tick bills e (Some p) = if nat_lt e.from e.to then bill_to tick e p ∷ bills else bills
 
-abbrev pub with_entry : ℕ → List Bill → Entry → List Bill
-with_entry tick bills e = with_billed tick bills e e.billed
+abbrev pub bills_with_entry : ℕ → List Bill → Entry → List Bill
+bills_with_entry tick bills e = with_billed tick bills e e.billed
 
 -- the bills of these entries, the newest first
 abbrev pub bills_of : ℕ → List Entry → List Bill
-bills_of tick h = fold (with_entry tick) [] h
+bills_of tick h = fold (bills_with_entry tick) [] h
 
 -- the entry crosses no boundary
 abbrev pub IsInOneTick : ℕ → Entry → Type 0

@@ -27,8 +27,8 @@ abbrev pub opened : ℕ → Window
 opened span = record { tick = 0; span = span; slots = replicate most_partitions no_slots }
 
 -- the window with a bill more
-abbrev pub billed : Window → ℕ → ℕ → ℕ → Bool → Window
-billed window p tick ns critical = record window {
+abbrev pub window_billed : Window → ℕ → ℕ → ℕ → Bool → Window
+window_billed window p tick ns critical = record window {
   slots = slice_set window.slots p (slots_billed (slots_of window p) (window.tick - tick) ns critical);
 }
 

@@ -2,7 +2,7 @@
 ghost use Rattle.std.specs.Prelude.{◌≡◌, ℕ, ◌+◌, ◌-◌, ◌<◌, ◌≤◌, ◌⊎◌, List, [], ◌∷◌, IfOk};
 ghost use Rattle.aps_window.specs.Bills.{Bill, bills_used, bills_critical};
 ghost use Rattle.aps_window.specs.StandsFor.{StandsFor};
-ghost use Rattle.aps_window.specs.Window.{advanced, billed, billed_on, opened, resized, rotated, total_of};
+ghost use Rattle.aps_window.specs.Window.{advanced, window_billed, billed_on, opened, resized, rotated, total_of};
 ghost use Rattle.aps_model.specs.Limits.{last_tick, longest_window, most_critical, most_time_of_tick, shortest_window};
 
 use crate::account::{Account, SLOTS};
@@ -80,7 +80,7 @@ impl Window {
     pub fn bill(&mut self, p: PartitionId, tick: u32, ns: u64, critical: bool)
         requires recent { (tick ≡ self.old.tick) ⊎ (tick + 1 ≡ self.old.tick) }
         requires fits { billed_on self.old p tick + ns ≤ most_time_of_tick }
-        ensures same { self.new ≡ billed self.old p tick ns critical }
+        ensures same { self.new ≡ window_billed self.old p tick ns critical }
         ensures stands { (bills : List Bill) → StandsFor self.old bills
             → StandsFor self.new (record { partition = p; tick = tick; ns = ns; critical = critical } ∷ bills) }
     {
@@ -93,7 +93,7 @@ impl Window {
         requires past { tick ≤ self.old.tick }
         requires kept { self.old.tick < tick + longest_window }
         requires fits { billed_on self.old p tick + ns ≤ most_time_of_tick }
-        ensures same { self.new ≡ billed self.old p tick ns critical }
+        ensures same { self.new ≡ window_billed self.old p tick ns critical }
         ensures stands { (bills : List Bill) → StandsFor self.old bills
             → StandsFor self.new (record { partition = p; tick = tick; ns = ns; critical = critical } ∷ bills) }
     {

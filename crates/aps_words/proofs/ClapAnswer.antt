@@ -7,7 +7,7 @@ use Rattle.clap.specs.Words.{App, Text, Row, first_of}
 use Rattle.clap.specs.Kinds.{Kinds, or_else}
 use Rattle.clap.specs.Walk.{Walk, has_row, settled, walked, with_default, rows_after, nothing_held}
 use Rattle.clap.specs.Faults.{walk_fault, settle_fault, default_fault, defaults_fault, check_fault, built_fault}
-use Rattle.aps_words.specs.Options.{Given, value_of}
+use Rattle.aps_words.specs.Options.{Given, option_value}
 use Rattle.aps_words.specs.Plain.{is_plain}
 use Rattle.aps_words.proofs.Uses.{uses}
 use Rattle.aps_words.proofs.ClapRules.{opt, opts}
@@ -86,7 +86,7 @@ exactly label names words utf8 plain = by (uses names [] None words) (walk-uses 
     by (Some all) h = taken label names words all h.0 h.1 h.2
 
 -- the value in a row is the option's
-pub first-rows : (name : Text) (all : List Given) → first_of name (rows_as all) ≡ value_of all name
+pub first-rows : (name : Text) (all : List Given) → first_of name (rows_as all) ≡ option_value all name
 first-rows name [] = refl
 first-rows name (option ∷ all) =
     elim (cases_Bool (bytes_eq option.0 name)) [ inl same ↦ rw same | inr other ↦ rw other (first-rows name all) ]

@@ -5,7 +5,7 @@ use Rattle.std.proofs.lemmas.Slice.Eq.{bytes_eq-Decides}
 use Rattle.std.proofs.lemmas.List.{map_push}
 use Rattle.std.specs.Prelude.{⊤}
 use Rattle.std.specs.Str.{bytes_eq}
-use Rattle.aps_words.specs.Options.{Text, Given, value_of, is_known, is_given, option_of, options_after}
+use Rattle.aps_words.specs.Options.{Text, Given, option_value, is_known, is_given, option_of, options_after}
 use Rattle.aps_words.specs.Plain.{is_plain}
 use Rattle.aps_words.proofs.Uses.{uses, looks_like_option}
 
@@ -18,7 +18,7 @@ pub record HasHyphenValue (names : List Text) (given : List Given) : Type 0 wher
   pub name : Text
   pub value : Text
   pub known : is_known names name ≡ true
-  pub there : value_of given name ≡ Some value
+  pub there : option_value given name ≡ Some value
   pub hyphen : begins_with_hyphen value ≡ true
 
 -- nothing was read, or such a value was
@@ -28,7 +28,7 @@ IsUnreadable names (Some given) = HasHyphenValue names given
 
 -- ---- more options
 
-value_of-append : (given more : List Given) (name value : Text) → value_of given name ≡ Some value → value_of (given ++ more) name ≡ Some value
+value_of-append : (given more : List Given) (name value : Text) → option_value given name ≡ Some value → option_value (given ++ more) name ≡ Some value
 value_of-append [] more name value there = cc
 value_of-append (option ∷ given) more name value there =
     elim (cases_Bool (bytes_eq option.0 name)) [
@@ -36,7 +36,7 @@ value_of-append (option ∷ given) more name value there =
       | inr other ↦ rw other (value_of-append given more name value (rw other at there))
     ]
 
-value_of-new : (given : List Given) (name value : Text) → is_given given name ≡ false → value_of (given ++ (name, value) ∷ []) name ≡ Some value
+value_of-new : (given : List Given) (name value : Text) → is_given given name ≡ false → option_value (given ++ (name, value) ∷ []) name ≡ Some value
 value_of-new [] name value new = let same : bytes_eq name name ≡ true = (bytes_eq-Decides name name).1 refl in rw same
 value_of-new (option ∷ given) name value new =
     elim (cases_Bool (bytes_eq option.0 name)) [

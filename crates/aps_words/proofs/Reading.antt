@@ -13,8 +13,8 @@ use Rattle.clap.proofs.WalkLemmas.{first_value-rows}
 use Rattle.aps_words.specs.declared.command.WordsRefusal.{WordsRefusal}
 use Rattle.aps_words.specs.declared.command.WordsRefusal.TheVariants.{Words, NoMemory}
 use Rattle.aps_words.specs.Clap.{app_with}
-use Rattle.aps_words.specs.Options.{Given, value_of, is_known, options}
-use Rattle.aps_words.specs.Command.{◌>>=◌, with_options, Says}
+use Rattle.aps_words.specs.Options.{Given, option_value, is_known, options}
+use Rattle.aps_words.specs.Command.{◌>>=◌, with_options, WordsMean}
 use Rattle.aps_words.specs.Plain.{is_plain}
 use Rattle.aps_words.specs.Unhyphened.{with_unhyphened}
 use Rattle.aps_words.proofs.Uses.{uses}
@@ -53,7 +53,7 @@ texts_behind (s ∷ ss) = texts ss
 
 module _ {A : Type 0} (label : Text) (names : List Text) (by : (Text → Option Text) → Option A) where
   abbrev by_given : Option (List Given) → Option A
-  by_given given = given >>= λ g. by (value_of g)
+  by_given given = given >>= λ g. by (option_value g)
 
   meant_by : IsClapped {A = A} label names by → (m : Result ArgMatches WordsRefusal) (taken : Option (List Given)) (faults : Kinds) (rows : List Row)
       → MatchOption taken (IsFault faults) (λ all. (faults ≡ []) × (rows ≡ rows_as all))
@@ -61,7 +61,7 @@ module _ {A : Type 0} (label : Text) (names : List Text) (by : (Text → Option 
       → Meant by m (by_given taken)
   meant_by read (Ok m) None faults rows h none found refused = absurd (subst IsFault none h)
   meant_by read (Ok m) (Some all) faults rows h none found refused =
-      read.same (value_of all) (first_value (found_of m)) (λ name.
+      read.same (option_value all) (first_value (found_of m)) (λ name.
       sym (first_value-rows (found_of m) name ∙ ap (first_of name) (found ∙ h.1) ∙ first-rows name all))
   meant_by read (Err Words) None faults rows h none found refused = refl
   meant_by read (Err Words) (Some all) faults rows h none found refused = absurd (refused refl h.0)
@@ -105,7 +105,7 @@ module _ {A : Type 0} (label : Text) (names : List Text) (by : (Text → Option 
 
   unreadable_none : IsRead {A = A} label names by → (given : Option (List Given)) → IsUnreadable names given → by_given given ≡ None
   unreadable_none read None h = refl
-  unreadable_none read (Some g) h = read.none (value_of g) h.name h.value h.known h.there h.hyphen
+  unreadable_none read (Some g) h = read.none (option_value g) h.name h.value h.known h.there h.hyphen
 
   agreed_same : IsRead {A = A} label names by → (taken given : Option (List Given)) → Agrees names true taken given → by_given taken ≡ by_given given
   agreed_same read None given a = sym (unreadable_none read given a)
@@ -129,7 +129,7 @@ module _ {A : Type 0} (label : Text) (names : List Text) (by : (Text → Option 
   unplain read words h =
       unreadable_none read (options names words) (subst (λ b. Agrees names b (uses names [] None words) (options names words)) h (agrees names words))
 
-pub refusal_says : {A : Type 0} (by : (Text → Option Text) → Option A) (refusal : WordsRefusal) (meant : Option A) → Meant by (Err refusal) meant → Says {A = A} (Err refusal) meant
+pub refusal_says : {A : Type 0} (by : (Text → Option Text) → Option A) (refusal : WordsRefusal) (meant : Option A) → Meant by (Err refusal) meant → WordsMean {A = A} (Err refusal) meant
 refusal_says by Words meant none = none
 refusal_says by NoMemory meant none = tt
 

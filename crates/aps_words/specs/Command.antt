@@ -5,7 +5,7 @@ use Rattle.aps_words.specs.declared.command.Command.{Command}
 use Rattle.aps_words.specs.declared.command.Command.TheVariants.{Solo, Run, Gen, Upgrade, Check, Admit}
 use Rattle.aps_words.specs.declared.command.WordsRefusal.{WordsRefusal}
 use Rattle.aps_words.specs.declared.command.WordsRefusal.TheVariants as refusal
-use Rattle.aps_words.specs.Options.{Text, value_of, options}
+use Rattle.aps_words.specs.Options.{Text, option_value, options}
 use Rattle.aps_words.specs.Values.{report_of, order_of, limit_of, required_in}
 use Rattle.aps_model.specs.Limits.{IsIn, greatest_u64, most_cpus, most_entries, most_partitions, most_ticks}
 
@@ -59,7 +59,7 @@ check_options = codes "order" ∷ codes "limit" ∷ []
 
 -- what options of these names say, by the words behind the command's own
 abbrev pub with_options : {A : Type 0} → List Text → ((Text → Option Text) → Option A) → List Text → Option A
-with_options names by words = options names words >>= λ given. by (value_of given)
+with_options names by words = options names words >>= λ given. by (option_value given)
 
 -- a command that has no options, by the words behind its own
 abbrev pub alone : Command → List Text → Option Command
@@ -78,10 +78,10 @@ command (word ∷ words) =
     else (if bytes_eq word (codes "admit") then alone Admit words else None)))))
 
 -- the answer is this, or a refusal of the words where there is none; want of memory tells nothing
-abbrev pub Says : {A : Type 0} → Result A WordsRefusal → Option A → Type 0
-Says (Ok said) meant = meant ≡ Some said
-Says (Err refusal.Words) meant = meant ≡ None
-Says (Err refusal.NoMemory) meant = ⊤
+abbrev pub WordsMean : {A : Type 0} → Result A WordsRefusal → Option A → Type 0
+WordsMean (Ok said) meant = meant ≡ Some said
+WordsMean (Err refusal.Words) meant = meant ≡ None
+WordsMean (Err refusal.NoMemory) meant = ⊤
 
 -- the numbers of a command have their ranges
 abbrev pub HasRanges : Command → Type 0

@@ -28,9 +28,9 @@ abbrev pub Given : Type 0
 Given = Text × Text
 
 -- the value of an option among those given
-abbrev pub value_of : List Given → Text → Option Text
-value_of [] name = None
-value_of (option ∷ more) name = if bytes_eq option.0 name then Some option.1 else value_of more name
+abbrev pub option_value : List Given → Text → Option Text
+option_value [] name = None
+option_value (option ∷ more) name = if bytes_eq option.0 name then Some option.1 else option_value more name
 
 abbrev pub is_known : List Text → Text → Bool
 is_known names name = list_any (λ known. bytes_eq known name) names
@@ -39,12 +39,12 @@ abbrev pub is_given : List Given → Text → Bool
 is_given given name = list_any (λ (option : Given). bytes_eq option.0 name) given
 
 -- goes on behind a word that begins an option: with its value, or with the option that waits for one
-abbrev pub begun : List Text → List Given → Option (Text × Option Text) → (List Given → Option Text → Option (List Given))
+abbrev pub option_begun : List Text → List Given → Option (Text × Option Text) → (List Given → Option Text → Option (List Given))
     → Option (List Given)
-begun names given None next = None
-begun names given (Some (name, Some value)) next =
+option_begun names given None next = None
+option_begun names given (Some (name, Some value)) next =
     if is_known names name && not (is_given given name) then next (given ++ (name, value) ∷ []) None else None
-begun names given (Some (name, None)) next =
+option_begun names given (Some (name, None)) next =
     if is_known names name && not (is_given given name) then next given (Some name) else None
 
 -- the options that the words give behind those given already, where one may wait for its value, the next word. Nothing,
@@ -53,7 +53,7 @@ unfoldable pub options_after : List Text → List Given → Option Text → List
 options_after names given None [] = Some given
 options_after names given (Some name) [] = None
 options_after names given None (word ∷ words) =
-    begun names given (option_of word) (λ more waiting. options_after names more waiting words)
+    option_begun names given (option_of word) (λ more waiting. options_after names more waiting words)
 options_after names given (Some name) (word ∷ words) = options_after names (given ++ (name, word) ∷ []) None words
 
 -- the options that the words are, each of one of these names, at most once, and with its value

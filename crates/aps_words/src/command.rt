@@ -83,7 +83,7 @@ impl From<AllocError> for WordsRefusal {
 /// further word, and words that ask for help or for the version. `NoMemory` comes where memory runs
 /// out, and tells nothing of the words.
 pub fn command_of(alloc: Global, words: &[String]) -> Result<Command, WordsRefusal>
-    ensures same { spec.Says result (spec.command (map string_bytes words.now)) }
+    ensures same { spec.WordsMean result (spec.command (map string_bytes words.now)) }
     ensures ranges { IfOk result spec.HasRanges }
 {
     let [word, options @ ..] = words else {
@@ -104,7 +104,7 @@ fn plain_command(
 ) -> Result<Command, WordsRefusal>
     requires plain { is_plain [] (drop 1 (map string_bytes words.now)) ≡ true }
     requires options { map string_bytes options.now ≡ drop 1 (map string_bytes words.now) }
-    ensures same { spec.Says result (spec.command (word.now ∷ drop 1 (map string_bytes words.now))) }
+    ensures same { spec.WordsMean result (spec.command (word.now ∷ drop 1 (map string_bytes words.now))) }
     ensures ranges { IfOk result spec.HasRanges }
 {
     match word {
@@ -121,7 +121,7 @@ fn plain_command(
 /// A command that has no options, by the words behind its own.
 fn alone(command: Command, options: &[String]) -> Result<Command, WordsRefusal>
     requires ranges { spec.HasRanges command }
-    ensures same { spec.Says result (spec.alone command (map string_bytes options.now)) }
+    ensures same { spec.WordsMean result (spec.alone command (map string_bytes options.now)) }
     ensures ranges { IfOk result spec.HasRanges }
 {
     match options {
@@ -133,7 +133,7 @@ fn alone(command: Command, options: &[String]) -> Result<Command, WordsRefusal>
 /// `solo`, by the words behind the first.
 fn solo_of(alloc: Global, words: &[String]) -> Result<Command, WordsRefusal>
     requires plain { is_plain [] (drop 1 (map string_bytes words.now)) ≡ true }
-    ensures same { spec.Says result (spec.with_options spec.solo_options spec.solo (drop 1 (map string_bytes words.now))) }
+    ensures same { spec.WordsMean result (spec.with_options spec.solo_options spec.solo (drop 1 (map string_bytes words.now))) }
     ensures ranges { IfOk result spec.HasRanges }
 {
     match matches_in(solo_options(alloc)?, words) {
@@ -145,7 +145,7 @@ fn solo_of(alloc: Global, words: &[String]) -> Result<Command, WordsRefusal>
 /// `run`, by the words behind the first.
 fn run_of(alloc: Global, words: &[String]) -> Result<Command, WordsRefusal>
     requires plain { is_plain [] (drop 1 (map string_bytes words.now)) ≡ true }
-    ensures same { spec.Says result (spec.with_options spec.run_options spec.run (drop 1 (map string_bytes words.now))) }
+    ensures same { spec.WordsMean result (spec.with_options spec.run_options spec.run (drop 1 (map string_bytes words.now))) }
     ensures ranges { IfOk result spec.HasRanges }
 {
     match matches_in(run_options(alloc)?, words) {
@@ -157,7 +157,7 @@ fn run_of(alloc: Global, words: &[String]) -> Result<Command, WordsRefusal>
 /// `gen`, by the words behind the first.
 fn gen_of(alloc: Global, words: &[String]) -> Result<Command, WordsRefusal>
     requires plain { is_plain [] (drop 1 (map string_bytes words.now)) ≡ true }
-    ensures same { spec.Says result (spec.with_options spec.gen_options spec.gen (drop 1 (map string_bytes words.now))) }
+    ensures same { spec.WordsMean result (spec.with_options spec.gen_options spec.gen (drop 1 (map string_bytes words.now))) }
     ensures ranges { IfOk result spec.HasRanges }
 {
     match matches_in(gen_options(alloc)?, words) {
@@ -169,7 +169,7 @@ fn gen_of(alloc: Global, words: &[String]) -> Result<Command, WordsRefusal>
 /// `check`, by the words behind the first.
 fn check_of(alloc: Global, words: &[String]) -> Result<Command, WordsRefusal>
     requires plain { is_plain [] (drop 1 (map string_bytes words.now)) ≡ true }
-    ensures same { spec.Says result (spec.with_options spec.check_options spec.check (drop 1 (map string_bytes words.now))) }
+    ensures same { spec.WordsMean result (spec.with_options spec.check_options spec.check (drop 1 (map string_bytes words.now))) }
     ensures ranges { IfOk result spec.HasRanges }
 {
     match matches_in(check_options(alloc)?, words) {
@@ -181,7 +181,7 @@ fn check_of(alloc: Global, words: &[String]) -> Result<Command, WordsRefusal>
 /// The command that the options say, where they say one.
 fn said(command: Option<Command>) -> Result<Command, WordsRefusal>
     requires { IfSome command spec.HasRanges }
-    ensures same { spec.Says result command }
+    ensures same { spec.WordsMean result command }
     ensures ranges { IfOk result spec.HasRanges }
 {
     match command {

@@ -48,8 +48,8 @@ pub record IsAdmitted (shape : Shape) (grants : List Granted) (place : ℕ → �
   pub rows : AreGranted grants place scenario.partitions
 
 -- no partition spends critical time in the window from tick a on
-abbrev pub IsUncritical : SchedulerState → List Entry → ℕ → Type 0
-IsUncritical s h a = (q : ℕ) → q < length s.rows → critical_used s.shape.tick h q a (a + s.shape.window) ≡ 0
+abbrev pub IsUncriticalFrom : SchedulerState → List Entry → ℕ → Type 0
+IsUncriticalFrom s h a = (q : ℕ) → q < length s.rows → critical_used s.shape.tick h q a (a + s.shape.window) ≡ 0
 
 -- the window from tick a on is finished, its ticks are steady and hold no critical time, and the scenario's rows and
 -- window stand in it
@@ -58,15 +58,16 @@ pub record IsCalmWindow (scenario : Scenario) (h : List Entry) (a : ℕ) : Type 
   pub steady : IsSteady scenario.shape.tick h (state_after scenario h).changes a (a + scenario.shape.window)
   pub rows : (state_of_tick scenario h a).rows ≡ scenario.partitions
   pub window : (state_of_tick scenario h a).shape.window ≡ scenario.shape.window
-  pub uncritical : IsUncritical (state_of_tick scenario h a) h a
+  pub uncritical : IsUncriticalFrom (state_of_tick scenario h a) h a
 
 -- the same, where granted budgets stand at tick a
-pub record IsAdmittedWindow (shape : Shape) (grants : List Granted) (place : ℕ → ℕ) (scenario : Scenario) (h : List Entry) (a : ℕ) : Type 0 where
+pub record IsAdmittedWindow (shape : Shape) (grants : List Granted) (place : ℕ → ℕ)
+    (scenario : Scenario) (h : List Entry) (a : ℕ) : Type 0 where
   pub finished : a + shape.window ≤ finished_ticks scenario.shape h
   pub steady : IsSteady scenario.shape.tick h (state_after scenario h).changes a (a + shape.window)
   pub frame : IsSameFrame shape (state_of_tick scenario h a).shape
   pub rows : AreGranted grants place (state_of_tick scenario h a).rows
-  pub uncritical : IsUncritical (state_of_tick scenario h a) h a
+  pub uncritical : IsUncriticalFrom (state_of_tick scenario h a) h a
 
 -- in the window from tick a on, partition `place i`, which is that of demand i, uses at least its need
 pub record MeetsNeeds (shape : Shape) (demands : List Demand) (place : ℕ → ℕ) (h : List Entry) (a : ℕ) : Type 0 where

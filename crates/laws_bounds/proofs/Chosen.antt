@@ -25,7 +25,7 @@ use Rattle.aps_model.specs.Step.{Step, chosen, settled, step}
 use Rattle.aps_model.specs.Usage.{billed_by, critical_by, window_critical, window_used}
 use Rattle.aps_model.specs.Valid.{IsScenario}
 use Rattle.laws_runs.specs.Bears.{NamesChannels}
-use Rattle.laws_runs.specs.Untouched.{IsComplete, IsKept}
+use Rattle.laws_runs.specs.Untouched.{IsComplete, AgreesOnRunning}
 use Rattle.laws_runs.specs.Waits.{IsPlain}
 use Rattle.laws_runs.specs.Window.{Kept, kept_if, pair_kept}
 use Rattle.laws_runs.proofs.Channels.{names_channels}
@@ -119,7 +119,7 @@ kept_running : (r : SchedulerState) (ps : List PartFacts) (c now : ℕ) (best : 
 kept_running r ps c now best other d same = flag_running (chosen r ps c best) now other d ∙ ap (λ n. (cpu_at (chosen r ps n best) d).running) (sym same)
 
 -- a step makes no pick, or it picks the greatest of the ready threads
-step_chooses : (scenario : Scenario) (s : SchedulerState) (h : List Entry) (c : ℕ) → NamesChannels scenario → IsPlain scenario s → IsKept s → c < length s.cpus
+step_chooses : (scenario : Scenario) (s : SchedulerState) (h : List Entry) (c : ℕ) → NamesChannels scenario → IsPlain scenario s → AgreesOnRunning s → c < length s.cpus
     → MadeNoPick s (step scenario s h c).entry (step scenario s h c).reboot ⊎ IsChosen h (step scenario s h c).entry (step scenario s h c).state
 step_chooses scenario s h c names plain k below =
     let now = due s h c in

@@ -7,7 +7,7 @@ use Rattle.aps_model.specs.declared.entry.Entry.{Entry}
 use Rattle.aps_model.specs.After.{after, state_after}
 use Rattle.aps_model.specs.Scenario.{Scenario}
 use Rattle.aps_model.specs.SchedulerState.{SchedulerState}
-use Rattle.laws_runs.specs.Window.{Kept, Lane, Walks, Wide, bills_of, lane_after, lanes_at_start, still, wide_of, wides, wides_from}
+use Rattle.laws_runs.specs.Window.{Kept, Lane, Walks, Wide, bill_with_mark, lane_after, lanes_at_start, still, wide_of, wides, wides_from}
 use Rattle.laws_bounds.specs.Picks.{wide_at}
 use Rattle.laws_bounds.proofs.Prefixes.{state-append}
 use Rattle.laws_bounds.specs.Kinds.{Kind, kind_of, last_keeps, last_kind}
@@ -25,7 +25,7 @@ marked_of mark scenario before e = record {
   cpu = e.cpu;
   from = e.from;
   to = e.to;
-  bills = with_mark (mark (last_kind scenario before e.cpu)) (bills_of e);
+  bills = with_mark (mark (last_kind scenario before e.cpu)) (bill_with_mark e);
   keeps = with_mark (mark (kind_of scenario before e)) (wide_at scenario before e).keeps;
 }
 
@@ -48,7 +48,7 @@ along_at P g (x ∷ before) later e all = subst (λ k. P k e) (append_assoc g (x
 
 -- the entry bills what its processor's last pick fixed
 abbrev pub BillsLast : Scenario → List Entry → Entry → Type 0
-BillsLast scenario before e = bills_of e ≡ last_keeps scenario before e.cpu
+BillsLast scenario before e = bill_with_mark e ≡ last_keeps scenario before e.cpu
 
 -- ---- lanes
 

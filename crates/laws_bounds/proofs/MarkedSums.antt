@@ -8,7 +8,7 @@ use Rattle.std.proofs.lemmas.List.Sums.{sum_by-cons, sum_by_push}
 use Rattle.aps_model.specs.declared.entry.Entry.{Entry}
 use Rattle.aps_model.specs.Scenario.{Scenario}
 use Rattle.aps_model.specs.Usage.{billed_by, critical_by, critical_used, names, overlap, used}
-use Rattle.laws_runs.specs.Window.{Kept, bills_of}
+use Rattle.laws_runs.specs.Window.{Kept, bill_with_mark}
 use Rattle.laws_bounds.specs.Lanes.{in_window, is_critical, is_of, is_ordinary, paid, paid_of}
 use Rattle.laws_bounds.specs.Debts.{Never, Resets}
 use Rattle.laws_bounds.specs.FreeTime.{free_by, sum_along}
@@ -63,7 +63,7 @@ unfunded_entry : (scenario : Scenario) (tick a b p : ℕ) (before : List Entry) 
 unfunded_entry scenario tick a b p before e last =
     let test : ℕ → Bool = is_funded scenario (through_last e.cpu before) in
     let k : ℕ = overlap tick a b e.from e.to in
-    subst (λ (kept : Kept). (if is_critical p (with_mark (is_unfunded (kind_by test kept)) (bills_of e)) then k else 0)
+    subst (λ (kept : Kept). (if is_critical p (with_mark (is_unfunded (kind_by test kept)) (bill_with_mark e)) then k else 0)
     ≤ (if names e.billed p && e.critical then k else 0) + (if names e.billed p && is_free (kind_by test kept) then k else 0)) last
     (unfunded_billed k p test e.critical e.billed)
 

@@ -11,7 +11,7 @@ use Rattle.aps_model.specs.Scenario.{Scenario}
 use Rattle.aps_model.specs.SchedulerState.{SchedulerState, cpu_at}
 use Rattle.aps_model.specs.Usage.{overlap}
 use Rattle.aps_model.specs.Valid.{IsScenario}
-use Rattle.laws_runs.specs.Window.{bills_of, kept_if, pair_kept}
+use Rattle.laws_runs.specs.Window.{bill_with_mark, kept_if, pair_kept}
 use Rattle.laws_runs.proofs.IdsLaw.{in_range}
 use Rattle.laws_runs.proofs.Sound.{legal_last, next_law, sound}
 use Rattle.laws_runs.proofs.Words.{up_to}
@@ -74,7 +74,7 @@ module _ (scenario : Scenario) (order : Order) (h : List Entry) (r : IsScenario 
 
   -- what an entry that reaches into a span bills is one of its rows
   pub bills_known : (s : SchedulerState) → IsSpan scenario h a b s → (before later : List Entry) (e : Entry) → h ≡ before ++ e ∷ later
-      → 0 < overlap s.shape.tick a b e.from e.to → IsKnown (length s.rows) (bills_of e)
+      → 0 < overlap s.shape.tick a b e.from e.to → IsKnown (length s.rows) (bill_with_mark e)
   bills_known s w before later e same some k is =
       let runs = runs_pick before later e same (subst (λ n. 0 < overlap n a b e.from e.to) w.sizes.tick some) in
       let last = runs.last in

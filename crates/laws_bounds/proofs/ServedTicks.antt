@@ -18,12 +18,12 @@ use Rattle.aps_model.specs.SchedulerState.{SchedulerState}
 use Rattle.aps_model.specs.Shape.{horizon, whole}
 use Rattle.aps_model.specs.Usage.{names, overlap, used}
 use Rattle.aps_model.specs.Valid.{IsScenario}
-use Rattle.laws_runs.specs.Window.{Kept, bills_of}
+use Rattle.laws_runs.specs.Window.{Kept, bill_with_mark}
 use Rattle.laws_bounds.specs.Lanes.{is_of}
 use Rattle.laws_bounds.specs.Excess.{leeway, others_leeway}
 use Rattle.laws_bounds.specs.FreeTime.{free_by, free_used, idle_by, idle_time, sum_along}
 use Rattle.laws_bounds.specs.Kinds.{Kind, Kind.idle, Kind.funded, Kind.critical, Kind.free, is_free, is_funded, is_served, kind_by, kind_of, last_kind}
-use Rattle.laws_bounds.specs.Served.{FillsServed, HasNoFreePick, HasNoFreeTime, IsFull, IsServed, IsServedPick, KeepsServedBound, ServesSteady}
+use Rattle.laws_bounds.specs.Served.{FillsServed, HasNoFreePick, HasNoFreeTime, AreTicksFull, AreTicksServed, IsServedPick, KeepsServedBound, ServesSteady}
 use Rattle.laws_bounds.proofs.Below.{excess}
 use Rattle.laws_bounds.proofs.Runs.{bills_last, runs_pick}
 use Rattle.laws_bounds.proofs.Spans.{funded_there, span_of}
@@ -78,14 +78,14 @@ served_busy free served = absurd (clash served)
     clash : false ≡ true → ⊥
     clash e = cc
 
-bills_some : (e : Entry) (k : ℕ × Bool) → bills_of e ≡ Some k → is_some e.billed ≡ true
+bills_some : (e : Entry) (k : ℕ × Bool) → bill_with_mark e ≡ Some k → is_some e.billed ≡ true
 bills_some e k is = by_billed e.billed refl is
   where
-    by_billed : (o : Option ℕ) → e.billed ≡ o → bills_of (record e { billed = o }) ≡ Some k → is_some o ≡ true
+    by_billed : (o : Option ℕ) → e.billed ≡ o → bill_with_mark (record e { billed = o }) ≡ Some k → is_some o ≡ true
     by_billed None same is = absurd cc
     by_billed (Some q) same is = refl
 
-module _ (scenario : Scenario) (order : Order) (h : List Entry) (r : IsScenario scenario) (legal : IsLegal scenario order h) (a b : ℕ) (served : IsServed scenario h a b) where
+module _ (scenario : Scenario) (order : Order) (h : List Entry) (r : IsScenario scenario) (legal : IsLegal scenario order h) (a b : ℕ) (served : AreTicksServed scenario h a b) where
   -- an entry that reaches into served ticks runs a pick of class 1
   runs_served : (before later : List Entry) (e : Entry) → h ≡ before ++ e ∷ later → 0 < overlap scenario.shape.tick a b e.from e.to
       → IsTrue (is_served (last_kind scenario before e.cpu)) × (is_some e.billed ≡ true)
@@ -118,7 +118,7 @@ module _ (scenario : Scenario) (order : Order) (h : List Entry) (r : IsScenario 
       no_idle (overlap scenario.shape.tick a b e.from e.to) (is_some e.billed) (λ some. (runs_served g es e same some).1) in
       omega (arith, here, sum_by-cons (idle_by scenario.shape.tick a b) e es, none_idle (g ++ e ∷ []) es (same ∙ sym (append_assoc g (e ∷ []) es)))
 
-  pub full : IsFull scenario h a b
+  pub full : AreTicksFull scenario h a b
   full = record { free = λ p. none_free p [] h refl; idle = none_idle [] h refl }
 
 pub served_is_full : (scenario : Scenario) (order : Order) (h : List Entry) → IsScenario scenario → IsLegal scenario order h → FillsServed scenario h
@@ -126,10 +126,10 @@ served_is_full scenario order h r legal a b served = full scenario order h r leg
 
 -- ---- no free pick of a partition
 
-named_of : (p : ℕ) (e : Entry) (kept : Kept) → bills_of e ≡ kept → names e.billed p ≡ true → is_of p kept ≡ true
+named_of : (p : ℕ) (e : Entry) (kept : Kept) → bill_with_mark e ≡ kept → names e.billed p ≡ true → is_of p kept ≡ true
 named_of p e kept is named = sym (ap (is_of p) is) ∙ by_billed e.billed named
   where
-    by_billed : (o : Option ℕ) → names o p ≡ true → is_of p (bills_of (record e { billed = o })) ≡ true
+    by_billed : (o : Option ℕ) → names o p ≡ true → is_of p (bill_with_mark (record e { billed = o })) ≡ true
     by_billed None named = absurd cc
     by_billed (Some q) named = named
 

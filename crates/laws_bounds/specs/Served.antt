@@ -15,8 +15,8 @@ abbrev pub IsServedPick : Scenario → List Entry → Entry → Type 0
 IsServedPick scenario before e = IsTrue (is_served (kind_of scenario before e))
 
 -- every entry that ends in ticks a to b-1 makes such a pick
-abbrev pub IsServed : Scenario → List Entry → ℕ → ℕ → Type 0
-IsServed scenario h a b =
+abbrev pub AreTicksServed : Scenario → List Entry → ℕ → ℕ → Type 0
+AreTicksServed scenario h a b =
     (before later : List Entry) (e : Entry)
     → h ≡ before ++ e ∷ later
     → a * scenario.shape.tick ≤ e.to
@@ -24,13 +24,13 @@ IsServed scenario h a b =
     → IsServedPick scenario before e
 
 -- in ticks a to b-1 there is no free time, and nobody stands idle
-pub record IsFull (scenario : Scenario) (h : List Entry) (a b : ℕ) : Type 0 where
+pub record AreTicksFull (scenario : Scenario) (h : List Entry) (a b : ℕ) : Type 0 where
   pub free : (p : ℕ) → free_used scenario scenario.shape.tick h p a b ≡ 0
   pub idle : idle_time scenario.shape.tick h a b ≡ 0
 
 -- served ticks are full
 abbrev pub FillsServed : Scenario → List Entry → Type 0
-FillsServed scenario h = (a b : ℕ) → IsServed scenario h a b → IsFull scenario h a b
+FillsServed scenario h = (a b : ℕ) → AreTicksServed scenario h a b → AreTicksFull scenario h a b
 
 -- no entry that ends in ticks a to b-1 makes a free pick of the partition
 abbrev pub HasNoFreePick : Scenario → List Entry → ℕ → ℕ → ℕ → Type 0
@@ -52,7 +52,7 @@ ServesSteady scenario h =
     (a b : ℕ)
     → b ≤ finished_ticks scenario.shape h
     → IsSteady scenario.shape.tick h (state_after scenario h).changes a b
-    → IsServed scenario h a b
+    → AreTicksServed scenario h a b
 
 -- each finished window of served ticks without a change keeps the bound, by the rows and the window of its first tick
 abbrev pub KeepsServedBound : Scenario → List Entry → Type 0
@@ -60,6 +60,6 @@ KeepsServedBound scenario h =
     (a p : ℕ)
     → a + (state_of_tick scenario h a).shape.window ≤ finished_ticks scenario.shape h
     → IsFalse (has_change (state_after scenario h).changes a (a + (state_of_tick scenario h a).shape.window))
-    → IsServed scenario h a (a + (state_of_tick scenario h a).shape.window)
+    → AreTicksServed scenario h a (a + (state_of_tick scenario h a).shape.window)
     → p < length (state_of_tick scenario h a).rows
     → IsWithinBudget (state_of_tick scenario h a).shape (state_of_tick scenario h a).rows h a p

@@ -19,7 +19,7 @@ use Rattle.aps_model.specs.Step.{Step, chosen, pick, settled, step}
 use Rattle.aps_model.specs.Valid.{IsScenario}
 use Rattle.laws_runs.specs.Bears.{NamesChannels}
 use Rattle.laws_runs.specs.Moments.{moment}
-use Rattle.laws_runs.specs.Untouched.{IsAlike, IsKept, thread_kept}
+use Rattle.laws_runs.specs.Untouched.{IsAlike, AgreesOnRunning, thread_kept}
 use Rattle.laws_runs.specs.Waits.{IsPlain, state_at}
 use Rattle.laws_runs.proofs.Channels.{names_channels}
 use Rattle.laws_runs.proofs.MomentLaws.{first_is_due, last_other, last_own, moment-append}
@@ -36,7 +36,7 @@ use Rattle.laws_runs.proofs.Prefixes.{legal_up_to}
 use Rattle.laws_runs.proofs.StepOf.{horizon_same}
 use Rattle.aps_model.specs.Shape.{horizon}
 use Rattle.std.specs.Prelude.{IsTrue}
-use Rattle.laws_load.specs.Operation.{IsAhead, IsDoneInTime, IsUnderWay, RanUntil, RunsOn, StaysAhead}
+use Rattle.laws_load.specs.Operation.{HasFewRivals, IsDoneInTime, IsInOperation, RanUntil, RunsOn, StaysAhead}
 use Rattle.laws_load.specs.Passing.{PassesTime}
 use Rattle.laws_load.specs.Response.{IsRunning, class_now, rivals}
 use Rattle.laws_load.proofs.Responds.{class_one_responds}
@@ -44,7 +44,7 @@ use Rattle.laws_load.proofs.Untouched.{StandsReady, StandsRunning, StandsWith, o
 
 -- ---- one step
 
-module _ (scenario : Scenario) (s : SchedulerState) (h : List Entry) (c : ℕ) (names : NamesChannels scenario) (plain : IsPlain scenario s) (kept : IsKept s) where
+module _ (scenario : Scenario) (s : SchedulerState) (h : List Entry) (c : ℕ) (names : NamesChannels scenario) (plain : IsPlain scenario s) (kept : AgreesOnRunning s) where
   -- a step that ends with its pick, by what stands before it
   by_pick : (r : SchedulerState) (e : Entry) (x place : ℕ) (left : Option ℕ) → StandsReady place left (thread_at r x) → StandsWith c place left (thread_at (pick r h c (due s h c) e).state x)
   by_pick r e x place left ready =
@@ -95,7 +95,7 @@ module _ (scenario : Scenario) (order : Order) (h : List Entry) (e : Entry) (r :
   t = state_after scenario g
 
   -- how the thread stands after the entry
-  goes_on : (left start : ℕ) → StandsWith e.cpu place (Some left) (thread_at (step scenario s h e.cpu).state x) → start ≡ e.to → start + left ≡ end → IsUnderWay t g x place end
+  goes_on : (left start : ℕ) → StandsWith e.cpu place (Some left) (thread_at (step scenario s h e.cpu).state x) → start ≡ e.to → start + left ≡ end → IsInOperation t g x place end
   goes_on left start stands from sum =
       let here : StandsWith e.cpu place (Some left) (thread_at t x) = subst (λ (u : SchedulerState). StandsWith e.cpu place (Some left) (thread_at u x)) (sym (state-append scenario h e)) stands in
       record {
@@ -113,7 +113,7 @@ module _ (scenario : Scenario) (order : Order) (h : List Entry) (e : Entry) (r :
   clash : {c : ℕ} → Ready ≡ Running c → ⊥
   clash e = cc
 
-  entry_ready : (left : ℕ) → (thread_at s x).place ≡ place → (thread_at s x).left ≡ Some left → state_at s x ≡ Ready → moment h + left ≡ end → (moment h < e.to → IsRunning s x) → IsUnderWay t g x place end
+  entry_ready : (left : ℕ) → (thread_at s x).place ≡ place → (thread_at s x).left ≡ Some left → state_at s x ≡ Ready → moment h + left ≡ end → (moment h < e.to → IsRunning s x) → IsInOperation t g x place end
   entry_ready left stands left_is ready sum runs =
       let m = (sound scenario order r h (legal_last scenario order h e legal).0).grounded in
       let next = next_law scenario order h e r legal in
@@ -136,7 +136,7 @@ module _ (scenario : Scenario) (order : Order) (h : List Entry) (e : Entry) (r :
       some_same a b e = cc
 
   -- it runs on another processor
-  entry_other : (left d : ℕ) → (thread_at s x).place ≡ place → (thread_at s x).left ≡ Some left → state_at s x ≡ Running d → last_end h d + left ≡ end → d ≢ e.cpu → IsUnderWay t g x place end
+  entry_other : (left d : ℕ) → (thread_at s x).place ≡ place → (thread_at s x).left ≡ Some left → state_at s x ≡ Running d → last_end h d + left ≡ end → d ≢ e.cpu → IsInOperation t g x place end
   entry_other left d stands left_is run sum ne =
       let m = (sound scenario order r h (legal_last scenario order h e legal).0).grounded in
       let p = pick_of (cpu_at s d).running (m.kept.kept x d run) in
@@ -151,7 +151,7 @@ module _ (scenario : Scenario) (order : Order) (h : List Entry) (e : Entry) (r :
       }
 
   -- it runs on the processor that steps
-  entry_own : (left : ℕ) → (thread_at s x).place ≡ place → (thread_at s x).left ≡ Some left → state_at s x ≡ Running e.cpu → last_end h e.cpu + left ≡ end → IsUnderWay t g x place end ⊎ Ends e x end
+  entry_own : (left : ℕ) → (thread_at s x).place ≡ place → (thread_at s x).left ≡ Some left → state_at s x ≡ Running e.cpu → last_end h e.cpu + left ≡ end → IsInOperation t g x place end ⊎ Ends e x end
   entry_own left stands left_is run sum =
       let m = (sound scenario order r h (legal_last scenario order h e legal).0).grounded in
       let st = step_law scenario order h e r legal in
@@ -180,7 +180,7 @@ module _ (scenario : Scenario) (order : Order) (h : List Entry) (e : Entry) (r :
       by_last None is lefts = let to = (next_law scenario order h e r legal).opens is in omega (arith, to)
       by_last (Some z) is lefts = (next_law scenario order h e r legal).exact left (λ none. some_none z (sym is ∙ none)) lefts
 
-  entry_goes : IsUnderWay s h x place end → (moment h < e.to → IsRunning s x) → IsUnderWay t g x place end ⊎ Ends e x end
+  entry_goes : IsInOperation s h x place end → (moment h < e.to → IsRunning s x) → IsInOperation t g x place end ⊎ Ends e x end
   entry_goes way runs = elim way.from [
     | inl ready ↦ inl (entry_ready way.left way.stands way.left_is ready.0 (ap (λ n. n + way.left) (sym ready.1) ∙ way.sum) runs)
     | inr on ↦
@@ -196,12 +196,12 @@ module _ (scenario : Scenario) (order : Order) (h : List Entry) (e : Entry) (r :
 -- whenever time passes with the operation under way, the thread runs
 abbrev RunsUnderWay : Scenario → List Entry → List Entry → ℕ → ℕ → ℕ → Type 0
 RunsUnderWay scenario h more x place end =
-    (before later : List Entry) (e : Entry) → more ≡ before ++ e ∷ later → IsUnderWay (state_after scenario (h ++ before)) (h ++ before) x place end → moment (h ++ before) < e.to
+    (before later : List Entry) (e : Entry) → more ≡ before ++ e ∷ later → IsInOperation (state_after scenario (h ++ before)) (h ++ before) x place end → moment (h ++ before) < e.to
     → IsRunning (state_after scenario (h ++ before)) x
 
 module _ (scenario : Scenario) (order : Order) (r : IsScenario scenario) (x place end : ℕ) where
   abbrev WayAfter : List Entry → Type 0
-  WayAfter g = IsUnderWay (state_after scenario g) g x place end
+  WayAfter g = IsInOperation (state_after scenario g) g x place end
 
   walk : (h more : List Entry) → IsLegal scenario order (h ++ more) → WayAfter h → RunsUnderWay scenario h more x place end → WayAfter (h ++ more) ⊎ RanUntil scenario h more x place end
   walk h [] legal way runs = inl (subst WayAfter (sym (append-nil h)) way)
@@ -287,7 +287,7 @@ module _ (scenario : Scenario) (order : Order) (r : IsScenario scenario) (x plac
     | inr on ↦ ap is_active on.1
   ]
 
-  ahead_runs : (g later : List Entry) (e : Entry) → IsLegal scenario order (g ++ e ∷ later) → IsAhead (state_after scenario g) g x → WayAfter g → moment g < e.to → IsRunning (state_after scenario g) x
+  ahead_runs : (g later : List Entry) (e : Entry) → IsLegal scenario order (g ++ e ∷ later) → HasFewRivals (state_after scenario g) g x → WayAfter g → moment g < e.to → IsRunning (state_after scenario g) x
   ahead_runs g later e legal ahead way less = elim (last_split g) [
     | inl empty ↦
         let front = legal_up_to scenario order g later e legal in
@@ -323,11 +323,11 @@ module _ (scenario : Scenario) (order : Order) (r : IsScenario scenario) (x plac
       never a b zero' less = omega (arith, zero', less)
 
 pub done_in_time : (scenario : Scenario) (order : Order) (h more : List Entry) (x place end : ℕ) → IsScenario scenario → IsLegal scenario order (h ++ more)
-    → IsUnderWay (state_after scenario h) h x place end → RunsOn scenario h more x → IsDoneInTime scenario h more x place end
+    → IsInOperation (state_after scenario h) h x place end → RunsOn scenario h more x → IsDoneInTime scenario h more x place end
 done_in_time scenario order h more x place end r legal way runs = in_time scenario order r x place end h more legal way (λ before later e same under less. runs before later e same less)
 
 pub class_one_in_time : (scenario : Scenario) (order : Order) (h more : List Entry) (x place end : ℕ) → IsScenario scenario → IsLegal scenario order (h ++ more)
-    → IsUnderWay (state_after scenario h) h x place end → StaysAhead scenario h more x → IsDoneInTime scenario h more x place end
+    → IsInOperation (state_after scenario h) h x place end → StaysAhead scenario h more x → IsDoneInTime scenario h more x place end
 class_one_in_time scenario order h more x place end r legal way ahead =
     in_time scenario order r x place end h more legal way
     (λ before later e same under less.

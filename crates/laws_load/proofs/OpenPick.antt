@@ -18,7 +18,7 @@ use Rattle.aps_model.specs.Step.{Step, chosen, settled, step}
 use Rattle.aps_model.specs.Valid.{IsScenario}
 use Rattle.laws_runs.specs.Bears.{NamesChannels}
 use Rattle.laws_runs.specs.Choices.{MadeNoPick, state_to_pick}
-use Rattle.laws_runs.specs.Untouched.{IsComplete, IsKept}
+use Rattle.laws_runs.specs.Untouched.{IsComplete, AgreesOnRunning}
 use Rattle.laws_runs.specs.Waits.{IsPlain}
 use Rattle.laws_runs.proofs.Channels.{names_channels}
 use Rattle.laws_runs.proofs.ChoiceLaws.{bill_picks_none}
@@ -80,7 +80,7 @@ open_at r h c now e ps best other starved cpu below to parts is flags =
     }
 
 -- a step makes no pick, or it picks from the state to pick from
-step_opens : (scenario : Scenario) (s : SchedulerState) (h : List Entry) (c : ℕ) → NamesChannels scenario → IsPlain scenario s → IsKept s → c < length s.cpus
+step_opens : (scenario : Scenario) (s : SchedulerState) (h : List Entry) (c : ℕ) → NamesChannels scenario → IsPlain scenario s → AgreesOnRunning s → c < length s.cpus
     → MadeNoPick s (step scenario s h c).entry (step scenario s h c).reboot
     ⊎ IsOpenPick (state_to_pick scenario s h c) h c (step scenario s h c).entry (step scenario s h c).state
 step_opens scenario s h c names plain k below =

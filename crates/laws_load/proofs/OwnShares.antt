@@ -26,7 +26,7 @@ use Rattle.laws_bounds.specs.Excess.{leeway, margin, others_leeway, others_margi
 use Rattle.laws_bounds.specs.FreeTime.{free_used, idle_time}
 use Rattle.laws_bounds.specs.Kinds.{is_funded}
 use Rattle.laws_load.specs.OwnShare.{FindsSpent, HasOwnShare, HasWholeShare, IsSupplied, KeepsOwnShare, KeepsSupply, SharesInTime, SharesInTwo, WorksInBudget}
-use Rattle.laws_bounds.specs.Served.{IsServed}
+use Rattle.laws_bounds.specs.Served.{AreTicksServed}
 use Rattle.laws_bounds.proofs.Below.{excess}
 use Rattle.laws_bounds.proofs.Marked.{Along, along_at}
 use Rattle.laws_load.proofs.ServedPicks.{class_one_is_served}
@@ -104,7 +104,7 @@ module _ (scenario : Scenario) (order : Order) (h : List Entry) (r : IsScenario 
       (found_from (g ++ e ∷ []) es (same ∙ sym (append_assoc g (e ∷ []) es)))
 
   -- where each pick is of the partition in budget, and it has work, the ticks are served
-  served_by : b ≤ finished_ticks scenario.shape h → IsSupplied scenario h p a b → IsServed scenario h a b
+  served_by : b ≤ finished_ticks scenario.shape h → IsSupplied scenario h p a b → AreTicksServed scenario h a b
   served_by finished supplied before later e same low high =
       let front = up_to scenario order h before later e same legal in
       let has = supplied before later e same low high in

@@ -20,7 +20,7 @@ use Rattle.aps_model.specs.SchedulerState.{SchedulerState, cpu_at, no_thread, th
 use Rattle.aps_model.specs.Step.{begun, billed, chosen, finish_op, give_back, settled, tested}
 use Rattle.aps_model.specs.TickWork.{tick_work}
 use Rattle.laws_runs.specs.Bears.{Bears, NamesChannels}
-use Rattle.laws_runs.specs.Untouched.{IsAlike, IsKept}
+use Rattle.laws_runs.specs.Untouched.{IsAlike, AgreesOnRunning}
 use Rattle.laws_runs.specs.Waits.{IsPlain, state_at}
 use Rattle.laws_runs.proofs.Commands.{sizes_same}
 use Rattle.laws_runs.proofs.Mid.{IsFramed, IsTicked, command_kept, framed_bears, tested_by, ticked, unflagged}
@@ -121,7 +121,7 @@ same_threads u h e = tested_by u.shape.bankruptcy u (e.to / u.shape.tick) (bankr
 test_still : (scenario : Scenario) (s0 : SchedulerState) (z : ℕ) (was : ThreadNow) (u : SchedulerState) (h : List Entry) (e : Entry) → IsStill scenario s0 z was u → IsStill scenario s0 z was (tested u h e).state
 test_still scenario s0 z was u h e m = still_tested scenario s0 z was u.shape.bankruptcy u (e.to / u.shape.tick) (bankrupt u (h ++ e ∷ []) e) m
 
-module _ (scenario : Scenario) (s : SchedulerState) (h : List Entry) (c : ℕ) (names : NamesChannels scenario) (plain : IsPlain scenario s) (kept : IsKept s) where
+module _ (scenario : Scenario) (s : SchedulerState) (h : List Entry) (c : ℕ) (names : NamesChannels scenario) (plain : IsPlain scenario s) (kept : AgreesOnRunning s) where
   plain' : IsPlain scenario (unflagged s c)
   plain' = record { waiting = plain.waiting; channels = plain.channels }
 

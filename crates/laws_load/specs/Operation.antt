@@ -16,7 +16,7 @@ GoesFrom s h x start =
     ((state_at s x ≡ Ready) × (start ≡ moment h)) ⊎ ((c : ℕ) × (state_at s x ≡ Running c) × (start ≡ last_end h c))
 
 -- thread x is in the operation at this place of its program, and will have done it at the moment `end` if it loses no time
-pub record IsUnderWay (s : SchedulerState) (h : List Entry) (x place end : ℕ) : Type 0 where
+pub record IsInOperation (s : SchedulerState) (h : List Entry) (x place end : ℕ) : Type 0 where
   pub start : ℕ
   pub left : ℕ
   pub stands : (thread_at s x).place ≡ place
@@ -38,12 +38,12 @@ pub record RanUntil (scenario : Scenario) (h more : List Entry) (x place end : �
   pub later : List Entry
   pub e : Entry
   pub same : more ≡ before ++ e ∷ later
-  pub way : IsUnderWay (state_after scenario (h ++ before)) (h ++ before) x place end
+  pub way : IsInOperation (state_after scenario (h ++ before)) (h ++ before) x place end
   pub ran : e.ran ≡ Some x
   pub to : e.to ≡ end
 
 -- the thread is of class 1, and fewer outrank it than there are processors
-pub record IsAhead (s : SchedulerState) (h : List Entry) (x : ℕ) : Type 0 where
+pub record HasFewRivals (s : SchedulerState) (h : List Entry) (x : ℕ) : Type 0 where
   pub class : class_now s h x ≡ 1
   pub few : rivals s h x < s.shape.cpus
 
@@ -53,10 +53,10 @@ StaysAhead scenario h more x =
     (before later : List Entry) (e : Entry)
     → more ≡ before ++ e ∷ later
     → moment (h ++ before) < e.to
-    → IsAhead (state_after scenario (h ++ before)) (h ++ before) x
+    → HasFewRivals (state_after scenario (h ++ before)) (h ++ before) x
 
 -- after these further entries the operation is under way with the same end, or one of them ran the thread until then; and
 -- if a moment later than that has come, one did
 pub record IsDoneInTime (scenario : Scenario) (h more : List Entry) (x place end : ℕ) : Type 0 where
-  pub so_far : IsUnderWay (state_after scenario (h ++ more)) (h ++ more) x place end ⊎ RanUntil scenario h more x place end
+  pub so_far : IsInOperation (state_after scenario (h ++ more)) (h ++ more) x place end ⊎ RanUntil scenario h more x place end
   pub at_last : end < moment (h ++ more) → RanUntil scenario h more x place end

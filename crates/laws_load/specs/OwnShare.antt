@@ -12,7 +12,7 @@ use Rattle.aps_model.specs.Shape.{whole}
 use Rattle.aps_model.specs.Usage.{used, window_used}
 use Rattle.laws_bounds.specs.Excess.{others_margin}
 use Rattle.laws_bounds.specs.Kinds.{is_funded}
-use Rattle.laws_bounds.specs.Served.{IsServed}
+use Rattle.laws_bounds.specs.Served.{AreTicksServed}
 use Rattle.laws_load.specs.Work.{HasWork}
 
 -- in ticks a to b-1 the partition has work at each pick at which it is in budget
@@ -48,7 +48,7 @@ pub record HadShare (scenario : Scenario) (shape : Shape) (rows : List Partition
 -- the window from tick a on is served, and in it the partition falls short of its budget by at most what the others may
 -- take beyond theirs
 pub record GetsShare (scenario : Scenario) (shape : Shape) (rows : List PartitionRow) (h : List Entry) (a p : ℕ) : Type 0 where
-  pub served : IsServed scenario h a (a + shape.window)
+  pub served : AreTicksServed scenario h a (a + shape.window)
   pub below : (row_or_none rows p).budget * whole shape
       ≤ shape.parts * used shape.tick h p a (a + shape.window) + shape.parts * others_slack shape rows h a p
 

@@ -6,7 +6,7 @@ ghost use Rattle.aps_model.specs.After.{state_after};
 ghost use Rattle.aps_model.specs.Scenario.{Scenario};
 ghost use Rattle.aps_model.specs.Valid.{IsScenario};
 ghost use Rattle.aps_model.specs.Legal.{IsLegal};
-ghost use Rattle.laws_load.specs.Operation.{IsDoneInTime, IsUnderWay, RunsOn, StaysAhead};
+ghost use Rattle.laws_load.specs.Operation.{IsDoneInTime, IsInOperation, RunsOn, StaysAhead};
 
 /// A thread that runs whenever time passes loses none: an operation of which so many ns are left ends so many ns later,
 /// by an entry that ran the thread until that very moment.
@@ -14,7 +14,7 @@ pub fn done_in_time()
     ensures { (scenario : Scenario) (order : Order) (h more : List Entry) (x place end : ℕ)
         → IsScenario scenario
         → IsLegal scenario order (h ++ more)
-        → IsUnderWay (state_after scenario h) h x place end
+        → IsInOperation (state_after scenario h) h x place end
         → RunsOn scenario h more x
         → IsDoneInTime scenario h more x place end }
 {}
@@ -25,7 +25,7 @@ pub fn class_one_is_done_in_time()
     ensures { (scenario : Scenario) (order : Order) (h more : List Entry) (x place end : ℕ)
         → IsScenario scenario
         → IsLegal scenario order (h ++ more)
-        → IsUnderWay (state_after scenario h) h x place end
+        → IsInOperation (state_after scenario h) h x place end
         → StaysAhead scenario h more x
         → IsDoneInTime scenario h more x place end }
 {}

@@ -15,7 +15,7 @@ use Rattle.aps_model.specs.declared.shape.Shape.{Shape}
 use Rattle.aps_model.specs.declared.state.Pick.{Pick}
 use Rattle.laws_runs.specs.Waits.{IsPlain}
 use Rattle.laws_runs.specs.Bears.{Bears, NamesChannels}
-use Rattle.laws_runs.specs.Untouched.{IsKept}
+use Rattle.laws_runs.specs.Untouched.{AgreesOnRunning}
 use Rattle.laws_runs.proofs.ThreadFacts.{go_on_by}
 use Rattle.laws_runs.proofs.Walk.{returned_kept, sleepers_fold, wake_each}
 use Rattle.laws_runs.proofs.WaitBears.{plain_bears}
@@ -83,7 +83,7 @@ settled_books Q scenario s r c now (Some p) names b m =
 
 -- from the work of the tick on a step keeps what cancels keep
 pub step_books : (Q : List PartitionRow → Shape → List Reply → List Change → Type 0) → ((t : SchedulerState) (j p : ℕ) → OfBooks Q t → OfBooks Q (cancel t j p))
-    → (scenario : Scenario) (s : SchedulerState) (h : List Entry) (c : ℕ) → NamesChannels scenario → IsPlain scenario s → IsKept s → OfBooks Q (begun scenario s h c (due s h c)) → OfBooks Q (step scenario s h c).state
+    → (scenario : Scenario) (s : SchedulerState) (h : List Entry) (c : ℕ) → NamesChannels scenario → IsPlain scenario s → AgreesOnRunning s → OfBooks Q (begun scenario s h c (due s h c)) → OfBooks Q (step scenario s h c).state
 step_books Q cancels scenario s h c names plain k m =
     let now = due s h c in
     let running = (cpu_at s c).running in

@@ -10,7 +10,7 @@ use Rattle.std.proofs.lemmas.List.Folds.{list_any-append, Any-from_list_any}
 use Rattle.aps_model.specs.declared.entry.Entry.{Entry}
 use Rattle.aps_model.specs.declared.entry.Order.{Order}
 use Rattle.aps_model.specs.Limits.{longest_tick, most_ticks}
-use Rattle.laws_runs.specs.Boundaries.{IsInTick, MeetsBoundaries, is_met, steps_at, ticks_begun}
+use Rattle.laws_runs.specs.Boundaries.{EndsInTick, MeetsBoundaries, is_met, steps_at, ticks_begun}
 use Rattle.laws_runs.specs.Moments.{moment}
 use Rattle.laws_runs.specs.Sound.{IsNext}
 use Rattle.laws_runs.proofs.WaitFacts.{test_eq}
@@ -241,7 +241,7 @@ pub begun_some : (tick : ℕ) (h : List Entry) → (h ≡ [] → ⊥) → ticks_
 begun_some tick [] some = absurd (some refl)
 begun_some tick (x ∷ h) some = refl
 
-pub in_tick : (scenario : Scenario) (order : Order) (h : List Entry) (e : Entry) → IsScenario scenario → IsLegal scenario order (h ++ e ∷ []) → IsInTick scenario.shape.tick h e
+pub in_tick : (scenario : Scenario) (order : Order) (h : List Entry) (e : Entry) → IsScenario scenario → IsLegal scenario order (h ++ e ∷ []) → EndsInTick scenario.shape.tick h e
 in_tick scenario order h e r legal =
     let t = scenario.shape.tick in
     let m = step_at scenario order h e r legal in

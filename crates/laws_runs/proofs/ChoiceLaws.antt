@@ -8,7 +8,7 @@ use Rattle.aps_model.specs.declared.merit.PartFacts.{PartFacts}
 use Rattle.aps_model.specs.declared.state.Pick.{Pick}
 use Rattle.laws_runs.specs.Bears.{NamesChannels}
 use Rattle.laws_runs.specs.Choices.{EachPickIsGreatest, MadeNoPick, PicksGreatest, state_to_pick}
-use Rattle.laws_runs.specs.Untouched.{IsComplete, IsKept}
+use Rattle.laws_runs.specs.Untouched.{IsComplete, AgreesOnRunning}
 use Rattle.laws_runs.specs.Waits.{IsPlain}
 use Rattle.laws_runs.proofs.Channels.{names_channels}
 use Rattle.laws_runs.proofs.Mid.{test_mid}
@@ -44,7 +44,7 @@ pick_greatest r h c now e0 now_is =
       starved = ap (λ ps. missing ps (contenders r)) same;
     }
 
-step_picks : (scenario : Scenario) (s : SchedulerState) (h : List Entry) (c : ℕ) → NamesChannels scenario → IsPlain scenario s → IsKept s
+step_picks : (scenario : Scenario) (s : SchedulerState) (h : List Entry) (c : ℕ) → NamesChannels scenario → IsPlain scenario s → AgreesOnRunning s
     → PicksGreatest (state_to_pick scenario s h c) h (step scenario s h c).entry
     ⊎ MadeNoPick s (step scenario s h c).entry (step scenario s h c).reboot
 step_picks scenario s h c names plain k =

@@ -5,7 +5,7 @@ use Rattle.aps_model.specs.declared.entry.Order.{Order}
 use Rattle.aps_model.specs.declared.state.State.TheVariants.{Running}
 use Rattle.laws_runs.specs.Counts.{IsCounted, NoneShared}
 use Rattle.laws_runs.specs.Sound.{IsSound}
-use Rattle.laws_runs.specs.Untouched.{IsKept}
+use Rattle.laws_runs.specs.Untouched.{AgreesOnRunning}
 use Rattle.laws_runs.specs.Waits.{state_at}
 use Rattle.laws_runs.proofs.Carry.{carried}
 use Rattle.laws_runs.proofs.Sound.{running_on, sound_opening, sound_step, sound_step_of}
@@ -23,7 +23,7 @@ counts_law scenario order h r legal =
     let g = m.0.grounded in
     record { threads = m.1; cpus = g.cpu_count ∙ g.sizes.cpus; channels = g.plain.channels; sizes = g.sizes }
 
-pub none_shared : (s : SchedulerState) → IsKept s → NoneShared s
+pub none_shared : (s : SchedulerState) → AgreesOnRunning s → NoneShared s
 none_shared s k c d p q a b same = same_cpu (sym (k.runs c p a) ∙ ap (state_at s) same ∙ k.runs d q b)
   where
     same_cpu : {m n : ℕ} → Running m ≡ Running n → m ≡ n

@@ -11,7 +11,7 @@ use Rattle.aps_model.specs.declared.merit.Contender.{Contender}
 use Rattle.laws_runs.specs.Bears.{NamesChannels}
 use Rattle.laws_runs.specs.ThreadFits.{Each}
 use Rattle.laws_runs.specs.Sizes.{IsSameSizes}
-use Rattle.laws_runs.specs.Untouched.{IsComplete, IsKept, thread_kept}
+use Rattle.laws_runs.specs.Untouched.{IsComplete, AgreesOnRunning, thread_kept}
 use Rattle.laws_runs.specs.Waits.{IsPlain, state_at}
 use Rattle.laws_runs.proofs.EachThread.{each_beside, each_set}
 use Rattle.laws_runs.proofs.ThreadFacts.{set_same, running_within}
@@ -48,7 +48,7 @@ pub record StepBears (scenario : Scenario) (s : SchedulerState) (h : List Entry)
 pub record IsStanding (scenario : Scenario) (s : SchedulerState) (c : ℕ) : Type 0 where
   pub names : NamesChannels scenario
   pub plain : IsPlain scenario s
-  pub kept : IsKept s
+  pub kept : AgreesOnRunning s
   pub call : s.shape.call_ns ≡ scenario.shape.call_ns
 
 -- after the bill
@@ -58,7 +58,7 @@ record IsBilledEach (running : Option Pick) (rows : ℕ) (Q R : ℕ → ThreadNo
   own : (p : Pick) → running ≡ Some p → R p.thread (thread_at t p.thread)
   few : length t.rows ≤ rows
 
-running_begun : (scenario : Scenario) (s : SchedulerState) (h : List Entry) (c now : ℕ) (p : Pick) → IsPlain scenario s → IsKept s → (cpu_at s c).running ≡ Some p → state_at (begun scenario s h c now) p.thread ≡ Running c
+running_begun : (scenario : Scenario) (s : SchedulerState) (h : List Entry) (c now : ℕ) (p : Pick) → IsPlain scenario s → AgreesOnRunning s → (cpu_at s c).running ≡ Some p → state_at (begun scenario s h c now) p.thread ≡ Running c
 running_begun scenario s h c now p plain k e =
     alike_state ((ticked scenario (unflagged s c) h now (record { waiting = plain.waiting; channels = plain.channels })).as_before p.thread c (k.runs c p e)) ∙ k.runs c p e
 

@@ -16,7 +16,7 @@ use Rattle.aps_model.specs.declared.state.State.{State}
 use Rattle.aps_model.specs.declared.state.State.TheVariants.{Ready, Running, Sleeping, Sending, Receiving, Replying, Gone}
 use Rattle.aps_model.specs.declared.state.ThreadNow.{ThreadNow}
 use Rattle.laws_runs.specs.Starving.{HasEnough, active_of, is_active}
-use Rattle.laws_runs.specs.Untouched.{IsKept, thread_kept}
+use Rattle.laws_runs.specs.Untouched.{AgreesOnRunning, thread_kept}
 use Rattle.laws_runs.specs.Waits.{one_if, state_at}
 use Rattle.laws_runs.proofs.Channels.{names_channels}
 use Rattle.laws_runs.proofs.EachStep.{IsStanding}
@@ -294,7 +294,7 @@ bill_starves : (c from now : ℕ) (running : Option Pick) → (bill_of c from no
 bill_starves c from now None = refl
 bill_starves c from now (Some p) = refl
 
-vacant : (scenario : Scenario) (s : SchedulerState) (c : ℕ) (r : SchedulerState) → IsKept s → c < s.shape.cpus → length s.cpus ≡ s.shape.cpus → IsBack scenario s c r → IsVacant r c
+vacant : (scenario : Scenario) (s : SchedulerState) (c : ℕ) (r : SchedulerState) → AgreesOnRunning s → c < s.shape.cpus → length s.cpus ≡ s.shape.cpus → IsBack scenario s c r → IsVacant r c
 vacant scenario s c r k exists count b = record {
   exists = subst (λ n. c < n) (sym b.mid.sizes.cpus) exists;
   off = λ y run. b.off y run;

@@ -7,7 +7,7 @@ use Rattle.aps_model.specs.declared.entry.End.{End}
 use Rattle.aps_model.specs.declared.entry.End.TheVariants.{Limit}
 use Rattle.aps_model.specs.declared.entry.Order.{Order}
 use Rattle.aps_model.specs.declared.entry.Order.TheVariants.{Fixed}
-use Rattle.laws_runs.specs.Runs.{with_fixed_step, GoesOn, IsRun, EndsNoSooner, Extends, finished}
+use Rattle.laws_runs.specs.Runs.{with_fixed_step, GoesOn, IsEndedRun, EndsNoSooner, Extends, finished}
 use Rattle.laws_runs.proofs.WaitFacts.{test_ne, test_eq}
 use Rattle.laws_runs.proofs.Turns.{one_turn, any_turn}
 use Rattle.laws_runs.proofs.Prefixes.{legal_more, goes_on}
@@ -159,11 +159,11 @@ fixed_next scenario order h r legal =
 
 -- steps in fixed order lead to the end
 steps_end : (scenario : Scenario) (order : Order) (limit n : ℕ) (a : After) (h : List Entry) → IsScenario scenario → a ≡ after scenario h → n + length h ≡ limit → IsLegal scenario order h → EndsNoSooner scenario limit h
-    → IsRun scenario order limit (fixed_steps scenario n a h)
+    → IsEndedRun scenario order limit (fixed_steps scenario n a h)
 steps_end scenario order limit zero a h r is count legal late = record { legal = legal; ended = ended_limit scenario limit h (omega (arith, count)); no_sooner = late }
 steps_end scenario order limit (suc n) a h r is count legal late = elim (over_or_not (over a h)) [
   | inr stop ↦
-      subst (IsRun scenario order limit) (sym (steps_stop scenario (suc n) a h stop))
+      subst (IsEndedRun scenario order limit) (sym (steps_stop scenario (suc n) a h stop))
       (record { legal = legal; ended = ended_over scenario limit h (λ e. stop (ap (λ b. over b h) is ∙ e)); no_sooner = late })
   | inl run ↦
       let run' : over (after scenario h) h ≡ None = ap (λ b. over b h) (sym is) ∙ run in
@@ -173,13 +173,13 @@ steps_end scenario order limit (suc n) a h r is count legal late = elim (over_or
       let longer : n + length (h ++ e ∷ []) ≡ limit = omega (arith, length-append h (e ∷ []), count) in
       let late' = late_more scenario limit h e late (runs_on scenario limit h run' (omega (arith, count))) in
       let rest = steps_end scenario order limit n (after scenario (h ++ e ∷ [])) (h ++ e ∷ []) r refl longer (legal_more scenario order h e legal go) late' in
-      subst (IsRun scenario order limit)
+      subst (IsEndedRun scenario order limit)
       (ap (λ b. fixed_steps scenario n b (h ++ e ∷ [])) next.leaves
       ∙ ap (λ b. fixed_steps scenario n (left_by (next_in scenario b h)) (h ++ (next_in scenario b h).entry ∷ [])) (sym is)
       ∙ sym (steps_go_on scenario n a h run)) rest
 ]
 
-pub finish_ends : (scenario : Scenario) (order : Order) (limit : ℕ) (h : List Entry) → IsScenario scenario → IsLegal scenario order h → EndsNoSooner scenario limit h → IsRun scenario order limit (finished scenario limit h)
+pub finish_ends : (scenario : Scenario) (order : Order) (limit : ℕ) (h : List Entry) → IsScenario scenario → IsLegal scenario order h → EndsNoSooner scenario limit h → IsEndedRun scenario order limit (finished scenario limit h)
 finish_ends scenario order limit h r legal late =
     steps_end scenario order limit (limit - length h) (after scenario h) h r refl (omega (arith, late_short scenario limit h late)) legal late
 
@@ -187,7 +187,7 @@ pub nothing_before : (before later : List Entry) (e : Entry) → [] ≡ before +
 nothing_before [] later e same = cc
 nothing_before (b ∷ before) later e same = cc
 
-pub run_ends : (scenario : Scenario) (limit : ℕ) → IsScenario scenario → IsRun scenario Fixed limit (fixed_run scenario limit)
+pub run_ends : (scenario : Scenario) (limit : ℕ) → IsScenario scenario → IsEndedRun scenario Fixed limit (fixed_run scenario limit)
 run_ends scenario limit r =
     steps_end scenario Fixed limit limit (at_start scenario) [] r (sym (after_none scenario)) (omega arith) (legal_none scenario Fixed) (λ before later e same. absurd (nothing_before before later e same))
 
@@ -198,7 +198,7 @@ record IsPart (scenario : Scenario) (limit n : ℕ) (a : After) (g es h : List E
   count : n + length g ≡ limit
   split : h ≡ g ++ es
 
-steps_same : (scenario : Scenario) (limit n : ℕ) (a : After) (g es h : List Entry) → IsScenario scenario → IsRun scenario Fixed limit h → IsPart scenario limit n a g es h → fixed_steps scenario n a g ≡ h
+steps_same : (scenario : Scenario) (limit n : ℕ) (a : After) (g es h : List Entry) → IsScenario scenario → IsEndedRun scenario Fixed limit h → IsPart scenario limit n a g es h → fixed_steps scenario n a g ≡ h
 steps_same scenario limit n a g [] h r m p = by_fuel n p.count ∙ sym whole
   where
     whole : h ≡ g
@@ -229,7 +229,7 @@ steps_same scenario limit (suc n) a g (e ∷ es) h r m p =
     ∙ ap (λ (x : Entry). fixed_steps scenario n (after scenario (g ++ e ∷ [])) (g ++ x ∷ [])) entry
     ∙ rest
 
-pub run_is_one : (scenario : Scenario) (limit : ℕ) (h : List Entry) → IsScenario scenario → IsRun scenario Fixed limit h → h ≡ fixed_run scenario limit
+pub run_is_one : (scenario : Scenario) (limit : ℕ) (h : List Entry) → IsScenario scenario → IsEndedRun scenario Fixed limit h → h ≡ fixed_run scenario limit
 run_is_one scenario limit h r m =
     sym (steps_same scenario limit limit (at_start scenario) [] h h r m (record { is = sym (after_none scenario); count = omega arith; split = refl }))
 

@@ -8,7 +8,7 @@ use Rattle.aps_model.specs.declared.entry.Entry.{Entry}
 use Rattle.aps_model.specs.declared.entry.Order.{Order}
 use Rattle.laws_runs.specs.Grown.{AllAt}
 use Rattle.laws_runs.specs.Held.{HasRowsOfTick, HoldsRows}
-use Rattle.laws_runs.specs.Rows.{AreInOrder, AreKept}
+use Rattle.laws_runs.specs.Rows.{AreInOrder, AreRowsKept}
 use Rattle.laws_runs.specs.Moments.{moment}
 use Rattle.laws_runs.proofs.BoundaryLaws.{last_split, latest}
 use Rattle.laws_runs.proofs.MomentLaws.{moment-append}
@@ -159,9 +159,9 @@ tick_in_order scenario order h a r legal =
     let split = through_split now h in
     in_order scenario order (through_moment now h) r (prefix_legal scenario order (through_moment now h) split.0 (subst (IsLegal scenario order) split.1 legal))
 
-pub tick_kept : (scenario : Scenario) (order : Order) (h : List Entry) (a : ℕ) → IsScenario scenario → IsLegal scenario order h → AreKept (rows_of_tick scenario h a) (state_after scenario h).rows
+pub tick_kept : (scenario : Scenario) (order : Order) (h : List Entry) (a : ℕ) → IsScenario scenario → IsLegal scenario order h → AreRowsKept (rows_of_tick scenario h a) (state_after scenario h).rows
 tick_kept scenario order h a r legal =
     let now = a * scenario.shape.tick in
     let split = through_split now h in
-    subst (λ g. AreKept (rows_of_tick scenario h a) (state_after scenario g).rows) (sym split.1)
+    subst (λ g. AreRowsKept (rows_of_tick scenario h a) (state_after scenario g).rows) (sym split.1)
     (rows_stay scenario order (through_moment now h) split.0 r (subst (IsLegal scenario order) split.1 legal))

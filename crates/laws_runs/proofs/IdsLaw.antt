@@ -14,7 +14,7 @@ use Rattle.aps_model.specs.Limits.{greatest_priority}
 use Rattle.laws_runs.specs.Ids.{AreFactsFit, IsInRange, IsMessageFit, IsTripleFit, NamesKnown}
 use Rattle.laws_runs.specs.Sound.{IsSound}
 use Rattle.laws_runs.specs.ThreadFits.{Each, StandsAt}
-use Rattle.laws_runs.specs.Untouched.{IsKept, IsPickSaid, thread_kept}
+use Rattle.laws_runs.specs.Untouched.{AgreesOnRunning, IsPickSaid, thread_kept}
 use Rattle.laws_runs.specs.Waits.{state_at}
 use Rattle.laws_runs.proofs.Carry.{carried}
 use Rattle.laws_runs.proofs.Channels.{names_channels}
@@ -125,7 +125,7 @@ all_step scenario order a h c r over turn m =
 
     by_pick : {s t : SchedulerState} {h : List Entry} {c : ℕ} {e : Entry} {reboot : Option ℕ} {p : Pick} → (o : Option ℕ) → e.picked ≡ o → IsPickSaid s h c e t reboot
         → (e.picked ≡ None → ((cpu_at t c).running ≡ None) ⊎ ((cpu_at t c).running ≡ (cpu_at s c).running)) → KeepsRows s → length s.rows ≤ length t.rows
-        → (cpu_at t c).running ≡ Some p → IsKept t → ((x : ℕ) → x < length t.threads → AreFactsFit (length t.rows) (facts_of t x)) → p.partition < length t.rows
+        → (cpu_at t c).running ≡ Some p → AgreesOnRunning t → ((x : ℕ) → x < length t.threads → AreFactsFit (length t.rows) (facts_of t x)) → p.partition < length t.rows
     by_pick {s} {t} {h} {c} {e} {reboot} {p} None is said none kept more run k fits = elim (none is) [
       | inl idle' ↦ absurd (nobody p (sym idle' ∙ run))
       | inr same ↦ let l = kept c p (sym same ∙ run) in omega (arith, l, more)

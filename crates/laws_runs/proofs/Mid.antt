@@ -14,7 +14,7 @@ use Rattle.aps_model.specs.declared.entry.Entry.{Entry}
 use Rattle.laws_runs.specs.Sizes.{IsSameSizes}
 use Rattle.laws_runs.specs.Waits.{IsPlain, IsPlaced, state_at}
 use Rattle.laws_runs.specs.Bears.{Bears, NamesChannels}
-use Rattle.laws_runs.specs.Untouched.{IsKept, IsAlike, thread_kept}
+use Rattle.laws_runs.specs.Untouched.{AgreesOnRunning, IsAlike, thread_kept}
 use Rattle.laws_runs.proofs.ThreadFacts.{set_same, set_other, running_within, go_on_by}
 use Rattle.laws_runs.proofs.WaitBears.{state_of}
 use Rattle.laws_runs.proofs.Walk.{IsOnOrOff, tick_kept, returned_kept, spent_kept}
@@ -153,7 +153,7 @@ same_cpu : (d c : ℕ) → Running d ≡ Running c → d ≡ c
 same_cpu d c e = cc
 
 -- x ran on c alone
-only_x : (s : SchedulerState) (c : ℕ) (p : Pick) → IsKept s → (cpu_at s c).running ≡ Some p → (y : ℕ) → state_at s y ≡ Running c → y ≡ p.thread
+only_x : (s : SchedulerState) (c : ℕ) (p : Pick) → AgreesOnRunning s → (cpu_at s c).running ≡ Some p → (y : ℕ) → state_at s y ≡ Running c → y ≡ p.thread
 only_x s c p k e y run = some_same y p.thread (sym (k.kept y c run) ∙ ap thread_kept e)
   where
     some_same : (a b : ℕ) → Some a ≡ Some b → a ≡ b
@@ -197,7 +197,7 @@ pub record IsBilled (scenario : Scenario) (s : SchedulerState) (c : ℕ) (runnin
   -- all beside c's thread is spared since the tick's work
   pub calm : (p : Pick) → running ≡ Some p → (t : SchedulerState) × IsTicked scenario (unflagged s c) t × IsCalm scenario p.thread t r
 
-pub billed_mid : (scenario : Scenario) (s : SchedulerState) (h : List Entry) (c now ns : ℕ) (running : Option Pick) → IsPlain scenario s → IsKept s → (cpu_at s c).running ≡ running
+pub billed_mid : (scenario : Scenario) (s : SchedulerState) (h : List Entry) (c now ns : ℕ) (running : Option Pick) → IsPlain scenario s → AgreesOnRunning s → (cpu_at s c).running ≡ running
     → IsBilled scenario s c running (spend (begun scenario s h c now) ns running)
 billed_mid scenario s h c now ns None p k e =
     let m = ticked scenario (unflagged s c) h now (record { waiting = p.waiting; channels = p.channels }) in
@@ -248,7 +248,7 @@ tested_mid scenario s c running r policy j o b =
           (m.0, m.1, ((record { waiting = m.2.0.0.waiting; channels = m.2.0.0.channels }, m.2.0.1), record { cpus = m.2.1.cpus; sizes = m.2.1.sizes }));
     })
 
-pub test_mid : (scenario : Scenario) (s : SchedulerState) (h : List Entry) (c now : ℕ) (e : Entry) (running : Option Pick) → IsPlain scenario s → IsKept s → (cpu_at s c).running ≡ running
+pub test_mid : (scenario : Scenario) (s : SchedulerState) (h : List Entry) (c now : ℕ) (e : Entry) (running : Option Pick) → IsPlain scenario s → AgreesOnRunning s → (cpu_at s c).running ≡ running
     → IsBilled scenario s c running (tested (billed (begun scenario s h c now) e running) h e).state
 test_mid scenario s h c now e running p k is =
     tested_mid scenario s c running (billed (begun scenario s h c now) e running) _ _ _ (billed_mid scenario s h c now (e.to - e.from) running p k is)
@@ -258,7 +258,7 @@ pub record IsBack (scenario : Scenario) (s : SchedulerState) (c : ℕ) (r : Sche
   pub mid : IsMid scenario s c r
   pub off : (y : ℕ) → state_at r y ≡ Running c → ⊥
 
-pub back_mid : (scenario : Scenario) (s r : SchedulerState) (c now : ℕ) (running : Option Pick) → NamesChannels scenario → IsKept s → (cpu_at s c).running ≡ running
+pub back_mid : (scenario : Scenario) (s r : SchedulerState) (c now : ℕ) (running : Option Pick) → NamesChannels scenario → AgreesOnRunning s → (cpu_at s c).running ≡ running
     → IsBilled scenario s c running r → IsBack scenario s c (settled scenario r now running).state
 back_mid scenario s r c now None names k e b = record { mid = b.mid; off = λ y f. nobody y (b.only y f) }
   where

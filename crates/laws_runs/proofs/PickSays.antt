@@ -15,7 +15,7 @@ use Rattle.aps_model.specs.declared.partition.PartitionRow.{PartitionRow}
 use Rattle.aps_model.specs.declared.entry.Entry.{Entry}
 use Rattle.laws_runs.specs.Waits.{IsPlain}
 use Rattle.laws_runs.specs.Bears.{NamesChannels}
-use Rattle.laws_runs.specs.Untouched.{IsKept, IsComplete, IsPickSaid}
+use Rattle.laws_runs.specs.Untouched.{AgreesOnRunning, IsComplete, IsPickSaid}
 use Rattle.laws_runs.specs.Sizes.{IsSameSizes}
 use Rattle.std.proofs.Math.Seq.{map-set_same}
 use Rattle.laws_runs.proofs.Mid.{test_mid, back_mid}
@@ -143,7 +143,7 @@ pub complete_in : (s r : SchedulerState) (now : ℕ) (o : Option ℕ) → IsSame
 complete_in s r now o sizes (inl z) = inl (z ∙ horizon_same s.shape r.shape sizes)
 complete_in s r now o sizes (inr z) = inr z
 
-pub pick_says : (scenario : Scenario) (s : SchedulerState) (h : List Entry) (c : ℕ) → NamesChannels scenario → IsPlain scenario s → IsKept s → c < length s.cpus
+pub pick_says : (scenario : Scenario) (s : SchedulerState) (h : List Entry) (c : ℕ) → NamesChannels scenario → IsPlain scenario s → AgreesOnRunning s → c < length s.cpus
     → IsPickSaid s h c (step scenario s h c).entry (step scenario s h c).state (step scenario s h c).reboot
 pick_says scenario s h c names plain k below =
     let now = due s h c in

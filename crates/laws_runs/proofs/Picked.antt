@@ -16,7 +16,7 @@ use Rattle.aps_model.specs.declared.merit.Merit.{Merit}
 use Rattle.aps_model.specs.declared.merit.Rank.{Rank}
 use Rattle.aps_model.specs.declared.entry.Entry.{Entry}
 use Rattle.laws_runs.specs.Waits.{IsPlain, state_at}
-use Rattle.laws_runs.specs.Untouched.{IsKept, thread_kept}
+use Rattle.laws_runs.specs.Untouched.{AgreesOnRunning, thread_kept}
 use Rattle.laws_runs.proofs.ThreadFacts.{within, set_same, set_other}
 use Rattle.laws_runs.proofs.WaitBears.{waiting_put}
 use Rattle.laws_runs.proofs.WaitMoves.{IsUnlisted}
@@ -144,7 +144,7 @@ pub flag_plain : (scenario : Scenario) (s : SchedulerState) (now : ℕ) (o : Opt
 flag_plain scenario s now None p = p
 flag_plain scenario s now (Some k) p = record { waiting = p.waiting; channels = p.channels }
 
-pub flag_kept : (s : SchedulerState) (now : ℕ) (o : Option ℕ) → IsKept s → IsKept (with_flag s now o)
+pub flag_kept : (s : SchedulerState) (now : ℕ) (o : Option ℕ) → AgreesOnRunning s → AgreesOnRunning (with_flag s now o)
 flag_kept s now None k = k
 flag_kept s now (Some d) k = record {
   runs = λ c p e. k.runs c p (sym (flag_running s now (Some d) c) ∙ e);
@@ -230,7 +230,7 @@ pub record IsOpen (r : SchedulerState) (c : ℕ) : Type 0 where
 -- what the pick leaves
 pub record IsPicked (scenario : Scenario) (r : SchedulerState) (c : ℕ) (t : SchedulerState) : Type 0 where
   pub plain : IsPlain scenario t
-  pub kept : IsKept t
+  pub kept : AgreesOnRunning t
   pub cpus : (d : ℕ) → d ≢ c → cpu_at t d ≡ cpu_at r d
   pub flag : (cpu_at t c).flag ≡ None
   pub threads : (y d : ℕ) → state_at r y ≡ Running d → thread_at t y ≡ thread_at r y

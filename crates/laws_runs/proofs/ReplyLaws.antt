@@ -12,7 +12,7 @@ use Rattle.aps_model.specs.declared.entry.Order.{Order}
 use Rattle.aps_model.specs.declared.partition.PartitionRow.{PartitionRow}
 use Rattle.aps_model.specs.declared.shape.Shape.{Shape}
 use Rattle.laws_runs.specs.Answered.{once_below, places_answered, places_below, places_of}
-use Rattle.laws_runs.specs.Boundaries.{IsInTick, is_met, ticks_begun}
+use Rattle.laws_runs.specs.Boundaries.{EndsInTick, is_met, ticks_begun}
 use Rattle.laws_runs.proofs.BoundaryLaws.{in_tick}
 use Rattle.laws_runs.proofs.Books.{step_books, wake_books}
 use Rattle.laws_runs.proofs.Channels.{names_channels}
@@ -118,13 +118,13 @@ whole_div : (n t : ℕ) → 0 < t → n * t / t ≡ n
 whole_div n t pos = search (arith)
 
 -- a tick begins: its commands are added
-places_first : (scenario : Scenario) (h : List Entry) (e : Entry) → IsInTick scenario.shape.tick h e → e.to % scenario.shape.tick ≡ 0 → is_met h e.to ≡ false
+places_first : (scenario : Scenario) (h : List Entry) (e : Entry) → EndsInTick scenario.shape.tick h e → e.to % scenario.shape.tick ≡ 0 → is_met h e.to ≡ false
     → places_below scenario (e.to / scenario.shape.tick + 1) ≡ places_below scenario (ticks_begun scenario.shape.tick h) ++ places_of scenario (e.to / scenario.shape.tick)
 places_first scenario h e m at unmet =
     places_more scenario (e.to / scenario.shape.tick) ∙ ap (λ n. places_below scenario n ++ places_of scenario (e.to / scenario.shape.tick)) (m.begins at unmet)
 
 -- no tick begins: none is added, nor at the horizon, where no command stands
-places_same : (scenario : Scenario) (h : List Entry) (e : Entry) → IsScenario scenario → IsInTick scenario.shape.tick h e → e.to ≤ horizon scenario.shape → NotFirst scenario.shape.tick (horizon scenario.shape) h e.to
+places_same : (scenario : Scenario) (h : List Entry) (e : Entry) → IsScenario scenario → EndsInTick scenario.shape.tick h e → e.to ≤ horizon scenario.shape → NotFirst scenario.shape.tick (horizon scenario.shape) h e.to
     → places_below scenario (e.to / scenario.shape.tick + 1) ≡ places_below scenario (ticks_begun scenario.shape.tick h) ++ []
 places_same scenario h e r m within (inl inside) = ap (places_below scenario) (m.inside inside).0 ∙ sym (append-nil _)
 places_same scenario h e r m within (inr (inr met)) = ap (places_below scenario) (m.again met).1 ∙ sym (append-nil _)

@@ -10,7 +10,7 @@ use Rattle.aps_model.specs.declared.shape.Bankruptcy.{Bankruptcy}
 use Rattle.aps_model.specs.declared.shape.Free.{Free}
 use Rattle.aps_model.specs.declared.shape.Shape.{Shape}
 use Rattle.aps_model.specs.Limits.{percent, thousandths}
-use Rattle.laws_runs.specs.Rows.{AreInOrder, AreKept, IsNamedTree}
+use Rattle.laws_runs.specs.Rows.{AreInOrder, AreRowsKept, IsNamedTree}
 use Rattle.laws_runs.specs.Sizes.{IsSameSizes}
 use Rattle.laws_runs.proofs.Books.{KeepsBooks, OfBooks, entry_books}
 use Rattle.laws_runs.proofs.Commands.{sizes_same}
@@ -119,12 +119,12 @@ in_range scenario order h r legal =
 -- ---- kept
 
 abbrev Stays : List PartitionRow → List PartitionRow → Shape → List Reply → List Change → Type 0
-Stays first rows shape replies changes = AreKept first rows
+Stays first rows shape replies changes = AreRowsKept first rows
 
 keeps_rows : (parts ticks threads : ℕ) (first : List PartitionRow) → KeepsBooks (IsCommand parts ticks threads) (Stays first)
 keeps_rows parts ticks threads first = record {
   commands = λ h j t (place, row) fits m.
-      performed_by parts threads row.call t.rows t.shape (view_of t h j row.call) (λ (done : Performed). AreKept first done.rows) fits.call
+      performed_by parts threads row.call t.rows t.shape (view_of t h j row.call) (λ (done : Performed). AreRowsKept first done.rows) fits.call
       (record {
         same = λ answer mark. m;
         creates = λ name parent budget critical max named none. kept_trans first t.rows _ m (created_kept t.rows name parent budget critical max);
@@ -134,10 +134,10 @@ keeps_rows parts ticks threads first = record {
   cancels = λ t j p m. kept_trans first t.rows _ m (cancelled_kept t.rows p);
 }
 
-pub rows_stay : (scenario : Scenario) (order : Order) (h later : List Entry) → IsScenario scenario → IsLegal scenario order (h ++ later) → AreKept (state_after scenario h).rows (state_after scenario (h ++ later)).rows
+pub rows_stay : (scenario : Scenario) (order : Order) (h later : List Entry) → IsScenario scenario → IsLegal scenario order (h ++ later) → AreRowsKept (state_after scenario h).rows (state_after scenario (h ++ later)).rows
 rows_stay scenario order h later r legal =
     let first = (state_after scenario h).rows in
     let C = IsCommand scenario.shape.parts scenario.shape.ticks (length scenario.threads) in
-    by_more scenario order (λ g. AreKept first (state_after scenario g).rows)
+    by_more scenario order (λ g. AreRowsKept first (state_after scenario g).rows)
     (λ g e l m. entry_books C (Stays first) (keeps_rows scenario.shape.parts scenario.shape.ticks (length scenario.threads) first) scenario order g e r r.commands l m)
     h later legal (kept_same first)

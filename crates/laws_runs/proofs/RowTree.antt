@@ -10,7 +10,7 @@ use Rattle.std.proofs.lemmas.List.Sums.{fails_before_first, sum-map, sum_by-set,
 use Rattle.aps_model.specs.declared.partition.PartitionRow.{PartitionRow}
 use Rattle.aps_model.specs.declared.partition.TreeRefusal.{TreeRefusal}
 use Rattle.aps_model.specs.Limits.{most_critical, most_partitions}
-use Rattle.laws_runs.specs.Rows.{AreKept, IsNamedTree}
+use Rattle.laws_runs.specs.Rows.{AreRowsKept, IsNamedTree}
 use Rattle.aps_model.specs.Name.{IsName}
 use Rattle.aps_model.specs.Partition.{AreRows, IsFundedRow, no_row, partition_named, row_or_none}
 use Rattle.aps_model.specs.Tree.{create_refusal, is_over_max, modify_refusal, row_modified, rows_cancelled, rows_created, rows_modified}
@@ -90,7 +90,7 @@ may_modify parts rows p budget critical max e =
 -- ---- a row set, with its name and its parent
 
 -- another row of the same name and parent in its place leaves every row's name and parent
-pub set_kept : (rows : List PartitionRow) (p : ℕ) (row : PartitionRow) → row.name ≡ (row_or_none rows p).name → row.parent ≡ (row_or_none rows p).parent → AreKept rows (slice_set rows p row)
+pub set_kept : (rows : List PartitionRow) (p : ℕ) (row : PartitionRow) → row.name ≡ (row_or_none rows p).name → row.parent ≡ (row_or_none rows p).parent → AreRowsKept rows (slice_set rows p row)
 set_kept rows p row name parent = record {
   count = let n = length-set rows p row in omega (arith, n);
   name = λ i below. elim (cases_eq i p) [
@@ -107,17 +107,17 @@ set_kept rows p row name parent = record {
   ];
 }
 
-pub kept_trans : (a b c : List PartitionRow) → AreKept a b → AreKept b c → AreKept a c
+pub kept_trans : (a b c : List PartitionRow) → AreRowsKept a b → AreRowsKept b c → AreRowsKept a c
 kept_trans a b c m n = record {
   count = let k = m.count in let l = n.count in omega arith;
   name = λ i below. let l = m.count in n.name i (omega (arith, below, l)) ∙ m.name i below;
   parent = λ i below. let l = m.count in n.parent i (omega (arith, below, l)) ∙ m.parent i below;
 }
 
-pub kept_same : (rows : List PartitionRow) → AreKept rows rows
+pub kept_same : (rows : List PartitionRow) → AreRowsKept rows rows
 kept_same rows = record { count = omega arith; name = λ i below. refl; parent = λ i below. refl }
 
-push_kept : (rows : List PartitionRow) (row : PartitionRow) → AreKept rows (rows ++ row ∷ [])
+push_kept : (rows : List PartitionRow) (row : PartitionRow) → AreRowsKept rows (rows ++ row ∷ [])
 push_kept rows row = record {
   count = let n = length-append rows (row ∷ []) in omega (arith, n);
   name = λ i below. ap (λ (r : PartitionRow). r.name) (get_or_append_left rows (row ∷ []) no_row i below);
@@ -315,13 +315,13 @@ cancelled_tree parts rows p tree funded = elim (cases_lt p (length rows)) [
 
 -- ---- names and parents stay
 
-pub created_kept : (rows : List PartitionRow) (name : List ℕ) (p budget critical max : ℕ) → AreKept rows (rows_created rows name p budget critical max)
+pub created_kept : (rows : List PartitionRow) (name : List ℕ) (p budget critical max : ℕ) → AreRowsKept rows (rows_created rows name p budget critical max)
 created_kept rows name p budget critical max = kept_trans rows _ _ (set_kept rows p _ refl refl) (push_kept _ _)
 
-pub cancelled_kept : (rows : List PartitionRow) (p : ℕ) → AreKept rows (rows_cancelled rows p)
+pub cancelled_kept : (rows : List PartitionRow) (p : ℕ) → AreRowsKept rows (rows_cancelled rows p)
 cancelled_kept rows p = set_kept rows p _ refl refl
 
-pub modified_kept : (rows : List PartitionRow) (p : ℕ) (budget critical max : Option ℕ) → p < length rows → AreKept rows (rows_modified rows p budget critical max)
+pub modified_kept : (rows : List PartitionRow) (p : ℕ) (budget critical max : Option ℕ) → p < length rows → AreRowsKept rows (rows_modified rows p budget critical max)
 modified_kept rows p budget critical max below =
     let first = set_kept rows (row_or_none rows p).parent (record (row_or_none rows (row_or_none rows p).parent) { budget = (row_or_none rows (row_or_none rows p).parent).budget + (row_or_none rows p).budget - unwrap_or budget (row_or_none rows p).budget }) refl refl in
     kept_trans rows _ _ first (set_kept _ p (row_modified (row_or_none rows p) budget critical max) (sym (first.name p below)) (sym (first.parent p below)))

@@ -10,7 +10,7 @@ use Rattle.aps_model.specs.declared.merit.Contender.{Contender}
 use Rattle.aps_model.specs.declared.state.Pick.{Pick}
 use Rattle.laws_runs.specs.Waits.{IsPlain}
 use Rattle.laws_runs.specs.Bears.{Bears, NamesChannels}
-use Rattle.laws_runs.specs.Untouched.{IsKept}
+use Rattle.laws_runs.specs.Untouched.{AgreesOnRunning}
 use Rattle.laws_runs.specs.Grown.{IsGrown}
 use Rattle.laws_runs.proofs.Walk.{returned_kept}
 use Rattle.laws_runs.proofs.WaitBears.{plain_bears}
@@ -85,7 +85,7 @@ settled_grown scenario s r c now j None names b = grown_same j r r refl refl ref
 settled_grown scenario s r c now j (Some p) names b =
     (returned_kept scenario now c p (λ t. IsPlain scenario t × IsGrown j r t) (grown_bears scenario now c p.thread j r) names r (b.mid.plain, grown_same j r r refl refl refl) (b.runs p refl)).0.1
 
-pub step_grown : (scenario : Scenario) (s : SchedulerState) (h : List Entry) (c : ℕ) → NamesChannels scenario → IsPlain scenario s → IsKept s → IsGrown (due s h c / s.shape.tick) s (step scenario s h c).state
+pub step_grown : (scenario : Scenario) (s : SchedulerState) (h : List Entry) (c : ℕ) → NamesChannels scenario → IsPlain scenario s → AgreesOnRunning s → IsGrown (due s h c / s.shape.tick) s (step scenario s h c).state
 step_grown scenario s h c names plain k =
     let now = due s h c in
     let j = now / s.shape.tick in

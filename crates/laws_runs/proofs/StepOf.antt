@@ -12,7 +12,7 @@ use Rattle.aps_model.specs.declared.entry.Entry.{Entry}
 use Rattle.laws_runs.specs.Waits.{IsPlain}
 use Rattle.laws_runs.specs.Bears.{NamesChannels}
 use Rattle.std.proofs.lemmas.Bool.{eqb-true}
-use Rattle.laws_runs.specs.Untouched.{IsKept, IsStepOf, IsComplete, IsAlike, thread_kept, partition_kept, mark_kept}
+use Rattle.laws_runs.specs.Untouched.{AgreesOnRunning, IsStepOf, IsComplete, IsAlike, thread_kept, partition_kept, mark_kept}
 use Rattle.laws_runs.proofs.WaitFacts.{test_eq}
 use Rattle.laws_runs.specs.Sizes.{IsSameSizes}
 use Rattle.laws_runs.proofs.ThreadMoves.{alike_state, alike_at}
@@ -115,7 +115,7 @@ due_same s t h d sizes cpu same =
 -- ---- the whole
 
 -- a processor's thread runs there, so it is untouched where another one steps
-others_thread_of : (scenario : Scenario) (s : SchedulerState) (c : ℕ) (r : SchedulerState) → IsKept s → IsMid scenario s c r → (d : ℕ) (p : Pick) → d ≢ c → (cpu_at s d).running ≡ Some p → IsAlike (thread_at s p.thread) (thread_at r p.thread)
+others_thread_of : (scenario : Scenario) (s : SchedulerState) (c : ℕ) (r : SchedulerState) → AgreesOnRunning s → IsMid scenario s c r → (d : ℕ) (p : Pick) → d ≢ c → (cpu_at s d).running ≡ Some p → IsAlike (thread_at s p.thread) (thread_at r p.thread)
 others_thread_of scenario s c r k m d p ne e = m.as_before p.thread d ne (k.runs d p e)
 
 pub mid_cpu : (scenario : Scenario) (s : SchedulerState) (c : ℕ) (r : SchedulerState) → IsMid scenario s c r → (d : ℕ) → d ≢ c → cpu_at r d ≡ cpu_at s d
@@ -128,7 +128,7 @@ pub mid_count : (scenario : Scenario) (s : SchedulerState) (c : ℕ) (r : Schedu
 mid_count scenario s c r m = ap (λ (cs : List CpuNow). length cs) m.cpus ∙ length-set s.cpus c _
 
 -- where the step ends after the bill, everybody keeps what it kept
-billed_kept : (scenario : Scenario) (s : SchedulerState) (c : ℕ) (r : SchedulerState) → c < length s.cpus → IsKept s → IsBilled scenario s c (cpu_at s c).running r → IsKept r
+billed_kept : (scenario : Scenario) (s : SchedulerState) (c : ℕ) (r : SchedulerState) → c < length s.cpus → AgreesOnRunning s → IsBilled scenario s c (cpu_at s c).running r → AgreesOnRunning r
 billed_kept scenario s c r below k b =
     let own = mid_own scenario s c r below b.mid in
     record {
@@ -147,7 +147,7 @@ billed_kept scenario s c r below k b =
       ];
     }
 
-back_open : (scenario : Scenario) (s : SchedulerState) (c : ℕ) (r : SchedulerState) → IsKept s → IsBack scenario s c r → IsOpen r c
+back_open : (scenario : Scenario) (s : SchedulerState) (c : ℕ) (r : SchedulerState) → AgreesOnRunning s → IsBack scenario s c r → IsOpen r c
 back_open scenario s c r k b = record {
   runs = λ d p ne e.
       let at_d : (cpu_at s d).running ≡ Some p = sym (ap (λ (z : CpuNow). z.running) (mid_cpu scenario s c r b.mid d ne)) ∙ e in
@@ -157,7 +157,7 @@ back_open scenario s c r k b = record {
 }
 
 -- a step that ends after its bill
-ended : (scenario : Scenario) (s r : SchedulerState) (h : List Entry) (c : ℕ) → c < length s.cpus → IsKept s → IsBilled scenario s c (cpu_at s c).running r → IsStepOf scenario s h c (bill_at s h c) r
+ended : (scenario : Scenario) (s r : SchedulerState) (h : List Entry) (c : ℕ) → c < length s.cpus → AgreesOnRunning s → IsBilled scenario s c (cpu_at s c).running r → IsStepOf scenario s h c (bill_at s h c) r
 ended scenario s r h c below k b =
     let e = bill_says c (last_end h c) (due s h c) (cpu_at s c).running in
     record {
@@ -179,7 +179,7 @@ ended scenario s r h c below k b =
     }
 
 -- a step with its pick, over variables: r is the state before the pick, q after it, and other is flagged
-picks_on : (scenario : Scenario) (s r q : SchedulerState) (h : List Entry) (c : ℕ) (ps : List PartFacts) (left : Option Contender) (other : Option ℕ) (e : Entry) → IsKept s → IsBack scenario s c r → IsPicked scenario r c q
+picks_on : (scenario : Scenario) (s r q : SchedulerState) (h : List Entry) (c : ℕ) (ps : List PartFacts) (left : Option Contender) (other : Option ℕ) (e : Entry) → AgreesOnRunning s → IsBack scenario s c r → IsPicked scenario r c q
     → flag_for q h ps c (due s h c) left ≡ other → due s h c ≢ horizon s.shape
     → e.cpu ≡ c → e.from ≡ last_end h c → e.to ≡ due s h c → e.ran ≡ thread_kept (cpu_at s c).running → e.billed ≡ partition_kept (cpu_at s c).running → e.critical ≡ mark_kept (cpu_at s c).running
     → IsStepOf scenario s h c e (with_flag q (due s h c) other)
@@ -219,7 +219,7 @@ not_horizon s r now sizes early same = clash (sym (test_eq now (horizon r.shape)
     clash : ◌≡◌ {A = Bool} true false → ⊥
     clash z = cc
 
-pub step_of : (scenario : Scenario) (s : SchedulerState) (h : List Entry) (c : ℕ) → NamesChannels scenario → IsPlain scenario s → IsKept s → c < length s.cpus
+pub step_of : (scenario : Scenario) (s : SchedulerState) (h : List Entry) (c : ℕ) → NamesChannels scenario → IsPlain scenario s → AgreesOnRunning s → c < length s.cpus
     → IsStepOf scenario s h c (step scenario s h c).entry (step scenario s h c).state
 step_of scenario s h c names plain k below =
     let now = due s h c in

@@ -13,7 +13,7 @@ use Rattle.aps_model.specs.declared.entry.Entry.{Entry}
 use Rattle.aps_model.specs.declared.entry.Order.{Order}
 use Rattle.laws_runs.specs.Waits.{IsPlain, state_at}
 use Rattle.laws_runs.specs.Bears.{NamesChannels}
-use Rattle.laws_runs.specs.Untouched.{IsKept}
+use Rattle.laws_runs.specs.Untouched.{AgreesOnRunning}
 use Rattle.laws_runs.specs.Stamps.{IsActive, IsStamped}
 use Rattle.laws_runs.specs.Sound.{IsSound}
 use Rattle.laws_runs.proofs.ThreadFacts.{within, set_same, set_other}
@@ -61,7 +61,7 @@ ticked_both scenario N b s h c now m =
     (λ g j t k. command_kept scenario c 0 s' N (b.moves c 0) g j t k) s' h
     ((record { waiting = m.0.waiting; channels = m.0.channels }, m.1), record { cpus = refl; sizes = sizes_same s.shape })).0
 
-running_ticked : (scenario : Scenario) (s : SchedulerState) (h : List Entry) (c now : ℕ) (p : Pick) → IsPlain scenario s → IsKept s → (cpu_at s c).running ≡ Some p → state_at (tick_work scenario (unflagged s c) h now) p.thread ≡ Running c
+running_ticked : (scenario : Scenario) (s : SchedulerState) (h : List Entry) (c now : ℕ) (p : Pick) → IsPlain scenario s → AgreesOnRunning s → (cpu_at s c).running ≡ Some p → state_at (tick_work scenario (unflagged s c) h now) p.thread ≡ Running c
 running_ticked scenario s h c now p plain k e =
     alike_state ((ticked scenario (unflagged s c) h now (record { waiting = plain.waiting; channels = plain.channels })).as_before p.thread c (k.runs c p e)) ∙ k.runs c p e
 
@@ -69,7 +69,7 @@ running_ticked scenario s h c now p plain k e =
 abbrev pub OnC : Scenario → (List ThreadNow → ℕ → Type 0) → ℕ → Option Pick → SchedulerState → Type 0
 OnC scenario N c running s = Both scenario N s × ((p : Pick) → running ≡ Some p → state_at s p.thread ≡ Running c)
 
-billed_both : (scenario : Scenario) (N : List ThreadNow → ℕ → Type 0) → IsBorne N → (s : SchedulerState) (h : List Entry) (c now ns : ℕ) (running : Option Pick) → IsKept s → (cpu_at s c).running ≡ running
+billed_both : (scenario : Scenario) (N : List ThreadNow → ℕ → Type 0) → IsBorne N → (s : SchedulerState) (h : List Entry) (c now ns : ℕ) (running : Option Pick) → AgreesOnRunning s → (cpu_at s c).running ≡ running
     → Both scenario N s → OnC scenario N c running (spend (begun scenario s h c now) ns running)
 billed_both scenario N b s h c now ns None k e m = (ticked_both scenario N b s h c now m, λ p f. absurd cc)
 billed_both scenario N b s h c now ns (Some p) k e m =
@@ -83,7 +83,7 @@ tested_both : (scenario : Scenario) (N : List ThreadNow → ℕ → Type 0) (c :
 tested_both scenario N c running r policy j o m =
     tested_by policy r j o (OnC scenario N c running) m (λ p. ((record { waiting = m.0.0.waiting; channels = m.0.0.channels }, m.0.1), m.1))
 
-test_both : (scenario : Scenario) (N : List ThreadNow → ℕ → Type 0) → IsBorne N → (s : SchedulerState) (h : List Entry) (c : ℕ) → IsKept s → Both scenario N s → OnC scenario N c (cpu_at s c).running (tested_at scenario s h c).state
+test_both : (scenario : Scenario) (N : List ThreadNow → ℕ → Type 0) → IsBorne N → (s : SchedulerState) (h : List Entry) (c : ℕ) → AgreesOnRunning s → Both scenario N s → OnC scenario N c (cpu_at s c).running (tested_at scenario s h c).state
 test_both scenario N b s h c k m =
     let e = bill_at s h c in
     let running = (cpu_at s c).running in
@@ -106,7 +106,7 @@ flagged_both : (N : List ThreadNow → ℕ → Type 0) (s : SchedulerState) (now
 flagged_both N s now None n = n
 flagged_both N s now (Some d) n = n
 
-pub threads_kept : (scenario : Scenario) (N : List ThreadNow → ℕ → Type 0) → IsBorne N → (s : SchedulerState) (h : List Entry) (c : ℕ) → NamesChannels scenario → IsKept s
+pub threads_kept : (scenario : Scenario) (N : List ThreadNow → ℕ → Type 0) → IsBorne N → (s : SchedulerState) (h : List Entry) (c : ℕ) → NamesChannels scenario → AgreesOnRunning s
     → Both scenario N s → N (step scenario s h c).state.threads (step scenario s h c).state.stamps
 threads_kept scenario N b s h c names k m =
     let tested' = test_both scenario N b s h c k m in

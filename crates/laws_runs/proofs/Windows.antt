@@ -11,7 +11,7 @@ use Rattle.aps_model.specs.declared.state.CpuNow.{CpuNow}
 use Rattle.aps_model.specs.declared.state.Pick.{Pick}
 use Rattle.laws_runs.specs.Untouched.{IsStepOf, IsPickSaid, partition_kept, mark_kept}
 use Rattle.laws_runs.specs.Sound.{IsSound, IsNext}
-use Rattle.laws_runs.specs.Window.{Kept, Lane, Walks, Tiles, lane_after, pair_kept, bills_of, kept_if, wide_of, wides, wides_from, still, lanes_at_start}
+use Rattle.laws_runs.specs.Window.{Kept, Lane, Walks, Tiles, lane_after, pair_kept, bill_with_mark, kept_if, wide_of, wides, wides_from, still, lanes_at_start}
 use Rattle.laws_runs.proofs.Opening.{idle_opening}
 use Rattle.laws_runs.proofs.MomentLaws.{last_own, last_other}
 use Rattle.laws_runs.proofs.PickSays.{pick_says}
@@ -37,7 +37,7 @@ record IsLanes (a : After) (h : List Entry) (lanes : List Lane) : Type 0 where
   runs : (c : ℕ) → ((lane_at lanes c).runs ≡ pair_kept (cpu_at a.state c).running) ⊎ ((last_to h c ≡ Some (horizon a.state.shape)) ⊎ (a.reboot ≡ None → ⊥))
 
 -- what an entry bills is what its processor kept
-bills_kept : (e : Entry) (o : Option Pick) → e.billed ≡ partition_kept o → e.critical ≡ mark_kept o → bills_of e ≡ pair_kept o
+bills_kept : (e : Entry) (o : Option Pick) → e.billed ≡ partition_kept o → e.critical ≡ mark_kept o → bill_with_mark e ≡ pair_kept o
 bills_kept e None billed critical = ap (λ (b : Option ℕ). option_map (λ (p : ℕ). (p, e.critical)) b) billed
 bills_kept e (Some k) billed critical =
     let f : Bool → Kept = λ m. Some (k.partition, m) in
@@ -120,7 +120,7 @@ walks_from scenario order a h (e ∷ es) lanes r m ls legal =
     let lane = lane_at lanes e.cpu in
     let here : slice_get lanes e.cpu ≡ Some lane = slice_get-get_or lanes e.cpu still (rw ls.count legal.1.exists) in
     let from : e.from ≡ lane.last = g.step.from ∙ sym (ls.last e.cpu) in
-    let bills : bills_of e ≡ lane.runs = elim (ls.runs e.cpu) [
+    let bills : bill_with_mark e ≡ lane.runs = elim (ls.runs e.cpu) [
       | inl same ↦ bills_kept e (cpu_at s e.cpu).running g.step.billed g.step.critical ∙ sym same
       | inr done ↦ elim done [
         | inl at_end ↦ absurd (at_turn s h e g.next at_end)

@@ -29,7 +29,7 @@ ticks_begun tick (e ∷ es) = moment (e ∷ es) / tick + 1
 
 -- the next entry ends at the last moment, or later where nobody has met its end. It ends in the last tick that has begun,
 -- which is the one of its beginning if it ends inside it; at a boundary that nobody has met it begins the next one.
-pub record IsInTick (tick : ℕ) (h : List Entry) (e : Entry) : Type 0 where
+pub record EndsInTick (tick : ℕ) (h : List Entry) (e : Entry) : Type 0 where
   pub again : is_met h e.to ≡ true → (e.to ≡ moment h) × (e.to / tick + 1 ≡ ticks_begun tick h)
   pub later : is_met h e.to ≡ false → ((h ≡ []) × (e.to ≡ 0)) ⊎ (moment h < e.to)
   pub inside : e.to % tick ≢ 0 → (e.to / tick + 1 ≡ ticks_begun tick h) × (e.to / tick ≡ e.from / tick)

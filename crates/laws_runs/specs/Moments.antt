@@ -4,7 +4,7 @@ use Rattle.std.specs.List.{fold}
 use Rattle.aps_model.specs.declared.entry.Entry.{Entry}
 use Rattle.laws_runs.specs.Sizes.{IsSameSizes}
 use Rattle.laws_runs.specs.Waits.{IsPlain}
-use Rattle.laws_runs.specs.Untouched.{IsKept}
+use Rattle.laws_runs.specs.Untouched.{AgreesOnRunning}
 use Rattle.aps_model.specs.Due.{due, last_to, next_boundary, left_running}
 use Rattle.aps_model.specs.Scenario.{Scenario}
 use Rattle.aps_model.specs.SchedulerState.{SchedulerState, cpu_at}
@@ -29,6 +29,6 @@ pub record IsTimely (s : SchedulerState) (h : List Entry) : Type 0 where
 -- what the laws of steps stand on
 pub record IsGrounded (scenario : Scenario) (s : SchedulerState) : Type 0 where
   pub plain : IsPlain scenario s
-  pub kept : IsKept s
+  pub kept : AgreesOnRunning s
   pub sizes : IsSameSizes scenario.shape s.shape
   pub cpu_count : length s.cpus ≡ s.shape.cpus

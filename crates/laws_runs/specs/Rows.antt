@@ -29,7 +29,7 @@ pub record AreInOrder (scenario : Scenario) (s : SchedulerState) : Type 0 where
   pub sizes : IsSameSizes scenario.shape s.shape
 
 -- no row has gone, and none has another name or parent
-pub record AreKept (rows later : List PartitionRow) : Type 0 where
+pub record AreRowsKept (rows later : List PartitionRow) : Type 0 where
   pub count : length rows ≤ length later
   pub name : (i : ℕ) → i < length rows → (row_or_none later i).name ≡ (row_or_none rows i).name
   pub parent : (i : ℕ) → i < length rows → (row_or_none later i).parent ≡ (row_or_none rows i).parent

@@ -32,7 +32,7 @@ abbrev pub EndsNoSooner : Scenario → ℕ → List Entry → Type 0
 EndsNoSooner scenario limit h = (before later : List Entry) (e : Entry) → h ≡ before ++ e ∷ later → end_of scenario limit before ≡ None
 
 -- a legal history that has ended with this limit, and no sooner
-pub record IsRun (scenario : Scenario) (order : Order) (limit : ℕ) (h : List Entry) : Type 0 where
+pub record IsEndedRun (scenario : Scenario) (order : Order) (limit : ℕ) (h : List Entry) : Type 0 where
   pub legal : IsLegal scenario order h
   pub ended : IsSome (end_of scenario limit h)
   pub no_sooner : EndsNoSooner scenario limit h

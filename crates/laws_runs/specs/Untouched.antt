@@ -18,7 +18,7 @@ abbrev pub thread_kept : Option Pick → Option ℕ
 thread_kept o = option_map (λ (p : Pick). p.thread) o
 
 -- who runs on a processor is what the processor keeps
-pub record IsKept (s : SchedulerState) : Type 0 where
+pub record AgreesOnRunning (s : SchedulerState) : Type 0 where
   pub runs : (d : ℕ) (p : Pick) → (cpu_at s d).running ≡ Some p → state_at s p.thread ≡ Running d
   pub kept : (y d : ℕ) → state_at s y ≡ Running d → thread_kept (cpu_at s d).running ≡ Some y
 
@@ -46,7 +46,7 @@ pub record IsStepOf (scenario : Scenario) (s : SchedulerState) (h : List Entry) 
   pub billed : e.billed ≡ partition_kept (cpu_at s c).running
   pub critical : e.critical ≡ mark_kept (cpu_at s c).running
   pub plain : IsPlain scenario t
-  pub kept : IsKept t
+  pub kept : AgreesOnRunning t
   pub others_running : (d : ℕ) → d ≢ c → (cpu_at t d).running ≡ (cpu_at s d).running
   pub others_flag : (d : ℕ) → d ≢ c
       → ((cpu_at t d).flag ≡ (cpu_at s d).flag)

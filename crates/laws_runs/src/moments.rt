@@ -7,7 +7,7 @@ ghost use Rattle.aps_model.specs.Valid.{IsScenario};
 ghost use Rattle.aps_model.specs.After.{state_after};
 ghost use Rattle.aps_model.specs.Legal.{IsLegal};
 ghost use Rattle.aps_model.specs.History.{IsEntry};
-ghost use Rattle.laws_runs.specs.Boundaries.{MeetsBoundaries, IsInTick};
+ghost use Rattle.laws_runs.specs.Boundaries.{MeetsBoundaries, EndsInTick};
 ghost use Rattle.laws_runs.specs.Moments.{IsTimely, moment};
 ghost use Rattle.laws_runs.specs.Sound.{IsNext};
 
@@ -57,5 +57,5 @@ pub fn ticks_step_by_one()
     ensures { (scenario : Scenario) (order : Order) (h : List Entry) (e : Entry)
         → IsScenario scenario
         → IsLegal scenario order (h ++ e ∷ [])
-        → IsInTick scenario.shape.tick h e }
+        → EndsInTick scenario.shape.tick h e }
 {}

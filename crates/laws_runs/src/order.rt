@@ -9,7 +9,7 @@ ghost use Rattle.aps_model.specs.Valid.{IsScenario};
 ghost use Rattle.aps_model.specs.After.{end_of};
 ghost use Rattle.aps_model.specs.Due.{HasTurn};
 ghost use Rattle.aps_model.specs.Legal.{IsLegal, fixed_run};
-ghost use Rattle.laws_runs.specs.Runs.{IsTurnOfOne, GoesOn, IsOneMore, EndsNoSooner, IsRun, Extends, finished, with_fixed_step};
+ghost use Rattle.laws_runs.specs.Runs.{IsTurnOfOne, GoesOn, IsOneMore, EndsNoSooner, IsEndedRun, Extends, finished, with_fixed_step};
 
 /// In fixed order one processor has the turn: the lowest of those that are due least.
 pub fn one_has_the_turn()
@@ -52,14 +52,14 @@ pub fn prefixes_are_legal()
 /// The run in fixed order with a limit is legal in fixed order and has ended with that limit, and none of its shorter
 /// prefixes has.
 pub fn fixed_run_ends()
-    ensures { (scenario : Scenario) (limit : ℕ) → IsScenario scenario → IsRun scenario Fixed limit (fixed_run scenario limit) }
+    ensures { (scenario : Scenario) (limit : ℕ) → IsScenario scenario → IsEndedRun scenario Fixed limit (fixed_run scenario limit) }
 {}
 
 /// It is the only one.
 pub fn fixed_run_is_one()
     ensures { (scenario : Scenario) (limit : ℕ) (h : List Entry)
         → IsScenario scenario
-        → IsRun scenario Fixed limit h
+        → IsEndedRun scenario Fixed limit h
         → h ≡ fixed_run scenario limit }
 {}
 
@@ -70,7 +70,7 @@ pub fn finished_ends()
         → IsScenario scenario
         → IsLegal scenario order h
         → EndsNoSooner scenario limit h
-        → IsRun scenario order limit (finished scenario limit h) }
+        → IsEndedRun scenario order limit (finished scenario limit h) }
     ensures extends { (scenario : Scenario) (limit : ℕ) (h : List Entry) → Extends h (finished scenario limit h) }
     ensures fixed { (scenario : Scenario) (limit : ℕ) (h : List Entry)
         → IsScenario scenario

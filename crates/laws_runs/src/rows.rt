@@ -12,7 +12,7 @@ ghost use Rattle.aps_model.specs.Loaded.{has_change, rows_of_tick, state_of_tick
 ghost use Rattle.aps_model.specs.Partition.{IsRow};
 ghost use Rattle.laws_runs.specs.Held.{HasRowsOfTick, HoldsRows};
 ghost use Rattle.laws_runs.specs.Moments.{moment};
-ghost use Rattle.laws_runs.specs.Rows.{AreInOrder, AreKept};
+ghost use Rattle.laws_runs.specs.Rows.{AreInOrder, AreRowsKept};
 
 /// Changes only grow, by changes at the entry's tick, and where there is none more rows and shape are the same.
 pub fn change_or_same()
@@ -41,7 +41,7 @@ pub fn rows_stay()
     ensures { (scenario : Scenario) (order : Order) (h later : List Entry)
         → IsScenario scenario
         → IsLegal scenario order (h ++ later)
-        → AreKept (state_after scenario h).rows (state_after scenario (h ++ later)).rows }
+        → AreRowsKept (state_after scenario h).rows (state_after scenario (h ++ later)).rows }
 {}
 
 /// Where no change stands at ticks a to b-1, each entry that ends in them leaves the rows and the shape that the first
@@ -71,7 +71,7 @@ pub fn tick_rows_sound()
     ensures stay { (scenario : Scenario) (order : Order) (h : List Entry) (a : ℕ)
         → IsScenario scenario
         → IsLegal scenario order h
-        → AreKept (rows_of_tick scenario h a) (state_after scenario h).rows }
+        → AreRowsKept (rows_of_tick scenario h a) (state_after scenario h).rows }
 {}
 
 /// Replies and changes only grow, at their ends.

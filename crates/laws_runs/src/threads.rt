@@ -6,7 +6,7 @@ ghost use Rattle.aps_model.specs.Scenario.{Scenario};
 ghost use Rattle.aps_model.specs.Valid.{IsScenario};
 ghost use Rattle.aps_model.specs.After.{after, state_after};
 ghost use Rattle.aps_model.specs.Legal.{IsLegal};
-ghost use Rattle.laws_runs.specs.Untouched.{IsKept};
+ghost use Rattle.laws_runs.specs.Untouched.{AgreesOnRunning};
 ghost use Rattle.laws_runs.specs.Stamps.{IsStamped};
 ghost use Rattle.laws_runs.specs.Stamped.{HasFewStamps};
 ghost use Rattle.laws_runs.specs.Counts.{IsCounted, NoneShared};
@@ -17,7 +17,7 @@ pub fn one_each()
     ensures { (scenario : Scenario) (order : Order) (h : List Entry)
         → IsScenario scenario
         → IsLegal scenario order h
-        → IsKept (state_after scenario h) }
+        → AgreesOnRunning (state_after scenario h) }
 {}
 
 /// The stamps of ready and running threads are distinct and below the next one.

@@ -2,7 +2,7 @@
 ghost use Rattle.std.specs.Prelude.{◌≡◌, IfSome, IsSome};
 ghost use Rattle.aps_model.specs.Upgrade.{row_times_ten, times_ten};
 ghost use Rattle.laws_upgrade.specs.TimesTen as spec;
-ghost use Rattle.laws_upgrade.specs.Fits.{AreFew, FitAnswer, FitRefusal, FitRow};
+ghost use Rattle.laws_upgrade.specs.Fits.{HasFewParts, FitAnswer, FitRefusal, FitRow};
 
 use aps_model::{Answer, CtlRefusal, PartitionRow, Reply, Shape};
 
@@ -59,8 +59,8 @@ fn upgraded_row(row: &PartitionRow) -> Option<PartitionRow>
 
 fn upgraded_shape(shape: &Shape) -> Option<Shape>
     ensures same { IfSome result (λ upgraded. upgraded ≡ spec.shape_times_ten shape.now) }
-    ensures some { AreFew shape.now.parts → IsSome result }
-    ensures none { IfSome result (λ upgraded. AreFew shape.now.parts) }
+    ensures some { HasFewParts shape.now.parts → IsSome result }
+    ensures none { IfSome result (λ upgraded. HasFewParts shape.now.parts) }
 {
     let parts = times_ten(shape.parts)?;
     Some(Shape { parts, ..*shape })
@@ -86,8 +86,8 @@ fn upgraded_refusal(why: &CtlRefusal) -> Option<CtlRefusal>
 /// Ten times as many parts, where that is at most 65,535.
 fn times_ten(parts: u16) -> Option<u16>
     ensures same { IfSome result (λ more. more ≡ times_ten parts) }
-    ensures some { AreFew parts → IsSome result }
-    ensures none { IfSome result (λ more. AreFew parts) }
+    ensures some { HasFewParts parts → IsSome result }
+    ensures none { IfSome result (λ more. HasFewParts parts) }
 {
     if parts <= 6553 {
         Some(parts * 10)

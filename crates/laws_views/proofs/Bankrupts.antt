@@ -19,7 +19,7 @@ use Rattle.laws_runs.specs.Between.{bill_in}
 use Rattle.laws_runs.specs.Untouched.{mark_kept, partition_kept}
 use Rattle.laws_runs.proofs.Sound.{step_law}
 use Rattle.laws_runs.proofs.WaitFacts.{test_eq}
-use Rattle.view_shares.specs.Spent.{excess_of, listed, overspent_as, overspent_by, overspent_of, state_tested}
+use Rattle.view_shares.specs.Spent.{excess_of, overspent_listed, overspent_as, overspent_by, overspent_of, state_tested}
 use Rattle.view_shares.proofs.Overspent.{overspent_more}
 use Rattle.laws_views.specs.Bankrupt.{bankrupt_in, overspent_at}
 
@@ -115,7 +115,7 @@ module _ (scenario : Scenario) (h : List Entry) (e : Entry) where
       by_billed (Some q) = ap (λ o. overspent_as e.to q (cond {A = Option ℕ} (names o q) (Some (overspent_at scenario h e q).excess) None)) is
 
   pub listed_some : (p : ℕ) → tested ≡ Some p → overspent_of scenario (h ++ e ∷ []) ≡ overspent_of scenario h ++ overspent_at scenario h e p ∷ []
-  listed_some p is = overspent_more scenario h e ∙ ap (λ o. overspent_of scenario h ++ listed o) (told_some p is)
+  listed_some p is = overspent_more scenario h e ∙ ap (λ o. overspent_of scenario h ++ overspent_listed o) (told_some p is)
 
   pub listed_none : tested ≡ None → overspent_of scenario (h ++ e ∷ []) ≡ overspent_of scenario h
-  listed_none is = overspent_more scenario h e ∙ ap (λ o. overspent_of scenario h ++ listed o) (told_none is) ∙ append-nil (overspent_of scenario h)
+  listed_none is = overspent_more scenario h e ∙ ap (λ o. overspent_of scenario h ++ overspent_listed o) (told_none is) ∙ append-nil (overspent_of scenario h)

@@ -37,10 +37,10 @@ use Rattle.view_latency.specs.declared.call.Asked.{Asked}
 use Rattle.view_latency.specs.declared.call.Call.{Call}
 use Rattle.view_latency.specs.declared.news.News.{News}
 use Rattle.view_latency.specs.declared.news.News.TheVariants.{Nothing, Sent, Taken, Served, Answered}
-use Rattle.view_latency.specs.Calls.{Calls, calls_from, calls_of, closing, no_calls, served_for, taken_at, with_news}
+use Rattle.view_latency.specs.Calls.{Calls, calls_from, calls_of, with_answered_call, no_calls, served_for, taken_at, with_news}
 use Rattle.view_latency.specs.News.{is_send, news_in, news_of, news_of_taking, sent_by, served, taken_if, time_of}
 use Rattle.view_latency.proofs.Holding.{counted_once}
-use Rattle.view_explain.specs.Ties.{after_ran, channel_named, messages_at, ties_of}
+use Rattle.view_explain.specs.Ties.{after_ran, channel_of_operation, tied_messages_at, ties_of}
 use Rattle.view_explain.proofs.Tied.{ties_more, ties_none}
 use Rattle.laws_views.specs.Served.{served_by, served_in_all, served_since, served_time}
 use Rattle.laws_views.proofs.OpenTies.{IsOpen, freed, frees, held_on, is_open, open_from, open_to, opens, read, sends_on, was_open}
@@ -162,7 +162,7 @@ module _ (scenario : Scenario) (order : Order) (r : IsScenario scenario) (h : Li
             let got : e.done ≡ ReceiveGot x → IsOpen (ties_of s) x = λ is.
             let at = (said_so scenario order h e r legal y ran).takes x is in
             inl (at.0, subst (λ n. 1 ≤ n) (sym (ap (times_sent x) (read s at.0))) at.1) in
-            elim (was_open (ties_of s) x y (channel_named (op_at scenario y (thread_at s y).place)) (facts_of s y).priority e.done got goes) [
+            elim (was_open (ties_of s) x y (channel_of_operation (op_at scenario y (thread_at s y).place)) (facts_of s y).priority e.done got goes) [
               | inl open_then ↦ was open_then
               | inr sent ↦ silent (ran ∙ ap (λ (z : ℕ). Some z) sent.0) sent.1
             ]
@@ -176,8 +176,8 @@ module _ (scenario : Scenario) (order : Order) (r : IsScenario scenario) (h : Li
         let named = (names_channels scenario r).sends x (thread_at s x).place c is in
         let channels = (counts_law scenario order h r old).channels in
         let count = length-map s.channels (λ (k : ChannelNow). k.messages) in
-        let place : channel_named op ≡ c = ap channel_named is in
-        let goes = opens (ties_of s) x x (channel_named op) (facts_of s x).priority e.done refl sends (omega (arith, named, channels, count, place)) in
+        let place : channel_of_operation op ≡ c = ap channel_of_operation is in
+        let goes = opens (ties_of s) x x (channel_of_operation op) (facts_of s x).priority e.done refl sends (omega (arith, named, channels, count, place)) in
         opened (subst (λ o. IsOpen (after_ran scenario s (ties_of s) o e.done) x) (sym ran) goes)
 
     by_own : (c : ℕ) → state_at s x ≡ Running c → (b : Bool) → (names e.ran x && is_send e.done) ≡ b → is_open (state_at t x) ≡ opens_by (cond b (sent_by op) Nothing) false
@@ -194,12 +194,12 @@ module _ (scenario : Scenario) (order : Order) (r : IsScenario scenario) (h : Li
     stays_sending c sends =
         let count = (before.at x).sends c ∙ ap (is_sending c) sends ∙ ap one_if (test_eq c c refl) in
         let same = ap (times_sent x) (read s c) in
-        let there : 1 ≤ times_sent x (messages_at (ties_of s) c) = omega (arith, count, same) in
+        let there : 1 ≤ times_sent x (tied_messages_at (ties_of s) c) = omega (arith, count, same) in
         opened (by_ran e.ran c there)
       where
-        by_ran : (o : Option ℕ) (c : ℕ) → 1 ≤ times_sent x (messages_at (ties_of s) c) → IsOpen (after_ran scenario s (ties_of s) o e.done) x
+        by_ran : (o : Option ℕ) (c : ℕ) → 1 ≤ times_sent x (tied_messages_at (ties_of s) c) → IsOpen (after_ran scenario s (ties_of s) o e.done) x
         by_ran None c there = inl (c, there)
-        by_ran (Some y) c there = sends_on (ties_of s) x y (channel_named (op_at scenario y (thread_at s y).place)) (facts_of s y).priority e.done (c, there)
+        by_ran (Some y) c there = sends_on (ties_of s) x y (channel_of_operation (op_at scenario y (thread_at s y).place)) (facts_of s y).priority e.done (c, there)
 
     module _ (z : ℕ) (replies : state_at s x ≡ Replying z) where
       held : 1 ≤ times_paired z x s.triples
@@ -208,7 +208,7 @@ module _ (scenario : Scenario) (order : Order) (r : IsScenario scenario) (h : Li
       stays_held : (o : Option ℕ) → (frees e.done ≡ true → o ≢ Some z) → IsOpen (after_ran scenario s (ties_of s) o e.done) x
       stays_held None other = inr (z, held)
       stays_held (Some y) other =
-          held_on (ties_of s) x y (channel_named (op_at scenario y (thread_at s y).place)) (facts_of s y).priority e.done z held
+          held_on (ties_of s) x y (channel_of_operation (op_at scenario y (thread_at s y).place)) (facts_of s y).priority e.done z held
           (λ is same. other is (ap (λ (k : ℕ). Some k) same))
 
       only : (y : ℕ) → 1 ≤ times_paired y x s.triples → y ≡ z
@@ -219,12 +219,12 @@ module _ (scenario : Scenario) (order : Order) (r : IsScenario scenario) (h : Li
           same : (a b : ℕ) → Replying a ≡ Replying b → a ≡ b
           same a b k = cc
 
-      silent : (d : ℕ) → times_sent x (messages_at (ties_of s) d) ≡ 0
+      silent : (d : ℕ) → times_sent x (tied_messages_at (ties_of s) d) ≡ 0
       silent d = ap (times_sent x) (read s d) ∙ (before.at x).sends d ∙ ap (is_sending d) replies
 
       let_go : e.ran ≡ Some z → frees e.done ≡ true → is_open (state_at t x) ≡ false
       let_go ran is = false_from_ne_true (is_open (state_at t x)) (λ goes.
-          freed (ties_of s) x z (channel_named (op_at scenario z (thread_at s z).place)) (facts_of s z).priority e.done is (served_none s.triples z before.made) silent only
+          freed (ties_of s) x z (channel_of_operation (op_at scenario z (thread_at s z).place)) (facts_of s z).priority e.done is (served_none s.triples z before.made) silent only
           (subst (λ o. IsOpen (after_ran scenario s (ties_of s) o e.done) x) ran (subst (λ k. IsOpen k x) ties (open_from t x after goes))))
 
       by_freed : (b : Bool) → frees e.done ≡ b → e.ran ≡ Some z → is_open (state_at t x) ≡ not b
@@ -291,7 +291,7 @@ no_sum (Some asked) is = absurd cc
 abbrev ended_sum : List Call → ℕ
 ended_sum ended = sum_by (λ (call : Call). call.asked.served) ended
 
-closed_sum : (ended : List Call) (o : Option Asked) (moment : ℕ) → is_some o ≡ true → ended_sum (closing ended o moment) ≡ ended_sum ended + served_since o
+closed_sum : (ended : List Call) (o : Option Asked) (moment : ℕ) → is_some o ≡ true → ended_sum (with_answered_call ended o moment) ≡ ended_sum ended + served_since o
 closed_sum ended None moment is = absurd cc
 closed_sum ended (Some asked) moment is = sum_by_push (λ (call : Call). call.asked.served) ended (record { asked = asked; end = moment })
 

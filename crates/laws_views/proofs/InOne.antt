@@ -3,7 +3,7 @@ use Rattle.std.proofs.Common.{◌≡◌, ℕ, ◌<◌, ◌≤◌, List, [], ◌�
 use Rattle.std.proofs.lemmas.Bool.{cases_lt}
 use Rattle.view_lives.specs.declared.doing.Doing.{Doing}
 use Rattle.view_lives.specs.declared.life.Segment.{Segment}
-use Rattle.view_lives.specs.Whole.{IsTold, IsWhole, Tiles}
+use Rattle.view_lives.specs.Whole.{SegmentsTell, IsWholeLife, SegmentsTile}
 use Rattle.laws_views.specs.Billed.{LiesIn, LiesInOne}
 
 head_same : (s t : Segment) (life other : List Segment) → ◌≡◌ {A = List Segment} (s ∷ life) (t ∷ other) → s ≡ t
@@ -13,7 +13,7 @@ tail_same : (s t : Segment) (life other : List Segment) → ◌≡◌ {A = List 
 tail_same s t life other same = cc
 
 -- later ones begin later
-later_from : (a b : ℕ) (front back : List Segment) (s : Segment) → Tiles a b (front ++ s ∷ back) → a ≤ s.from
+later_from : (a b : ℕ) (front back : List Segment) (s : Segment) → SegmentsTile a b (front ++ s ∷ back) → a ≤ s.from
 later_from a b [] back s tiles = let from : s.from ≡ a = tiles.0 in omega (arith, from)
 later_from a b (t ∷ front) back s tiles =
     let from : t.from ≡ a = tiles.0 in
@@ -24,15 +24,15 @@ later_from a b (t ∷ front) back s tiles =
 -- ---- in no other
 
 -- whoever stands behind the first that has it begins later
-not_behind : (b m : ℕ) (s t u : Segment) (back front other : List Segment) → Tiles s.to b back → ◌≡◌ {A = List Segment} (s ∷ back) (t ∷ (front ++ u ∷ other)) → LiesIn m s → LiesIn m u → ⊥
+not_behind : (b m : ℕ) (s t u : Segment) (back front other : List Segment) → SegmentsTile s.to b back → ◌≡◌ {A = List Segment} (s ∷ back) (t ∷ (front ++ u ∷ other)) → LiesIn m s → LiesIn m u → ⊥
 not_behind b m s t u back front other tiles same one two =
     let rest : back ≡ front ++ u ∷ other = tail_same s t back (front ++ u ∷ other) same in
-    let late = later_from s.to b front other u (subst (Tiles s.to b) rest tiles) in
+    let late = later_from s.to b front other u (subst (SegmentsTile s.to b) rest tiles) in
     let ends = one.to in
     let begins = two.from in
     omega (arith, late, ends, begins)
 
-only_one : (a b m : ℕ) (front back front' back' : List Segment) (s s' : Segment) → Tiles a b (front ++ s ∷ back) → front ++ s ∷ back ≡ front' ++ s' ∷ back' → LiesIn m s → LiesIn m s' → front' ≡ front
+only_one : (a b m : ℕ) (front back front' back' : List Segment) (s s' : Segment) → SegmentsTile a b (front ++ s ∷ back) → front ++ s ∷ back ≡ front' ++ s' ∷ back' → LiesIn m s → LiesIn m s' → front' ≡ front
 only_one a b m [] back [] back' s s' tiles same one two = refl
 only_one a b m [] back (t ∷ front') back' s s' tiles same one two = absurd (not_behind b m s t s' back front' back' tiles.2 same one two)
 only_one a b m (t ∷ front) back [] back' s s' tiles same one two =
@@ -56,7 +56,7 @@ record Found (at : ℕ → Doing) (life : List Segment) (m : ℕ) : Type 0 where
   lies : LiesIn m segment
   told : at m ≡ segment.doing
 
-find : (at : ℕ → Doing) (a b m : ℕ) (life : List Segment) → Tiles a b life → IsTold at life → a ≤ m → m < b → Found at life m
+find : (at : ℕ → Doing) (a b m : ℕ) (life : List Segment) → SegmentsTile a b life → SegmentsTell at life → a ≤ m → m < b → Found at life m
 find at a b m [] tiles told from to = let end : a ≡ b = tiles in absurd (omega (arith, end, from, to))
 find at a b m (s ∷ life) tiles told from to =
     let begins : s.from ≡ a = tiles.0 in
@@ -76,7 +76,7 @@ find at a b m (s ∷ life) tiles told from to =
       told = rest.told;
     }
 
-pub in_one : (at : ℕ → Doing) (a b m : ℕ) (life : List Segment) → IsWhole at a b life → a ≤ m → m < b → LiesInOne at life m
+pub in_one : (at : ℕ → Doing) (a b m : ℕ) (life : List Segment) → IsWholeLife at a b life → a ≤ m → m < b → LiesInOne at life m
 in_one at a b m life whole from to =
     let found = find at a b m life whole.tiles whole.told from to in
     record {
@@ -87,10 +87,10 @@ in_one at a b m life whole from to =
       lies = found.lies;
       told = found.told;
       only = λ front' back' segment' same lies.
-          only_one a b m found.front found.back front' back' found.segment segment' (subst (Tiles a b) found.same whole.tiles) (sym found.same ∙ same) found.lies lies;
+          only_one a b m found.front found.back front' back' found.segment segment' (subst (SegmentsTile a b) found.same whole.tiles) (sym found.same ∙ same) found.lies lies;
     }
 
 -- what a segment tells of one of its moments
-pub told_in : (at : ℕ → Doing) (front back : List Segment) (s : Segment) (m : ℕ) → IsTold at (front ++ s ∷ back) → LiesIn m s → at m ≡ s.doing
+pub told_in : (at : ℕ → Doing) (front back : List Segment) (s : Segment) (m : ℕ) → SegmentsTell at (front ++ s ∷ back) → LiesIn m s → at m ≡ s.doing
 told_in at [] back s m told lies = told.0 m lies.from lies.to
 told_in at (t ∷ front) back s m told lies = told_in at front back s m told.1 lies

@@ -15,7 +15,7 @@ use Rattle.aps_model.specs.Legal.{IsLegal}
 use Rattle.aps_model.specs.Scenario.{Scenario}
 use Rattle.aps_model.specs.SchedulerState.{SchedulerState, cpu_at}
 use Rattle.aps_model.specs.Valid.{IsScenario}
-use Rattle.laws_runs.specs.Untouched.{IsKept, mark_kept, partition_kept, thread_kept}
+use Rattle.laws_runs.specs.Untouched.{AgreesOnRunning, mark_kept, partition_kept, thread_kept}
 use Rattle.laws_runs.specs.Waits.{state_at}
 use Rattle.laws_runs.proofs.BoundaryLaws.{latest}
 use Rattle.laws_runs.proofs.MomentLaws.{last_other, last_own, moment-append}
@@ -25,7 +25,7 @@ use Rattle.laws_runs.proofs.Words.{prefix_legal, up_to}
 use Rattle.view_lives.specs.declared.doing.Doing.TheVariants.{Running}
 use Rattle.view_lives.specs.Doing.{doing_by, doing_of, running_by}
 use Rattle.view_lives.specs.Whole.{doing_at, until}
-use Rattle.laws_views.specs.Billed.{IsBilled, RunsAsBilled}
+use Rattle.laws_views.specs.Billed.{IsBilledAt, RunsAsBilled}
 
 -- ---- the entries up to a moment
 
@@ -93,7 +93,7 @@ does : (s : SchedulerState) (x c : ℕ) (pick : Pick) → state_at s x ≡ state
 does s x c pick runs keeps = ap (doing_by s) runs ∙ ap (running_by c) keeps
 
 module _ (scenario : Scenario) (order : Order) (h : List Entry) (r : IsScenario scenario) (legal : IsLegal scenario order h) where
-  kept_at : (m : ℕ) → IsKept (state_after scenario (until m h))
+  kept_at : (m : ℕ) → AgreesOnRunning (state_after scenario (until m h))
   kept_at m =
       let part = until_part m h in
       (sound scenario order r (until m h) (prefix_legal scenario order (until m h) part.0 (subst (IsLegal scenario order) part.1 legal))).grounded.kept
@@ -206,7 +206,7 @@ kept_bill (Some pick) x c p critical kept runs = (ap (λ (n : ℕ). Some n) (par
     mark_same q p a b k = cc
 
 pub is_billed : (scenario : Scenario) (order : Order) (h : List Entry) → IsScenario scenario → IsLegal scenario order h → (x m c p : ℕ) (critical : Bool) → doing_at scenario h x m ≡ Running c p critical → m < last_end h c
-    → IsBilled h x m c p critical
+    → IsBilledAt h x m c p critical
 is_billed scenario order h r legal x m c p critical does past =
     let u = state_after scenario (until m h) in
     let there = runs_there u x c p critical (state_at u x) refl does in

@@ -14,7 +14,7 @@ use Rattle.laws_runs.specs.Waits.{IsPlaced, IsWaiting, one_if, state_at, times_p
 use Rattle.laws_runs.proofs.WaitFacts.{replying_from, sending_from, test_eq, test_ne}
 use Rattle.laws_runs.proofs.WaitMoves.{times_sent-append}
 use Rattle.view_latency.specs.News.{is_send}
-use Rattle.view_explain.specs.Ties.{Ties, after_done, messages_at, ties_of}
+use Rattle.view_explain.specs.Ties.{Ties, after_done, tied_messages_at, ties_of}
 
 -- ---- who waits for an answer
 
@@ -29,7 +29,7 @@ is_open Gone = false
 
 -- a message of the thread waits at a channel, or a server holds it
 abbrev pub Sends : Ties → ℕ → Type 0
-Sends ties x = (d : ℕ) × (1 ≤ times_sent x (messages_at ties d))
+Sends ties x = (d : ℕ) × (1 ≤ times_sent x (tied_messages_at ties d))
 
 abbrev pub IsHeld : Ties → ℕ → Type 0
 IsHeld ties x = (z : ℕ) × (1 ≤ times_paired z x ties.triples)
@@ -42,7 +42,7 @@ read_from [] d = refl
 read_from (c ∷ cs) zero = refl
 read_from (c ∷ cs) (suc d) = read_from cs d
 
-pub read : (s : SchedulerState) (d : ℕ) → messages_at (ties_of s) d ≡ (channel_at s d).messages
+pub read : (s : SchedulerState) (d : ℕ) → tied_messages_at (ties_of s) d ≡ (channel_at s d).messages
 read s d = read_from s.channels d
 
 by_state : (st : State) (s : SchedulerState) (x : ℕ) → IsPlaced st (channel_at s) s.triples x → is_open st ≡ true → IsOpen (ties_of s) x
@@ -161,7 +161,7 @@ module _ (ties : Ties) (x y c priority : ℕ) where
   message = record { sender = y; priority = priority }
 
   abbrev old : List Message
-  old = messages_at ties c
+  old = tied_messages_at ties c
 
   unmatched : (a : Bool) (k : ℕ) → k ≢ x → one_if (a && nat_eq k x) ≡ 0
   unmatched true k ne = ap one_if (test_ne k x ne)
@@ -230,7 +230,7 @@ module _ (ties : Ties) (x y c priority : ℕ) where
       kept : found.0 ≡ c → 1 ≤ times_sent x (old ++ message ∷ [])
       kept same =
           let more = times_sent-append x message old in
-          let one : 1 ≤ times_sent x old = subst (λ d. 1 ≤ times_sent x (messages_at ties d)) same found.1 in
+          let one : 1 ≤ times_sent x old = subst (λ d. 1 ≤ times_sent x (tied_messages_at ties d)) same found.1 in
           omega (arith, more, one)
   sends_on (SendTo z) found = inl found
   sends_on (ReceiveGot w) found = elim (cases_eq w x) [
@@ -243,7 +243,7 @@ module _ (ties : Ties) (x y c priority : ℕ) where
       kept_other : w ≢ x → found.0 ≡ c → 1 ≤ times_sent x (without_sender w old)
       kept_other ne same =
           let all = same_sent x w old ne in
-          let one : 1 ≤ times_sent x old = subst (λ d. 1 ≤ times_sent x (messages_at ties d)) same found.1 in
+          let one : 1 ≤ times_sent x old = subst (λ d. 1 ≤ times_sent x (tied_messages_at ties d)) same found.1 in
           omega (arith, all, one)
   sends_on (ReplyFreed w) found = inl found
   sends_on Exit found = inl found
@@ -268,7 +268,7 @@ module _ (ties : Ties) (x y c priority : ℕ) where
   held_on done z one other = inr (z, one)
 
   -- whoever is freed by its only server isn't open any more
-  pub freed : (done : Done) → frees done ≡ true → client_of (without_server ties.triples y) y ≡ None → ((d : ℕ) → times_sent x (messages_at ties d) ≡ 0) → ((z : ℕ) → 1 ≤ times_paired z x ties.triples → z ≡ y)
+  pub freed : (done : Done) → frees done ≡ true → client_of (without_server ties.triples y) y ≡ None → ((d : ℕ) → times_sent x (tied_messages_at ties d) ≡ 0) → ((z : ℕ) → 1 ≤ times_paired z x ties.triples → z ≡ y)
       → IsOpen (after_done ties y c priority done) x → ⊥
   freed (ReplyFreed w) is none silent only (inl found) = let one = found.1 in let zero' = silent found.0 in omega (arith, one, zero')
   freed (ReplyFreed w) is none silent only (inr found) = gone found.0 found.1

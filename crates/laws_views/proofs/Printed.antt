@@ -12,11 +12,11 @@ use Rattle.aps_model.specs.Loaded.{finished_ticks}
 use Rattle.aps_model.specs.Scenario.{Scenario}
 use Rattle.aps_model.specs.Valid.{IsScenario}
 use Rattle.view_samples.specs.declared.sample.Sample.{Sample}
-use Rattle.view_samples.specs.Sample.{allowance_at, critical_at, free_at, had_share, has_work, is_full, of_each, sample_of, used_at}
+use Rattle.view_samples.specs.Sample.{allowance_at, critical_at_tick, free_at, had_share, has_work, is_full, of_each, sample_of, used_at}
 use Rattle.view_shares.specs.declared.share.Amount.{Amount}
 use Rattle.view_shares.specs.declared.share.Share.{Share}
 use Rattle.view_shares.specs.declared.share.Shortfall.{Shortfall}
-use Rattle.view_shares.specs.Share.{beyond_in, first_best, has_had, is_asked, is_greater, is_shorter, no_share, share_with, shortfall_in, taken_by, with_one}
+use Rattle.view_shares.specs.Share.{beyond_in, first_best, has_had, is_asked, is_greater_amount, is_shorter, no_share, share_with, shortfall_in, time_taken_by, with_one}
 use Rattle.view_shares.specs.Shares.{share_of, share_up_to, tick_of_all}
 use Rattle.laws_views.proofs.Told.{beyond_small, short_small, taken}
 
@@ -73,16 +73,16 @@ module _ (scenario : Scenario) (order : Order) (h : List Entry) (r : IsScenario 
     beyond_told calm =
         same_rest
         (slice_index (of_each (used_at scenario h j)) p) (used_at scenario h j p) (slice_index (of_each (allowance_at scenario h j)) p) (allowance_at scenario h j p)
-        (slice_index (of_each (critical_at scenario h j)) p) (critical_at scenario h j p) (slice_index (of_each (free_at scenario h j)) p) (free_at scenario h j p) turn
-        (at_each (used_at scenario h j) p exists) (at_each (allowance_at scenario h j) p exists) (at_each (critical_at scenario h j) p exists) (at_each (free_at scenario h j) p exists)
+        (slice_index (of_each (critical_at_tick scenario h j)) p) (critical_at_tick scenario h j p) (slice_index (of_each (free_at scenario h j)) p) (free_at scenario h j p) turn
+        (at_each (used_at scenario h j) p exists) (at_each (allowance_at scenario h j) p exists) (at_each (critical_at_tick scenario h j) p exists) (at_each (free_at scenario h j) p exists)
         (beyond_small scenario order h r legal j finished calm p)
 
     -- what the others may take, by the numbers of the sample
-    taken_told : (calm : sample.unchanged ≡ true) (q : ℕ) → q < most_partitions → taken scenario order h r legal j finished calm p q ≤ taken_by turn p sample q
+    taken_told : (calm : sample.unchanged ≡ true) (q : ℕ) → q < most_partitions → taken scenario order h r legal j finished calm p q ≤ time_taken_by turn p sample q
     taken_told calm q less =
         let by : ℕ → ℕ → ℕ = λ allowed critical. cond (nat_eq q p) 0 (cond (nat_eq allowed 0) critical (critical + turn)) in
-        same_most (taken scenario order h r legal j finished calm p q) (taken_by turn p sample q)
-        (ap (λ n. by n (critical_at scenario h j q)) (sym (at_each (allowance_at scenario h j) q less)) ∙ ap (by (slice_index (of_each (allowance_at scenario h j)) q)) (sym (at_each (critical_at scenario h j) q less)))
+        same_most (taken scenario order h r legal j finished calm p q) (time_taken_by turn p sample q)
+        (ap (λ n. by n (critical_at_tick scenario h j q)) (sym (at_each (allowance_at scenario h j) q less)) ∙ ap (by (slice_index (of_each (allowance_at scenario h j)) q)) (sym (at_each (critical_at_tick scenario h j) q less)))
 
     short_told : (is_asked p sample && not (has_had p sample)) ≡ true → (shortfall_in turn p sample).ns ≤ (shortfall_in turn p sample).others
     short_told counts =
@@ -92,11 +92,11 @@ module _ (scenario : Scenario) (order : Order) (h : List Entry) (r : IsScenario 
         let never : had_share scenario h j p ≡ false = sym (so_each (had_share scenario h j) p exists) ∙ not-true (has_had p sample) both.1 in
         same_less (slice_index (of_each (allowance_at scenario h j)) p) (allowance_at scenario h j p) (slice_index (of_each (used_at scenario h j)) p) (used_at scenario h j p) (shortfall_in turn p sample).others
         (at_each (allowance_at scenario h j) p exists) (at_each (used_at scenario h j) p exists)
-        (short_small scenario order h r legal j finished asked.0 p work never (taken_by turn p sample) (taken_told asked.0))
+        (short_small scenario order h r legal j finished asked.0 p work never (time_taken_by turn p sample) (taken_told asked.0))
 
     small_with : (share : Share) → IsSmall turn share → IsSmall turn (share_with turn p share sample)
     small_with share small = (
-      one_kept (λ (amount : Amount). amount.ns < turn) is_greater share.beyond (beyond_in p sample) sample.unchanged small.0 beyond_told,
+      one_kept (λ (amount : Amount). amount.ns < turn) is_greater_amount share.beyond (beyond_in p sample) sample.unchanged small.0 beyond_told,
       one_kept (λ (short : Shortfall). short.ns ≤ short.others) is_shorter share.short (shortfall_in turn p sample) (is_asked p sample && not (has_had p sample)) small.1 short_told,
     )
 

@@ -20,7 +20,7 @@ use Rattle.aps_model.specs.SchedulerState.{ChannelNow, Message, SchedulerState, 
 use Rattle.aps_model.specs.Step.{Step, finish_op, settled, step}
 use Rattle.aps_model.specs.Valid.{IsScenario}
 use Rattle.std.specs.Prelude.{slice_index_or}
-use Rattle.laws_runs.specs.Untouched.{IsKept}
+use Rattle.laws_runs.specs.Untouched.{AgreesOnRunning}
 use Rattle.laws_runs.specs.Waits.{IsPlain, times_sent}
 use Rattle.laws_runs.proofs.ListsFit.{tested_lists}
 use Rattle.laws_runs.proofs.Sound.{legal_last, sound}
@@ -112,7 +112,7 @@ so_before scenario s h c op done so = record {
       (at.0, subst (λ (cs : List ChannelNow). 1 ≤ times_sent y (slice_index_or cs at.0 no_channel).messages) (tested_lists scenario s h c).channels at.1);
 }
 
-settled_so : (scenario : Scenario) (s : SchedulerState) (h : List Entry) (c now : ℕ) (running : Option Pick) (x : ℕ) → IsPlain scenario s → IsKept s → (cpu_at s c).running ≡ running
+settled_so : (scenario : Scenario) (s : SchedulerState) (h : List Entry) (c now : ℕ) (running : Option Pick) (x : ℕ) → IsPlain scenario s → AgreesOnRunning s → (cpu_at s c).running ≡ running
     → (bill_of c (last_end h c) now running).ran ≡ Some x → IsSo s (op_at scenario x (thread_at s x).place) (settled scenario (tested_at scenario s h c).state now running).done
 settled_so scenario s h c now None x plain kept is ran = absurd cc
 settled_so scenario s h c now (Some p) x plain kept is ran =
@@ -122,7 +122,7 @@ settled_so scenario s h c now (Some p) x plain kept is ran =
     (subst (λ place. IsSo s (op_at scenario p.thread place) did.done) (place_before scenario s h c p plain kept is)
     (so_before scenario s h c (op_at scenario p.thread (thread_at t p.thread).place) did.done (finished_so scenario t p.thread now (thread_at t p.thread).left)))
 
-step_so : (scenario : Scenario) (s : SchedulerState) (h : List Entry) (c : ℕ) → IsPlain scenario s → IsKept s → (x : ℕ) → (step scenario s h c).entry.ran ≡ Some x
+step_so : (scenario : Scenario) (s : SchedulerState) (h : List Entry) (c : ℕ) → IsPlain scenario s → AgreesOnRunning s → (x : ℕ) → (step scenario s h c).entry.ran ≡ Some x
     → IsSo s (op_at scenario x (thread_at s x).place) (step scenario s h c).entry.done
 step_so scenario s h c plain kept =
     let now = due s h c in

@@ -24,8 +24,8 @@ use Rattle.view_latency.specs.declared.call.Asked.{Asked}
 use Rattle.view_latency.specs.declared.call.Call.{Call}
 use Rattle.view_latency.specs.declared.news.News.{News}
 use Rattle.view_latency.specs.declared.news.News.TheVariants as news
-use Rattle.view_latency.specs.Answered.{answered_at, none_answered, with_call, with_own}
-use Rattle.view_latency.specs.Calls.{Calls, calls_from, calls_of, closing, no_calls, served_for, taken_at, with_news}
+use Rattle.view_latency.specs.Answered.{answered_at, none_answered, with_call, with_own_call}
+use Rattle.view_latency.specs.Calls.{Calls, calls_from, calls_of, with_answered_call, no_calls, served_for, taken_at, with_news}
 use Rattle.view_latency.specs.News.{is_send, news_in, news_of, news_of_taking, sent_by, served, taken_if}
 use Rattle.laws_views.specs.Served.{served_in_all, served_since}
 
@@ -42,7 +42,7 @@ answered_from c answered (call ∷ calls) =
     let cons = sum_by-cons (served_at c) call calls in
     rest ∙ added (with_call c answered call).served answered.served (served_at c call) (sum_by (served_at c) calls) (sum_by (served_at c) (call ∷ calls)) here cons
   where
-    by_test : (t : Bool) → (cond t (with_own answered call) answered).served ≡ answered.served + (if t then call.asked.served else 0)
+    by_test : (t : Bool) → (cond t (with_own_call answered call) answered).served ≡ answered.served + (if t then call.asked.served else 0)
     by_test true = refl
     by_test false = omega arith
 
@@ -120,7 +120,7 @@ served_kept n ns None known = tt
 served_kept n ns (Some asked) known = known
 
 closing_kept : (n moment : ℕ) (ended : List Call) (o : Option Asked) → AllByRecursion (λ (call : Call). call.asked.channel < n) ended → IfSome o (λ (asked : Asked). asked.channel < n)
-    → AllByRecursion (λ (call : Call). call.asked.channel < n) (closing ended o moment)
+    → AllByRecursion (λ (call : Call). call.asked.channel < n) (with_answered_call ended o moment)
 closing_kept n moment ended None known here = known
 closing_kept n moment ended (Some asked) known here = all_push n ended (record { asked = asked; end = moment }) known here
 

@@ -30,7 +30,7 @@ use Rattle.laws_load.specs.OwnShare.{WorksInBudget}
 use Rattle.laws_bounds.proofs.Above.{above, strictly}
 use Rattle.laws_load.proofs.OwnShares.{own_share}
 use Rattle.laws_bounds.proofs.Spans.{IsSpan, span_of}
-use Rattle.view_samples.specs.Sample.{allowance_at, critical_at, first_at, free_at, had_share, has_work, is_full, is_unchanged, used_at, window_at}
+use Rattle.view_samples.specs.Sample.{allowance_at, critical_at_tick, first_at, free_at, had_share, has_work, is_full, is_unchanged, used_at, window_at}
 use Rattle.laws_views.proofs.Amounts.{allowance_exact, beyond_none, beyond_some, none_allowed, parts_some, short_most, sum_wider, taken_most, whole_some}
 use Rattle.laws_views.proofs.Picked.{always_worked, never_out}
 use Rattle.laws_views.proofs.Ticks.{tick_held}
@@ -113,23 +113,23 @@ module _ (scenario : Scenario) (order : Order) (h : List Entry) (r : IsScenario 
     leeway_by : (t : Bool) → nat_eq (budget p) 0 ≡ t → leeway scenario s.shape s.rows h a (j + 1) p ≡ critical_used tick h p a (j + 1) + (if t then 0 else s.shape.cpus * tick) + free_used scenario tick h p a (j + 1)
     leeway_by t is = ap (λ k. critical_used tick h p a (j + 1) + (if k then 0 else s.shape.cpus * tick) + free_used scenario tick h p a (j + 1)) is
 
-    by_budget : (t : Bool) → nat_eq (budget p) 0 ≡ t → used_at scenario h j p - allowance_at scenario h j p - critical_at scenario h j p - free_at scenario h j p < s.shape.cpus * tick
+    by_budget : (t : Bool) → nat_eq (budget p) 0 ≡ t → used_at scenario h j p - allowance_at scenario h j p - critical_at_tick scenario h j p - free_at scenario h j p < s.shape.cpus * tick
     by_budget true is =
         let zero' : budget p ≡ 0 = grind (arith, nat_tests, is) in
         let line = subst (λ k. s.shape.parts * used tick h p a (j + 1) ≤ limit + s.shape.parts * k) (leeway_by true is) (above scenario order h r legal a (j + 1) s span short p) in
         let line' = subst (λ n. s.shape.parts * used n h p a (j + 1) ≤ limit + s.shape.parts * (critical_used n h p a (j + 1) + 0 + free_used scenario n h p a (j + 1))) span.sizes.tick line in
-        beyond_none s.shape.parts (used_at scenario h j p) (allowance_at scenario h j p) limit (critical_at scenario h j p) (free_at scenario h j p) (s.shape.cpus * tick) some_time positive
+        beyond_none s.shape.parts (used_at scenario h j p) (allowance_at scenario h j p) limit (critical_at_tick scenario h j p) (free_at scenario h j p) (s.shape.cpus * tick) some_time positive
         (ap (λ n. n * whole s.shape) zero' ∙ zero-mul (whole s.shape)) line'
     by_budget false is =
         let some : 0 < budget p = grind (arith, nat_tests, is) in
         let line = subst (λ k. s.shape.parts * used tick h p a (j + 1) < limit + s.shape.parts * k) (leeway_by false is) (strictly scenario order h r legal a (j + 1) s span short p some) in
         let line' = subst (λ n. s.shape.parts * used n h p a (j + 1) < limit + s.shape.parts * (critical_used n h p a (j + 1) + s.shape.cpus * tick + free_used scenario n h p a (j + 1))) span.sizes.tick line in
-        beyond_some s.shape.parts (used_at scenario h j p) (allowance_at scenario h j p) limit (critical_at scenario h j p) (free_at scenario h j p) (s.shape.cpus * tick) some_time (exact p) line'
+        beyond_some s.shape.parts (used_at scenario h j p) (allowance_at scenario h j p) limit (critical_at_tick scenario h j p) (free_at scenario h j p) (s.shape.cpus * tick) some_time (exact p) line'
 
     -- what it used beyond its allowance, its critical and its free time is below one tick of all processors
-    pub beyond_small : used_at scenario h j p - allowance_at scenario h j p - critical_at scenario h j p - free_at scenario h j p < scenario.shape.cpus * scenario.shape.tick
+    pub beyond_small : used_at scenario h j p - allowance_at scenario h j p - critical_at_tick scenario h j p - free_at scenario h j p < scenario.shape.cpus * scenario.shape.tick
     beyond_small =
-        subst (λ n. used_at scenario h j p - allowance_at scenario h j p - critical_at scenario h j p - free_at scenario h j p < n) time (by_budget (nat_eq (budget p) 0) refl)
+        subst (λ n. used_at scenario h j p - allowance_at scenario h j p - critical_at_tick scenario h j p - free_at scenario h j p < n) time (by_budget (nat_eq (budget p) 0) refl)
 
     -- ---- below the allowance
 
@@ -137,15 +137,15 @@ module _ (scenario : Scenario) (order : Order) (h : List Entry) (r : IsScenario 
     abbrev pub taken : ℕ → ℕ
     taken q =
         if nat_eq q p then 0
-        else if nat_eq (allowance_at scenario h j q) 0 then critical_at scenario h j q
-        else critical_at scenario h j q + scenario.shape.cpus * scenario.shape.tick
+        else if nat_eq (allowance_at scenario h j q) 0 then critical_at_tick scenario h j q
+        else critical_at_tick scenario h j q + scenario.shape.cpus * scenario.shape.tick
 
-    critical_is : (q : ℕ) → critical_used s.shape.tick h q a (a + s.shape.window) ≡ critical_at scenario h j q
+    critical_is : (q : ℕ) → critical_used s.shape.tick h q a (a + s.shape.window) ≡ critical_at_tick scenario h j q
     critical_is q = ap (λ n. critical_used n h q a (a + s.shape.window)) span.sizes.tick ∙ ap (λ b. critical_used scenario.shape.tick h q a b) end
 
     slack_most : (q : ℕ) → (if nat_eq q p then 0 else slack s.shape s.rows h a q) ≤ taken q + 0
     slack_most q =
-        taken_most (nat_eq q p) s.shape.parts (whole s.shape) (budget q) (allowance_at scenario h j q) (critical_used s.shape.tick h q a (a + s.shape.window)) (critical_at scenario h j q)
+        taken_most (nat_eq q p) s.shape.parts (whole s.shape) (budget q) (allowance_at scenario h j q) (critical_used s.shape.tick h q a (a + s.shape.window)) (critical_at_tick scenario h j q)
         (s.shape.cpus * s.shape.tick) (scenario.shape.cpus * scenario.shape.tick) positive (whole_some s.shape in_order.shape) (exact q) (critical_is q) time
 
     others_most : (others : ℕ → ℕ) → ((q : ℕ) → q < most_partitions → taken q ≤ others q) → others_slack s.shape s.rows h a p ≤ sum_by others (range_with_len 0 most_partitions)

@@ -30,7 +30,7 @@ pub record RunsAsBilled (scenario : Scenario) (h : List Entry) (e : Entry) (x : 
   pub runs : (m : ℕ) → e.from ≤ m → m < e.to → doing_at scenario h x m ≡ Running e.cpu partition e.critical
 
 -- an entry of the history runs thread x at this moment, on this processor and this bill, and with this mark
-pub record IsBilled (h : List Entry) (x m c p : ℕ) (critical : Bool) : Type 0 where
+pub record IsBilledAt (h : List Entry) (x m c p : ℕ) (critical : Bool) : Type 0 where
   pub before : List Entry
   pub later : List Entry
   pub e : Entry

@@ -11,7 +11,7 @@ ghost use Rattle.view_lives.specs.declared.doing.Doing.TheVariants.{Running};
 ghost use Rattle.view_lives.specs.declared.life.Segment.{Segment};
 ghost use Rattle.view_lives.specs.Life.{life_of};
 ghost use Rattle.view_lives.specs.Whole.{doing_at};
-ghost use Rattle.laws_views.specs.Billed.{IsBilled, LiesIn, LiesInOne, RunsAsBilled};
+ghost use Rattle.laws_views.specs.Billed.{IsBilledAt, LiesIn, LiesInOne, RunsAsBilled};
 
 /// Each moment before the end of the last entry lies in exactly one segment of a thread's life, and this one tells what the thread
 /// does then, whether it is ready, runs, waits, sleeps or is gone.
@@ -35,5 +35,5 @@ pub fn segments_are_billed()
     ensures { (scenario : Scenario) (order : Order) (h : List Entry) (x m c p : ℕ) (critical : Bool)
         (front back : List Segment) (s : Segment)
         → IsScenario scenario → IsLegal scenario order h → life_of scenario h x ≡ front ++ s ∷ back → s.doing ≡ Running c p critical
-        → LiesIn m s → m < last_end h c → IsBilled h x m c p critical }
+        → LiesIn m s → m < last_end h c → IsBilledAt h x m c p critical }
 {}

@@ -17,7 +17,7 @@ use Rattle.aps_model.specs.Scenario.{Scenario}
 use Rattle.aps_model.specs.SchedulerState.{SchedulerState, Triple, cpu_at, no_facts, no_thread, thread_at}
 use Rattle.aps_model.specs.Step.{begun, billed}
 use Rattle.aps_model.specs.TickWork.{do_command, thread_named, view_of, with_mark}
-use Rattle.laws_runs.specs.Untouched.{IsAlike, IsKept}
+use Rattle.laws_runs.specs.Untouched.{IsAlike, AgreesOnRunning}
 use Rattle.laws_runs.specs.Waits.{IsPlain, state_at}
 use Rattle.laws_runs.proofs.Chains.{own_at}
 use Rattle.laws_runs.proofs.ListsFit.{HasLists, tested_lists}
@@ -128,7 +128,7 @@ priority_before scenario s h c x = same_priority s (tested_at scenario s h c).st
 spent_place : (s : SchedulerState) (ns c : ℕ) (p : Pick) → state_at s p.thread ≡ Running c → (thread_at (spend s ns (Some p)) p.thread).place ≡ (thread_at s p.thread).place
 spent_place s ns c p run = ap (λ (z : ThreadNow). z.place) (set_same s.threads p.thread _ (running_within s p.thread c run))
 
-pub place_before : (scenario : Scenario) (s : SchedulerState) (h : List Entry) (c : ℕ) (p : Pick) → IsPlain scenario s → IsKept s → (cpu_at s c).running ≡ Some p
+pub place_before : (scenario : Scenario) (s : SchedulerState) (h : List Entry) (c : ℕ) (p : Pick) → IsPlain scenario s → AgreesOnRunning s → (cpu_at s c).running ≡ Some p
     → (thread_at (tested_at scenario s h c).state p.thread).place ≡ (thread_at s p.thread).place
 place_before scenario s h c p plain kept is =
     let e = bill_at s h c in

@@ -13,7 +13,7 @@ use Rattle.aps_model.specs.Partition.{partition_named}
 use Rattle.aps_model.specs.Scenario.{Scenario, op_at}
 use Rattle.aps_model.specs.SchedulerState.{ChannelNow, Message, SchedulerState, Triple, channel_at, no_channel, thread_at, with_channel, with_state, with_triple}
 use Rattle.aps_model.specs.Step.{finish_op, settled}
-use Rattle.view_explain.specs.Ties.{Ties, after_done, after_ran, channel_named, ties_of}
+use Rattle.view_explain.specs.Ties.{Ties, after_done, after_ran, channel_of_operation, ties_of}
 use Rattle.view_explain.proofs.Lists.{entered_lists, given_lists, on_lists}
 
 -- ---- one channel
@@ -91,7 +91,7 @@ exit_says scenario s x now None is =
     sym (ap made (without_none s.triples x is))
 exit_says scenario s x now (Some y) is = on_lists scenario (record s { triples = without_server s.triples x }) y now
 
-effect_says : (scenario : Scenario) (s : SchedulerState) (x now : ℕ) (op : Op) → Says s x (channel_named op) (effect scenario s x now op).done (effect scenario s x now op).state
+effect_says : (scenario : Scenario) (s : SchedulerState) (x now : ℕ) (op : Op) → Says s x (channel_of_operation op) (effect scenario s x now op).done (effect scenario s x now op).state
 effect_says scenario s x now (Run ns) = refl
 effect_says scenario s x now Forever = refl
 effect_says scenario s x now (Sleep ns) = refl
@@ -107,7 +107,7 @@ effect_says scenario s x now Repeat = refl
 effect_says scenario s x now Exit = exit_says scenario s x now (client_of s.triples x) refl
 
 finished_says : (scenario : Scenario) (s : SchedulerState) (x now : ℕ) (left : Option ℕ)
-    → Says s x (channel_named (op_at scenario x (thread_at s x).place)) (finish_op scenario s x now left).done (finish_op scenario s x now left).state
+    → Says s x (channel_of_operation (op_at scenario x (thread_at s x).place)) (finish_op scenario s x now left).done (finish_op scenario s x now left).state
 finished_says scenario s x now None = refl
 finished_says scenario s x now (Some (suc n)) = refl
 finished_says scenario s x now (Some zero) =

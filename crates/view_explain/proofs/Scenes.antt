@@ -12,20 +12,20 @@ use Rattle.aps_model.specs.Sums.{IsUsage}
 use Rattle.aps_model.specs.Usage.{window_critical, window_used}
 use Rattle.laws_runs.specs.Ids.{IsTripleFit}
 use Rattle.laws_runs.proofs.Inherits.{all_head, all_tail}
-use Rattle.view_explain.specs.Past.{IsScene, Past, parts_in, state_in, tick_in}
+use Rattle.view_explain.specs.Past.{IsSceneOfPast, Past, parts_of_past, state_of_past, tick_in}
 use Rattle.view_explain.specs.Parts.{part_by}
 use Rattle.view_explain.specs.Ties.{Ties, newest_server}
 use Rattle.view_explain.proofs.Ranges.{map_range}
 
-pub used_is : (past : Past) (knots : Ties) (j : ℕ) (billed : Usage) (facts : List PartFacts) (p : ℕ) → IsScene past knots j billed facts → p < most_partitions
-    → slice_index billed.used p ≡ window_used (state_in past).shape past.entries (tick_in past) p
+pub used_is : (past : Past) (knots : Ties) (j : ℕ) (billed : Usage) (facts : List PartFacts) (p : ℕ) → IsSceneOfPast past knots j billed facts → p < most_partitions
+    → slice_index billed.used p ≡ window_used (state_of_past past).shape past.entries (tick_in past) p
 used_is past knots j billed facts p scene small =
-    scene.usage.used p small ∙ ap (λ k. window_used (state_in past).shape past.entries k p) scene.tick
+    scene.usage.used p small ∙ ap (λ k. window_used (state_of_past past).shape past.entries k p) scene.tick
 
-pub critical_is : (past : Past) (knots : Ties) (j : ℕ) (billed : Usage) (facts : List PartFacts) (p : ℕ) → IsScene past knots j billed facts → p < most_partitions
-    → slice_index billed.critical p ≡ window_critical (state_in past).shape past.entries (tick_in past) p
+pub critical_is : (past : Past) (knots : Ties) (j : ℕ) (billed : Usage) (facts : List PartFacts) (p : ℕ) → IsSceneOfPast past knots j billed facts → p < most_partitions
+    → slice_index billed.critical p ≡ window_critical (state_of_past past).shape past.entries (tick_in past) p
 critical_is past knots j billed facts p scene small =
-    scene.usage.critical p small ∙ ap (λ k. window_critical (state_in past).shape past.entries k p) scene.tick
+    scene.usage.critical p small ∙ ap (λ k. window_critical (state_of_past past).shape past.entries k p) scene.tick
 
 -- a server is a thread of the scenario
 pub server_known : (threads channels : ℕ) (ts : List Triple) (c : ℕ) → All (IsTripleFit threads channels) ts → IfSome (newest_server ts c) (λ y. y < threads)
@@ -38,11 +38,11 @@ server_known threads channels (t ∷ ts) c fit = by_test (nat_eq t.channel c) (a
 
 -- the parts by what was used
 pub parts_are : (past : Past) (j : ℕ) (billed : Usage) (facts : List PartFacts)
-    → facts ≡ map (part_by (state_in past).shape (state_in past).rows billed) (range_with_len 0 (length (state_in past).rows))
-    → IsUsage (state_in past).shape.tick (j + 1 - (state_in past).shape.window) (j + 1) past.entries billed
-    → length (state_in past).rows ≤ most_partitions → j ≡ tick_in past → facts ≡ parts_in past
+    → facts ≡ map (part_by (state_of_past past).shape (state_of_past past).rows billed) (range_with_len 0 (length (state_of_past past).rows))
+    → IsUsage (state_of_past past).shape.tick (j + 1 - (state_of_past past).shape.window) (j + 1) past.entries billed
+    → length (state_of_past past).rows ≤ most_partitions → j ≡ tick_in past → facts ≡ parts_of_past past
 parts_are past j billed facts is usage few at =
-    let s = state_in past in
+    let s = state_of_past past in
     let made : ℕ → ℕ → ℕ → PartFacts = λ k used critical. record {
       funded = in_budget s.shape used (row_or_none s.rows k).budget;
       standing = has_standing critical (row_or_none s.rows k).critical;

@@ -7,9 +7,9 @@ use Rattle.aps_model.specs.declared.entry.Entry.{Entry}
 use Rattle.aps_model.specs.Scenario.{Scenario}
 use Rattle.view_lives.specs.declared.life.Segment.{Segment}
 use Rattle.view_lives.specs.Life.{AreLives}
-use Rattle.view_explain.specs.Chain.{explained}
+use Rattle.view_explain.specs.Chain.{threads_explained}
 use Rattle.view_explain.specs.Past.{past_at}
-use Rattle.view_explain.specs.Text.{thread_text, thread_with, told_thread}
+use Rattle.view_explain.specs.Text.{explained_thread, thread_by_lives, told_thread}
 
 -- a text to which the lines of the first elements were added, with the lines of one more
 pub lines_more : {X : Type 0} (f : X → List ℕ) (start out longer : List ℕ) (xs : List X) (i : ℕ) (x : X)
@@ -25,13 +25,13 @@ flat_same f g (x ∷ xs) each = rw (each 0 x (omega arith), flat_same f g xs (λ
 
 -- by the lives of all threads, or by the history
 pub told_same : (scenario : Scenario) (h : List Entry) (at thread : ℕ) (lives : List (List Segment)) → AreLives scenario h lives
-    → All (λ x. x < length scenario.threads) (explained (past_at scenario h at) thread)
-    → flat_map (thread_with (past_at scenario h at) at lives) (explained (past_at scenario h at) thread)
-    ≡ flat_map (told_thread scenario h at) (explained (past_at scenario h at) thread)
+    → All (λ x. x < length scenario.threads) (threads_explained (past_at scenario h at) thread)
+    → flat_map (thread_by_lives (past_at scenario h at) at lives) (threads_explained (past_at scenario h at) thread)
+    ≡ flat_map (told_thread scenario h at) (threads_explained (past_at scenario h at) thread)
 told_same scenario h at thread lives are known =
     let past = past_at scenario h at in
-    flat_same (thread_with past at lives) (told_thread scenario h at) (explained past thread)
-    (λ k d below. ap (λ (life : List Segment). thread_text past at life (get_or (explained past thread) k d)) (are.each _ (known k d below)))
+    flat_same (thread_by_lives past at lives) (told_thread scenario h at) (threads_explained past thread)
+    (λ k d below. ap (λ (life : List Segment). explained_thread past at life (get_or (threads_explained past thread) k d)) (are.each _ (known k d below)))
 
 -- what a result says, by what is known where there is a value
 pub by_known : {T E Q : Type 0} (r : Result T E) (P R : T → Type 0) → IfOk r P → OnOk r Q → ((x : T) → Q → P x → R x) → IfOk r R

@@ -17,12 +17,12 @@ use Rattle.aps_model.specs.SchedulerState.{ChannelNow, SchedulerState, cpu_at, n
 use Rattle.aps_model.specs.Step.{Step, chosen, settled, step}
 use Rattle.aps_model.specs.Valid.{IsScenario}
 use Rattle.aps_model.proofs.AfterLaws.{after-append, after_none}
-use Rattle.laws_runs.specs.Untouched.{IsKept}
+use Rattle.laws_runs.specs.Untouched.{AgreesOnRunning}
 use Rattle.laws_runs.specs.Waits.{IsPlain}
 use Rattle.laws_runs.proofs.ListsFit.{tested_lists}
 use Rattle.laws_runs.proofs.Sound.{legal_last, sound}
 use Rattle.laws_runs.proofs.StepOf.{bill_at, step_by, tested_at}
-use Rattle.view_explain.specs.Ties.{Ties, after_done, after_ran, channel_named, ties_of}
+use Rattle.view_explain.specs.Ties.{Ties, after_done, after_ran, channel_of_operation, ties_of}
 use Rattle.view_explain.proofs.Beside.{place_before, priority_before}
 use Rattle.view_explain.proofs.Done.{settled_says, thread_in}
 use Rattle.view_explain.proofs.Lists.{chosen_lists, flagged_lists}
@@ -43,18 +43,18 @@ tested_ties scenario s h c =
     ap (λ cs. ties_of (record t { channels = cs })) same.channels ∙ ap (λ ts. ties_of (record t { channels = s.channels; triples = ts })) same.triples
 
 -- the operation goes by the place and the priority that the thread had before
-ran_before : (scenario : Scenario) (s : SchedulerState) (h : List Entry) (c : ℕ) (running : Option Pick) (done : Done) → IsPlain scenario s → IsKept s → (cpu_at s c).running ≡ running
+ran_before : (scenario : Scenario) (s : SchedulerState) (h : List Entry) (c : ℕ) (running : Option Pick) (done : Done) → IsPlain scenario s → AgreesOnRunning s → (cpu_at s c).running ≡ running
     → after_ran scenario (tested_at scenario s h c).state (ties_of (tested_at scenario s h c).state) (thread_in running) done ≡ after_ran scenario s (ties_of s) (thread_in running) done
 ran_before scenario s h c None done plain kept is = tested_ties scenario s h c
 ran_before scenario s h c (Some p) done plain kept is =
     let t = (tested_at scenario s h c).state in
     let x = p.thread in
-    ap (λ ties. after_done ties x (channel_named (op_at scenario x (thread_at t x).place)) (facts_of t x).priority done) (tested_ties scenario s h c)
-    ∙ ap (λ place. after_done (ties_of s) x (channel_named (op_at scenario x place)) (facts_of t x).priority done) (place_before scenario s h c p plain kept is)
-    ∙ ap (λ priority. after_done (ties_of s) x (channel_named (op_at scenario x (thread_at s x).place)) priority done) (priority_before scenario s h c x)
+    ap (λ ties. after_done ties x (channel_of_operation (op_at scenario x (thread_at t x).place)) (facts_of t x).priority done) (tested_ties scenario s h c)
+    ∙ ap (λ place. after_done (ties_of s) x (channel_of_operation (op_at scenario x place)) (facts_of t x).priority done) (place_before scenario s h c p plain kept is)
+    ∙ ap (λ priority. after_done (ties_of s) x (channel_of_operation (op_at scenario x (thread_at s x).place)) priority done) (priority_before scenario s h c x)
 
 -- a step as a whole
-step_ties : (scenario : Scenario) (s : SchedulerState) (h : List Entry) (c : ℕ) → IsPlain scenario s → IsKept s
+step_ties : (scenario : Scenario) (s : SchedulerState) (h : List Entry) (c : ℕ) → IsPlain scenario s → AgreesOnRunning s
     → ties_of (step scenario s h c).state ≡ after_ran scenario s (ties_of s) (step scenario s h c).entry.ran (step scenario s h c).entry.done
 step_ties scenario s h c plain kept =
     let now = due s h c in

@@ -2,11 +2,11 @@
 use Rattle.std.specs.Prelude.{ℕ, max, List, [], ◌∷◌, nat_eq, if◌then◌else◌, unwrap_or}
 use Rattle.aps_model.specs.Inherit.{top_of}
 use Rattle.aps_model.specs.SchedulerState.{Triple}
-use Rattle.view_explain.specs.Ties.{Ties, messages_at}
+use Rattle.view_explain.specs.Ties.{Ties, tied_messages_at}
 
 -- the greatest priority that waits at the channel, or 0
 abbrev pub top_in : Ties → ℕ → ℕ
-top_in ties c = unwrap_or (top_of (messages_at ties c)) 0
+top_in ties c = unwrap_or (top_of (tied_messages_at ties c)) 0
 
 -- the last client of the chain from thread x on, by these triples, and the greatest priority that waits along the chain, beside one
 -- that is given

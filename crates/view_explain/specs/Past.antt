@@ -35,27 +35,27 @@ past_at scenario h at = record { scenario = scenario; entries = until at h }
 abbrev pub past_of : Run → Past
 past_of run = record { scenario = run.setup.scenario; entries = run.entries }
 
-abbrev pub state_in : Past → SchedulerState
-state_in past = state_after past.scenario past.entries
+abbrev pub state_of_past : Past → SchedulerState
+state_of_past past = state_after past.scenario past.entries
 
 -- the tick in which the last entry ends
 abbrev pub tick_in : Past → ℕ
-tick_in past = moment past.entries / (state_in past).shape.tick
+tick_in past = moment past.entries / (state_of_past past).shape.tick
 
 -- how the partitions stand in the window of that tick
-abbrev pub parts_in : Past → List PartFacts
-parts_in past = all_parts (state_in past).shape (state_in past).rows past.entries (tick_in past)
+abbrev pub parts_of_past : Past → List PartFacts
+parts_of_past past = all_parts (state_of_past past).shape (state_of_past past).rows past.entries (tick_in past)
 
-abbrev pub part_in : Past → ℕ → PartFacts
-part_in past p = part_at (parts_in past) p
+abbrev pub part_of_past : Past → ℕ → PartFacts
+part_of_past past p = part_at (parts_of_past past) p
 
 -- the merit that a thread has now, ready or not
 abbrev pub merit_in : Past → ℕ → Merit
-merit_in past x = merit_now (state_in past) (parts_in past) x
+merit_in past x = merit_now (state_of_past past) (parts_of_past past) x
 
 -- a thread would be a candidate
-abbrev pub is_open : Past → ℕ → Bool
-is_open past x = is_candidate (facts_of (state_in past) x) (part_in past (facts_of (state_in past) x).partition)
+abbrev pub would_be_candidate : Past → ℕ → Bool
+would_be_candidate past x = is_candidate (facts_of (state_of_past past) x) (part_of_past past (facts_of (state_of_past past) x).partition)
 
 -- the latest moment that a sleeper waits for, twice that of the longest run
 abbrev pub last_wake : ℕ
@@ -70,13 +70,13 @@ abbrev pub WakesSoon : SchedulerState → Type 0
 WakesSoon s = (x : ℕ) → WakesAt (thread_at s x).state
 
 -- these are the ties, the tick, the usage in its window and the parts of the past
-pub record IsScene (past : Past) (knots : Ties) (j : ℕ) (billed : Usage) (facts : List PartFacts) : Type 0 where
-  pub tied : knots ≡ ties_of (state_in past)
+pub record IsSceneOfPast (past : Past) (knots : Ties) (j : ℕ) (billed : Usage) (facts : List PartFacts) : Type 0 where
+  pub tied : knots ≡ ties_of (state_of_past past)
   pub tick : j ≡ tick_in past
   pub early : j ≤ last_tick
   pub few : length past.entries ≤ most_entries
-  pub usage : IsUsage (state_in past).shape.tick (j + 1 - (state_in past).shape.window) (j + 1) past.entries billed
-  pub parts : facts ≡ parts_in past
+  pub usage : IsUsage (state_of_past past).shape.tick (j + 1 - (state_of_past past).shape.window) (j + 1) past.entries billed
+  pub parts : facts ≡ parts_of_past past
   pub small : All IsSmall facts
-  pub wakes : WakesSoon (state_in past)
-  pub known : IsInRange past.scenario (state_in past)
+  pub wakes : WakesSoon (state_of_past past)
+  pub known : IsInRange past.scenario (state_of_past past)

@@ -27,8 +27,8 @@ use Rattle.view_explain.specs.declared.deciding.Test.{Test}
 use Rattle.view_explain.specs.declared.deciding.Test.TheVariants.{Class, Priority, Fraction, Stamp}
 use Rattle.view_explain.specs.Again.{again}
 use Rattle.view_explain.specs.Because.{above, ahead_on, because}
-use Rattle.view_explain.specs.Chain.{explained}
-use Rattle.view_explain.specs.Past.{Past, merit_in, part_in, past_at, state_in, tick_in}
+use Rattle.view_explain.specs.Chain.{threads_explained}
+use Rattle.view_explain.specs.Past.{Past, merit_in, part_of_past, past_at, state_of_past, tick_in}
 
 -- ---- words
 
@@ -55,14 +55,14 @@ abbrev pub words_of : List (List ℕ) → List ℕ
 words_of words = join_with_byte 32 words ++ 32 ∷ []
 
 -- names
-abbrev pub thread_name : Past → ℕ → List ℕ
-thread_name past x = (thread_row past.scenario x).name
+abbrev pub name_of_thread : Past → ℕ → List ℕ
+name_of_thread past x = (thread_row past.scenario x).name
 
-abbrev pub row_name : Past → ℕ → List ℕ
-row_name past p = (row_at (state_in past) p).name
+abbrev pub name_of_partition : Past → ℕ → List ℕ
+name_of_partition past p = (row_at (state_of_past past) p).name
 
-abbrev pub channel_name : Past → ℕ → List ℕ
-channel_name past c = slice_index_or past.scenario.channels c []
+abbrev pub channel_name_in : Past → ℕ → List ℕ
+channel_name_in past c = slice_index_or past.scenario.channels c []
 
 -- ---- what each thread has
 
@@ -70,7 +70,7 @@ channel_name past c = slice_index_or past.scenario.channels c []
 -- same, else since that entry's end
 abbrev pub since_last : Past → List Segment → State → ℕ
 since_last past life st =
-    if goes_on life (doing_by (state_in past) st) then (last_of life).from else moment past.entries
+    if goes_on life (doing_by (state_of_past past) st) then (last_of life).from else moment past.entries
 
 -- since when a thread with this life does what it does at a moment; where the life ends before, since the last of these moments
 abbrev pub since : List Segment → ℕ → ℕ → ℕ
@@ -80,23 +80,23 @@ since (segment ∷ life) last at = if nat_le segment.from at && nat_lt at segmen
 -- a thread in this state since this moment
 abbrev pub head_by : Past → State → ℕ → ℕ → List ℕ
 head_by past st moment x = line_of (
-    codes "thread" ∷ decimal x ∷ thread_name past x ∷ codes "state" ∷ state_word st ∷ codes "since" ∷ decimal moment ∷ [])
+    codes "thread" ∷ decimal x ∷ name_of_thread past x ∷ codes "state" ∷ state_word st ∷ codes "since" ∷ decimal moment ∷ [])
 
-abbrev pub head_line : Past → List Segment → ℕ → ℕ → List ℕ
-head_line past life at x =
-    let st = (thread_at (state_in past) x).state in
+abbrev pub thread_head_line : Past → List Segment → ℕ → ℕ → List ℕ
+thread_head_line past life at x =
+    let st = (thread_at (state_of_past past) x).state in
     head_by past st (since life (since_last past life st) at) x
 
 -- these values, behind a word
-abbrev pub values_line : Past → List ℕ → Facts → List ℕ
-values_line past word facts = line_of (
-    word ∷ codes "partition" ∷ decimal facts.partition ∷ row_name past facts.partition
+abbrev pub facts_line : Past → List ℕ → Facts → List ℕ
+facts_line past word facts = line_of (
+    word ∷ codes "partition" ∷ decimal facts.partition ∷ name_of_partition past facts.partition
     ∷ codes "priority" ∷ decimal facts.priority ∷ codes "critical" ∷ yes_or_no facts.critical ∷ [])
 
 abbrev pub used_words : Past → ℕ → List ℕ
 used_words past p = words_of (
-    codes "partition" ∷ decimal p ∷ row_name past p
-    ∷ codes "used" ∷ decimal (window_used (state_in past).shape past.entries (tick_in past) p) ∷ [])
+    codes "partition" ∷ decimal p ∷ name_of_partition past p
+    ∷ codes "used" ∷ decimal (window_used (state_of_past past).shape past.entries (tick_in past) p) ∷ [])
 
 abbrev pub allowed_words : ℕ → Bool → List ℕ
 allowed_words allowance in_budget =
@@ -111,18 +111,18 @@ limits_line standing shut = line_of (codes "standing" ∷ yes_or_no standing ∷
 
 abbrev pub part_line : Past → ℕ → List ℕ
 part_line past p =
-    let s = state_in past in
+    let s = state_of_past past in
     used_words past p
-    ++ allowed_words (allowance s.shape (row_at s p).budget) (part_in past p).funded
+    ++ allowed_words (allowance s.shape (row_at s p).budget) (part_of_past past p).funded
     ++ critical_words (window_critical s.shape past.entries (tick_in past) p) (row_at s p).critical
-    ++ limits_line (part_in past p).standing (part_in past p).shut
+    ++ limits_line (part_of_past past p).standing (part_of_past past p).shut
 
 abbrev pub boundary_line : Option ℕ → List ℕ
 boundary_line boundary = line_of (codes "again" ∷ option_text boundary ∷ [])
 
 -- where the partition is out of budget, the boundary at which it is in budget again if nothing more is billed
 abbrev pub again_line : Past → ℕ → List ℕ
-again_line past p = if (part_in past p).funded then [] else boundary_line (again past p)
+again_line past p = if (part_of_past past p).funded then [] else boundary_line (again past p)
 
 abbrev pub class_line : ℕ → List ℕ
 class_line class = line_of (codes "class" ∷ decimal class ∷ [])
@@ -131,8 +131,8 @@ class_line class = line_of (codes "class" ∷ decimal class ∷ [])
 
 abbrev pub running_words : Past → ℕ → Pick → List ℕ
 running_words past c pick = words_of (
-    codes "cpu" ∷ decimal c ∷ codes "runs" ∷ decimal pick.thread ∷ thread_name past pick.thread
-    ∷ codes "billed" ∷ decimal pick.partition ∷ row_name past pick.partition ∷ [])
+    codes "cpu" ∷ decimal c ∷ codes "runs" ∷ decimal pick.thread ∷ name_of_thread past pick.thread
+    ∷ codes "billed" ∷ decimal pick.partition ∷ name_of_partition past pick.partition ∷ [])
 
 abbrev pub merit_words : Merit → ℕ → List ℕ
 merit_words merit next = words_of (
@@ -154,31 +154,31 @@ cpu_line_by past c next standing (Some pick) =
 -- what processor c does, beside the ready thread x
 abbrev pub cpu_line : Past → ℕ → ℕ → List ℕ
 cpu_line past x c =
-    cpu_line_by past c (due (state_in past) past.entries c) (ahead_on past x c) (cpu_at (state_in past) c).running
+    cpu_line_by past c (due (state_of_past past) past.entries c) (ahead_on past x c) (cpu_at (state_of_past past) c).running
 
 abbrev pub above_line : Past → Above → List ℕ
 above_line past above = line_of (
-    codes "ready" ∷ decimal above.thread ∷ thread_name past above.thread ∷ codes "ahead" ∷ test_word above.test ∷ [])
+    codes "ready" ∷ decimal above.thread ∷ name_of_thread past above.thread ∷ codes "ahead" ∷ test_word above.test ∷ [])
 
 abbrev pub rivals_text : Past → ℕ → List ℕ
 rivals_text past x =
     flat_map (cpu_line past x) (range_with_len 0 past.scenario.shape.cpus) ++ flat_map (above_line past) (above past x)
 
 -- the class of a thread that is ready or runs, and what else is ready or runs
-abbrev pub state_text : Past → ℕ → State → List ℕ
-state_text past x state.Ready = class_line (merit_in past x).class ++ rivals_text past x
-state_text past x (state.Running c) = class_line (merit_in past x).class
-state_text past x st = []
+abbrev pub class_and_rivals : Past → ℕ → State → List ℕ
+class_and_rivals past x state.Ready = class_line (merit_in past x).class ++ rivals_text past x
+class_and_rivals past x (state.Running c) = class_line (merit_in past x).class
+class_and_rivals past x st = []
 
 -- ---- the cause
 
 -- what a thread waits for at channel c, by this word
 abbrev pub channel_line : Past → List ℕ → ℕ → List ℕ
-channel_line past word c = line_of (codes "because" ∷ word ∷ codes "at" ∷ decimal c ∷ channel_name past c ∷ [])
+channel_line past word c = line_of (codes "because" ∷ word ∷ codes "at" ∷ decimal c ∷ channel_name_in past c ∷ [])
 
 abbrev pub because_line : Past → Because → List ℕ
 because_line past (Running c p critical) = line_of (
-    codes "because" ∷ codes "running" ∷ codes "cpu" ∷ decimal c ∷ codes "billed" ∷ decimal p ∷ row_name past p
+    codes "because" ∷ codes "running" ∷ codes "cpu" ∷ decimal c ∷ codes "billed" ∷ decimal p ∷ name_of_partition past p
     ∷ codes "critical" ∷ yes_or_no critical ∷ [])
 because_line past Shut = line_of (codes "because" ∷ codes "shut" ∷ [])
 because_line past (NotYet moment) = line_of (codes "because" ∷ codes "not_yet" ∷ codes "next" ∷ decimal moment ∷ [])
@@ -186,7 +186,7 @@ because_line past (Outranked running ready) = line_of (
     codes "because" ∷ codes "outranked" ∷ codes "by" ∷ decimal running ∷ codes "running" ∷ codes "and" ∷ decimal ready ∷ codes "ready" ∷ [])
 because_line past (Sleeping moment) = line_of (codes "because" ∷ codes "sleeping" ∷ codes "until" ∷ decimal moment ∷ [])
 because_line past (WaitsForReply y) = line_of (
-    codes "because" ∷ codes "waits_for_reply" ∷ codes "of" ∷ decimal y ∷ thread_name past y ∷ [])
+    codes "because" ∷ codes "waits_for_reply" ∷ codes "of" ∷ decimal y ∷ name_of_thread past y ∷ [])
 because_line past (WaitsForReceiver c) = channel_line past (codes "waits_for_receiver") c
 because_line past (WaitsForMessage c) = channel_line past (codes "waits_for_message") c
 because_line past Gone = line_of (codes "because" ∷ codes "gone" ∷ [])
@@ -194,35 +194,35 @@ because_line past Gone = line_of (codes "because" ∷ codes "gone" ∷ [])
 -- ---- the whole
 
 -- thread x, whose life is this
-abbrev pub thread_text : Past → ℕ → List Segment → ℕ → List ℕ
-thread_text past at life x =
-    let s = state_in past in
+abbrev pub explained_thread : Past → ℕ → List Segment → ℕ → List ℕ
+explained_thread past at life x =
+    let s = state_of_past past in
     let p = (facts_of s x).partition in
-    head_line past life at x
-    ++ values_line past (codes "own") (thread_at s x).own
-    ++ values_line past (codes "counts_as") (facts_of s x)
+    thread_head_line past life at x
+    ++ facts_line past (codes "own") (thread_at s x).own
+    ++ facts_line past (codes "counts_as") (facts_of s x)
     ++ part_line past p
     ++ again_line past p
-    ++ state_text past x (thread_at s x).state
+    ++ class_and_rivals past x (thread_at s x).state
     ++ because_line past (because past x)
 
 -- the same, by the lives of all
-abbrev pub thread_with : Past → ℕ → List (List Segment) → ℕ → List ℕ
-thread_with past at lives x = thread_text past at (slice_index_or lives x []) x
+abbrev pub thread_by_lives : Past → ℕ → List (List Segment) → ℕ → List ℕ
+thread_by_lives past at lives x = explained_thread past at (slice_index_or lives x []) x
 
 -- the same with its life in a history
 abbrev pub told_thread : Scenario → List Entry → ℕ → ℕ → List ℕ
-told_thread scenario h at x = thread_text (past_at scenario h at) at (life_of scenario h x) x
+told_thread scenario h at x = explained_thread (past_at scenario h at) at (life_of scenario h x) x
 
 abbrev pub moment_line : ℕ → List ℕ
 moment_line at = line_of (codes "at" ∷ decimal at ∷ [])
 
-abbrev pub end_line : ℕ → ℕ → List ℕ
-end_line at end = line_of (codes "at" ∷ decimal at ∷ codes "end" ∷ decimal end ∷ [])
+abbrev pub at_and_end_line : ℕ → ℕ → List ℕ
+at_and_end_line at end = line_of (codes "at" ∷ decimal at ∷ codes "end" ∷ decimal end ∷ [])
 
 -- the moment that was asked for, and the end of the history where the moment isn't before it
 abbrev pub at_line : ℕ → ℕ → List ℕ
-at_line at end = if nat_lt at end then moment_line at else end_line at end
+at_line at end = if nat_lt at end then moment_line at else at_and_end_line at end
 
 abbrev pub title_text : ℕ → ℕ → List ℕ
 title_text at end = codes "aps explain 1\n" ++ at_line at end
@@ -231,4 +231,4 @@ title_text at end = codes "aps explain 1\n" ++ at_line at end
 abbrev pub explain_text : Scenario → List Entry → ℕ → ℕ → List ℕ
 explain_text scenario h x at =
     title_text at (moment h)
-    ++ flat_map (told_thread scenario h at) (explained (past_at scenario h at) x)
+    ++ flat_map (told_thread scenario h at) (threads_explained (past_at scenario h at) x)

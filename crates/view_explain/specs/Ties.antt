@@ -17,14 +17,14 @@ pub record Ties : Type 0 where
 abbrev pub ties_of : SchedulerState → Ties
 ties_of s = record { messages = map (λ (c : ChannelNow). c.messages) s.channels; triples = s.triples }
 
-abbrev pub messages_at : Ties → ℕ → List Message
-messages_at ties c = slice_index_or ties.messages c []
+abbrev pub tied_messages_at : Ties → ℕ → List Message
+tied_messages_at ties c = slice_index_or ties.messages c []
 
-abbrev pub with_messages : Ties → ℕ → List Message → Ties
-with_messages ties c messages = record ties { messages = slice_set ties.messages c messages }
+abbrev pub ties_with_messages : Ties → ℕ → List Message → Ties
+ties_with_messages ties c messages = record ties { messages = slice_set ties.messages c messages }
 
-abbrev pub with_triple : Ties → ℕ → ℕ → ℕ → Ties
-with_triple ties server client channel =
+abbrev pub ties_with_triple : Ties → ℕ → ℕ → ℕ → Ties
+ties_with_triple ties server client channel =
     record ties { triples = (record { server = server; client = client; channel = channel }) ∷ ties.triples }
 
 abbrev pub without_triple : Ties → ℕ → Ties
@@ -38,17 +38,18 @@ newest_server (t ∷ older) c = if nat_eq t.channel c then Some t.server else ne
 -- ---- with one operation more
 
 -- the channel that an operation names, or 0
-abbrev pub channel_named : Op → ℕ
-channel_named (Send c) = c
-channel_named (Receive c) = c
-channel_named op = 0
+abbrev pub channel_of_operation : Op → ℕ
+channel_of_operation (Send c) = c
+channel_of_operation (Receive c) = c
+channel_of_operation op = 0
 
 -- thread x, which counts with this priority, did this at channel c, if it was at a channel
 abbrev pub after_done : Ties → ℕ → ℕ → ℕ → Done → Ties
 after_done ties x c priority SendBlocked =
-    with_messages ties c (messages_at ties c ++ (record { sender = x; priority = priority }) ∷ [])
-after_done ties x c priority (SendTo y) = with_triple ties y x c
-after_done ties x c priority (ReceiveGot y) = with_triple (with_messages ties c (without_sender y (messages_at ties c))) x y c
+    ties_with_messages ties c (tied_messages_at ties c ++ (record { sender = x; priority = priority }) ∷ [])
+after_done ties x c priority (SendTo y) = ties_with_triple ties y x c
+after_done ties x c priority (ReceiveGot y) =
+    ties_with_triple (ties_with_messages ties c (without_sender y (tied_messages_at ties c))) x y c
 after_done ties x c priority (ReplyFreed y) = without_triple ties x
 after_done ties x c priority Exit = without_triple ties x
 after_done ties x c priority done = ties
@@ -57,4 +58,4 @@ after_done ties x c priority done = ties
 abbrev pub after_ran : Scenario → SchedulerState → Ties → Option ℕ → Done → Ties
 after_ran scenario s ties None done = ties
 after_ran scenario s ties (Some x) done =
-    after_done ties x (channel_named (op_at scenario x (thread_at s x).place)) (facts_of s x).priority done
+    after_done ties x (channel_of_operation (op_at scenario x (thread_at s x).place)) (facts_of s x).priority done

@@ -100,7 +100,7 @@ impl Scene {
 
 /// That a thread runs on this processor, which keeps this pick.
 fn running_by(c: CpuId, pick: &Option<Pick>) -> Because
-    ensures { result ≡ spec.running_by c pick.now }
+    ensures { result ≡ spec.because_running c pick.now }
 {
     match pick {
         Some(pick) => Because::Running {

@@ -27,9 +27,9 @@ impl Model for Chain {
 impl Chain {
     /// Goes on by the next thread, if there is one and it isn't told already.
     fn go_on(&mut self, scene: &Scene) -> Result<(), NoMemory>
-        requires { spec.IsKnown scene.now self.old }
-        ensures same { OnOk result (self.new ≡ spec.gone_on scene.now self.old.told self.old.next) }
-        ensures known { OnOk result (spec.IsKnown scene.now self.new) }
+        requires { spec.HasKnownThreads scene.now self.old }
+        ensures same { OnOk result (self.new ≡ spec.chain_gone_on scene.now self.old.told self.old.next) }
+        ensures known { OnOk result (spec.HasKnownThreads scene.now self.new) }
     {
         let Some(x) = self.next else {
             return Ok(());
@@ -54,7 +54,7 @@ impl Chain {
 /// The thread, the server that it waits for, and so on, each once. `NoMemory` comes where memory runs out.
 pub fn explained(alloc: Global, scene: &Scene, x: ThreadId) -> Result<Vec<ThreadId>, NoMemory>
     requires { x < length scene.now.scenario.threads }
-    ensures same { IfOk result (λ told. told.items ≡ spec.explained scene.now x) }
+    ensures same { IfOk result (λ told. told.items ≡ spec.threads_explained scene.now x) }
     ensures known { IfOk result (λ told. All (λ y. y < length scene.now.scenario.threads) told.items) }
 {
     let mut chain = Chain {

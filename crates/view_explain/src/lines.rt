@@ -63,7 +63,7 @@ pub fn add_values(
     word: &str,
     facts: &Facts,
 ) -> Result<(), NoMemory>
-    ensures { OnOk result (string_bytes out.new ≡ string_bytes out.old ++ spec.values_line scene.now word.now facts.now) }
+    ensures { OnOk result (string_bytes out.new ≡ string_bytes out.old ++ spec.facts_line scene.now word.now facts.now) }
 {
     let p = facts.partition.index();
     let name = scene.row_name(facts.partition);
@@ -144,7 +144,7 @@ pub fn add_state(
     x: ThreadId,
     state: &State,
 ) -> Result<(), NoMemory>
-    ensures { OnOk result (string_bytes out.new ≡ string_bytes out.old ++ spec.state_text scene.now x state.now) }
+    ensures { OnOk result (string_bytes out.new ≡ string_bytes out.old ++ spec.class_and_rivals scene.now x state.now) }
 {
     match state {
         State::Ready => {

@@ -4,8 +4,8 @@ ghost use Rattle.aps_model.specs.History.{IsEntry};
 ghost use Rattle.aps_model.specs.Legal.{IsLegal};
 ghost use Rattle.aps_model.specs.Valid.{IsScenario};
 ghost use Rattle.laws_runs.specs.Moments.{moment};
-ghost use Rattle.aps_core.specs.Run.{state_of};
-ghost use Rattle.aps_core.specs.Turn.{IsTaken, with_entry};
+ghost use Rattle.aps_core.specs.Run.{state_of_run};
+ghost use Rattle.aps_core.specs.Turn.{IsTurnTaken, with_entry};
 ghost use Rattle.view_lives.specs.Whole.{until};
 ghost use Rattle.view_explain.specs.Past.{past_at};
 ghost use Rattle.view_explain.specs.Ties.{ties_of};
@@ -48,7 +48,7 @@ fn scene_of(
 ) -> Result<Scene, NoMemory>
     requires valid { IsScenario core.setup.scenario }
     requires begins { core.entries ≡ [] }
-    requires tied { ties ≡ ties_of (state_of core) }
+    requires tied { ties ≡ ties_of (state_of_run core) }
     requires entries { All IsEntry entries.now }
     requires legal { IsLegal core.setup.scenario core.setup.order entries.now }
     requires few { length entries.now ≤ core.setup.limit }
@@ -76,12 +76,12 @@ fn ended_by(entries: &[Entry], at: Nanos) -> usize
 fn retrace(core: &mut Core, ties: &mut Ties, entries: &[Entry]) -> Result<Nanos, NoMemory>
     requires valid { IsScenario core.old.setup.scenario }
     requires begins { core.old.entries ≡ [] }
-    requires tied { ties.old ≡ ties_of (state_of core.old) }
+    requires tied { ties.old ≡ ties_of (state_of_run core.old) }
     requires entries { All IsEntry entries.now }
     requires legal { IsLegal core.old.setup.scenario core.old.setup.order entries.now }
     requires few { length entries.now ≤ core.old.setup.limit }
     ensures run { OnOk result (core.new ≡ record core.old { entries = entries.now }) }
-    ensures tied { OnOk result (ties.new ≡ ties_of (state_of core.new)) }
+    ensures tied { OnOk result (ties.new ≡ ties_of (state_of_run core.new)) }
     ensures last { IfOk result (λ last. last ≡ moment entries.now) }
     ensures early { IfOk result (λ last. last ≤ last_moment) }
 {
@@ -97,7 +97,7 @@ fn retrace(core: &mut Core, ties: &mut Ties, entries: &[Entry]) -> Result<Nanos,
 /// The core makes the step of which this is the entry.
 fn step(core: &mut Core, e: &Entry)
     requires exists { e.now.cpu < core.old.setup.scenario.shape.cpus }
-    requires taken { IsTaken core.old e.now.cpu e.now }
+    requires taken { IsTurnTaken core.old e.now.cpu e.now }
     ensures { core.new ≡ with_entry core.old e.now }
 {
     let _turn = core.step(e.cpu);

@@ -13,9 +13,9 @@ ghost use Rattle.aps_model.specs.Sums.{IsAtMost, IsUsage};
 ghost use Rattle.aps_model.specs.Usage.{window_critical, window_used};
 ghost use Rattle.laws_runs.specs.Ids.{IsInRange, NamesKnown};
 ghost use Rattle.laws_runs.specs.Moments.{moment};
-ghost use Rattle.aps_core.specs.Run.{state_of};
+ghost use Rattle.aps_core.specs.Run.{state_of_run};
 ghost use Rattle.aps_core.specs.Small.{IsSmall};
-ghost use Rattle.view_lives.specs.Doing.{doing_by, is_same};
+ghost use Rattle.view_lives.specs.Doing.{doing_by, is_same_doing};
 ghost use Rattle.view_explain.specs.Past as spec;
 ghost use Rattle.view_explain.specs.Parts.{part_by, part_by_row};
 ghost use Rattle.view_explain.specs.Ties.{newest_server, ties_of};
@@ -44,19 +44,19 @@ pub struct Scene {
 }
 
 impl Model for Scene {
-    ghost use Rattle.view_explain.specs.Past.{IsScene, Past, past_of};
+    ghost use Rattle.view_explain.specs.Past.{IsSceneOfPast, Past, past_of};
 
     ghost Value = { Past };
 
     ghost view = { λ s. past_of s.core };
 
-    ghost invariant = { λ s. IsScene (past_of s.core) s.ties s.tick s.usage s.parts.items };
+    ghost invariant = { λ s. IsSceneOfPast (past_of s.core) s.ties s.tick s.usage s.parts.items };
 }
 
 impl Scene {
     /// The scene of this core, whose last entry ends at this moment (ns), or 0 where it has none.
     pub fn of(alloc: Global, core: Core, ties: Ties, last: Nanos) -> Result<Scene, NoMemory>
-        requires tied { ties ≡ ties_of (state_of core) }
+        requires tied { ties ≡ ties_of (state_of_run core) }
         requires last { last ≡ moment core.entries }
         requires early { last ≤ last_moment }
         requires few { length core.entries ≤ most_entries }
@@ -83,7 +83,7 @@ impl Scene {
 
     /// The sizes and the policies as they stand.
     pub fn shape(&self) -> &Shape
-        ensures same { result.now ≡ (spec.state_in self.now).shape }
+        ensures same { result.now ≡ (spec.state_of_past self.now).shape }
         ensures fits { IsShape result.now }
     {
         self.core.history().shape()
@@ -91,7 +91,7 @@ impl Scene {
 
     /// The rows as they stand.
     pub fn rows(&self) -> &[PartitionRow]
-        ensures same { result.now ≡ (spec.state_in self.now).rows }
+        ensures same { result.now ≡ (spec.state_of_past self.now).rows }
         ensures fit { All IsRow result.now }
     {
         self.core.history().rows()
@@ -116,28 +116,28 @@ impl Scene {
 
     /// What the partition used in the window of that tick (ns).
     pub fn used(&self, p: PartitionId) -> Nanos
-        ensures { result ≡ window_used (spec.state_in self.now).shape self.now.entries (spec.tick_in self.now) p }
+        ensures { result ≡ window_used (spec.state_of_past self.now).shape self.now.entries (spec.tick_in self.now) p }
     {
         self.usage.used[p.index()]
     }
 
     /// What of that was critical (ns).
     pub fn critical_used(&self, p: PartitionId) -> Nanos
-        ensures { result ≡ window_critical (spec.state_in self.now).shape self.now.entries (spec.tick_in self.now) p }
+        ensures { result ≡ window_critical (spec.state_of_past self.now).shape self.now.entries (spec.tick_in self.now) p }
     {
         self.usage.critical[p.index()]
     }
 
     /// What the partition's budget allows in a window (ns).
     pub fn allowance(&self, p: PartitionId) -> Nanos
-        ensures { result ≡ allowance (spec.state_in self.now).shape (row_at (spec.state_in self.now) p).budget }
+        ensures { result ≡ allowance (spec.state_of_past self.now).shape (row_at (spec.state_of_past self.now) p).budget }
     {
         allowance(self.shape(), self.budget(p))
     }
 
     /// The partition's budget (parts); 0 where there is no such partition.
     pub fn budget(&self, p: PartitionId) -> u16
-        ensures same { result ≡ (row_at (spec.state_in self.now) p).budget }
+        ensures same { result ≡ (row_at (spec.state_of_past self.now) p).budget }
         ensures few { result ≤ thousandths }
     {
         match self.rows().get(p.index()) {
@@ -148,7 +148,7 @@ impl Scene {
 
     /// The partition's critical budget (ns); 0 where there is no such partition.
     pub fn critical_budget(&self, p: PartitionId) -> Nanos
-        ensures { result ≡ (row_at (spec.state_in self.now) p).critical }
+        ensures { result ≡ (row_at (spec.state_of_past self.now) p).critical }
     {
         match self.rows().get(p.index()) {
             Some(row) => row.critical,
@@ -158,7 +158,7 @@ impl Scene {
 
     /// The thread as it stands.
     pub fn thread(&self, x: ThreadId) -> ThreadNow
-        ensures same { result ≡ thread_at (spec.state_in self.now) x }
+        ensures same { result ≡ thread_at (spec.state_of_past self.now) x }
         ensures wakes { spec.WakesAt result.state }
         ensures known { NamesKnown self.now.scenario result.state }
     {
@@ -167,7 +167,7 @@ impl Scene {
 
     /// Whether a thread in this state does this.
     pub fn does(&self, state: &State, doing: &Doing) -> bool
-        ensures { result ≡ is_same doing.now (doing_by (spec.state_in self.now) state.now) }
+        ensures { result ≡ is_same_doing doing.now (doing_by (spec.state_of_past self.now) state.now) }
     {
         does(&self.core, state, doing)
     }
@@ -181,7 +181,7 @@ impl Scene {
 
     /// The processor as it stands.
     pub fn cpu(&self, c: CpuId) -> CpuNow
-        ensures { result ≡ cpu_at (spec.state_in self.now) c }
+        ensures { result ≡ cpu_at (spec.state_of_past self.now) c }
     {
         self.core.cpu(c)
     }
@@ -189,21 +189,21 @@ impl Scene {
     /// When the processor steps next (ns).
     pub fn due(&self, c: CpuId) -> Nanos
         requires { c < self.now.scenario.shape.cpus }
-        ensures { result ≡ due (spec.state_in self.now) self.now.entries c }
+        ensures { result ≡ due (spec.state_of_past self.now) self.now.entries c }
     {
         self.core.due(c)
     }
 
     /// The values that the thread is scheduled and billed by.
     pub fn facts_of(&self, x: ThreadId) -> Facts
-        ensures { result ≡ facts_of (spec.state_in self.now) x }
+        ensures { result ≡ facts_of (spec.state_of_past self.now) x }
     {
         self.ties.facts_of(&self.core, x)
     }
 
     /// The server that took a message from the channel last, and still works for its sender.
     pub fn newest_server(&self, c: ChannelId) -> Option<ThreadId>
-        ensures same { result ≡ newest_server (spec.state_in self.now).triples c }
+        ensures same { result ≡ newest_server (spec.state_of_past self.now).triples c }
         ensures known { IfSome result (λ server. server < length self.now.scenario.threads) }
     {
         self.ties.newest_server(c)
@@ -211,7 +211,7 @@ impl Scene {
 
     /// How the partition stands.
     pub fn part(&self, p: PartitionId) -> PartFacts
-        ensures same { result ≡ spec.part_in self.now p }
+        ensures same { result ≡ spec.part_of_past self.now p }
         ensures small { IsSmall result }
     {
         part_at(self.parts.as_slice(), p)
@@ -229,7 +229,7 @@ impl Scene {
 
     /// Whether the thread would be a candidate if it were ready.
     pub fn is_open(&self, x: ThreadId) -> bool
-        ensures { result ≡ spec.is_open self.now x }
+        ensures { result ≡ spec.would_be_candidate self.now x }
     {
         let facts = self.facts_of(x);
         is_candidate(facts, &self.part(facts.partition))
@@ -249,10 +249,10 @@ pub fn end_of(entries: &[Entry]) -> Nanos
 /// The tick of a moment.
 fn tick_of(core: &Core, moment: Nanos) -> u64
     requires { moment ≤ last_moment }
-    ensures same { result ≡ moment / (state_of core.now).shape.tick }
+    ensures same { result ≡ moment / (state_of_run core.now).shape.tick }
     ensures early { result ≤ last_tick }
-    ensures wakes { spec.WakesSoon (state_of core.now) }
-    ensures known { IsInRange core.now.setup.scenario (state_of core.now) }
+    ensures wakes { spec.WakesSoon (state_of_run core.now) }
+    ensures known { IsInRange core.now.setup.scenario (state_of_run core.now) }
 {
     moment / core.history().shape().tick
 }
@@ -270,7 +270,7 @@ fn allowance(shape: &Shape, budget: u16) -> Nanos
 fn usage_at(core: &Core, tick: u64) -> Usage
     requires early { tick ≤ last_tick }
     requires few { length core.now.entries ≤ most_entries }
-    ensures same { IsUsage (state_of core.now).shape.tick (tick + 1 - (state_of core.now).shape.window) (tick + 1) core.now.entries result }
+    ensures same { IsUsage (state_of_run core.now).shape.tick (tick + 1 - (state_of_run core.now).shape.window) (tick + 1) core.now.entries result }
     ensures small { IsAtMost most_used result }
 {
     let history = core.history();
@@ -284,9 +284,9 @@ fn usage_at(core: &Core, tick: u64) -> Usage
 fn parts_of(alloc: Global, core: &Core, usage: &Usage) -> Result<Vec<PartFacts>, NoMemory>
     requires { IsAtMost most_used usage.now }
     ensures same { IfOk result (λ parts. parts.items
-        ≡ map (part_by (state_of core.now).shape (state_of core.now).rows usage.now) (range_with_len 0 (length (state_of core.now).rows))) }
+        ≡ map (part_by (state_of_run core.now).shape (state_of_run core.now).rows usage.now) (range_with_len 0 (length (state_of_run core.now).rows))) }
     ensures small { IfOk result (λ parts. All IsSmall parts.items) }
-    ensures few { length (state_of core.now).rows ≤ most_partitions }
+    ensures few { length (state_of_run core.now).rows ≤ most_partitions }
 {
     let history = core.history();
     let shape = history.shape();

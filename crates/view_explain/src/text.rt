@@ -2,7 +2,7 @@
 ghost use Rattle.std.specs.Prelude.{◌≡◌, ◌<◌, ◌≤◌, ◌++◌, All, length, string_bytes, IfOk, OnOk};
 ghost use Rattle.std.specs.List.{flat_map};
 ghost use Rattle.aps_model.specs.Legal.{IsLegal};
-ghost use Rattle.view_explain.specs.Chain.{explained};
+ghost use Rattle.view_explain.specs.Chain.{threads_explained};
 ghost use Rattle.view_explain.specs.Text as spec;
 ghost use Rattle.aps_model.specs.Limits.{most_entries};
 
@@ -51,8 +51,8 @@ fn tell(
     requires lives { length lives.now.items ≡ length scene.now.scenario.threads }
     requires thread { thread < length scene.now.scenario.threads }
     ensures text { IfOk result (λ text. string_bytes text
-        ≡ spec.title_text at end ++ flat_map (spec.thread_with scene.now at lives.now.items) (explained scene.now thread)) }
-    ensures known { OnOk result (All (λ x. x < length scene.now.scenario.threads) (explained scene.now thread)) }
+        ≡ spec.title_text at end ++ flat_map (spec.thread_by_lives scene.now at lives.now.items) (threads_explained scene.now thread)) }
+    ensures known { OnOk result (All (λ x. x < length scene.now.scenario.threads) (threads_explained scene.now thread)) }
 {
     let told = explained(alloc, scene, thread)?;
     let mut out = String::new(alloc);
@@ -86,7 +86,7 @@ fn add_moment(out: &mut String, at: Nanos) -> Result<(), NoMemory>
 }
 
 fn add_end(out: &mut String, at: Nanos, end: Nanos) -> Result<(), NoMemory>
-    ensures { OnOk result (string_bytes out.new ≡ string_bytes out.old ++ spec.end_line at end) }
+    ensures { OnOk result (string_bytes out.new ≡ string_bytes out.old ++ spec.at_and_end_line at end) }
 {
     write!(out, "at {at} end {end}\n")
 }
@@ -101,7 +101,7 @@ fn add_threads(
 ) -> Result<(), NoMemory>
     requires known { All (λ x. x < length lives.now.items) told.now }
     ensures { OnOk result (string_bytes out.new
-        ≡ string_bytes out.old ++ flat_map (spec.thread_with scene.now at lives.now.items) told.now) }
+        ≡ string_bytes out.old ++ flat_map (spec.thread_by_lives scene.now at lives.now.items) told.now) }
 {
     for x in told {
         add_thread(alloc, out, scene, &lives[x.index()], *x, at)?;
@@ -118,7 +118,7 @@ fn add_thread(
     x: ThreadId,
     at: Nanos,
 ) -> Result<(), NoMemory>
-    ensures { OnOk result (string_bytes out.new ≡ string_bytes out.old ++ spec.thread_text scene.now at life.now x) }
+    ensures { OnOk result (string_bytes out.new ≡ string_bytes out.old ++ spec.explained_thread scene.now at life.now x) }
 {
     let thread = scene.thread(x);
     let facts = scene.facts_of(x);

@@ -5,7 +5,7 @@ ghost use Rattle.aps_model.specs.Inherit.{facts_of, top_of};
 ghost use Rattle.aps_model.specs.Messages.{without_sender};
 ghost use Rattle.aps_model.specs.Scenario.{op_at};
 ghost use Rattle.aps_model.specs.SchedulerState.{thread_at};
-ghost use Rattle.aps_core.specs.Run.{state_of};
+ghost use Rattle.aps_core.specs.Run.{state_of_run};
 ghost use Rattle.view_explain.specs.Leads.{lead, top_in};
 ghost use Rattle.view_explain.specs.Ties as spec;
 
@@ -138,8 +138,8 @@ impl Ties {
     /// The entry, which is the core's next one, is over: what its thread did ties or frees others. `NoMemory` leaves the ties
     /// in no state of use.
     pub fn go_on(&mut self, core: &Core, e: &Entry) -> Result<(), NoMemory>
-        requires tied { self.old ≡ spec.ties_of (state_of core.now) }
-        ensures { OnOk result (self.new ≡ spec.after_ran core.now.setup.scenario (state_of core.now) self.old e.now.ran e.now.done) }
+        requires tied { self.old ≡ spec.ties_of (state_of_run core.now) }
+        ensures { OnOk result (self.new ≡ spec.after_ran core.now.setup.scenario (state_of_run core.now) self.old e.now.ran e.now.done) }
     {
         let Some(x) = e.ran else {
             return Ok(());
@@ -151,8 +151,8 @@ impl Ties {
 
     /// The values that the thread is scheduled and billed by.
     pub fn facts_of(&self, core: &Core, x: ThreadId) -> Facts
-        requires { self.now ≡ spec.ties_of (state_of core.now) }
-        ensures { result ≡ facts_of (state_of core.now) x }
+        requires { self.now ≡ spec.ties_of (state_of_run core.now) }
+        ensures { result ≡ facts_of (state_of_run core.now) x }
     {
         let (last, priority) = self.lead(x);
         let own = core.thread(last).own;
@@ -232,7 +232,7 @@ impl Ties {
     }
 
     fn add_message(&mut self, c: ChannelId, m: Message) -> Result<(), NoMemory>
-        ensures { OnOk result (self.new ≡ spec.with_messages self.old c (spec.messages_at self.old c ++ m ∷ [])) }
+        ensures { OnOk result (self.new ≡ spec.ties_with_messages self.old c (spec.tied_messages_at self.old c ++ m ∷ [])) }
     {
         let c = c.index();
         if c < self.queues.len() {
@@ -242,7 +242,7 @@ impl Ties {
     }
 
     fn remove_message(&mut self, c: ChannelId, sender: ThreadId)
-        ensures { self.new ≡ spec.with_messages self.old c (without_sender sender (spec.messages_at self.old c)) }
+        ensures { self.new ≡ spec.ties_with_messages self.old c (without_sender sender (spec.tied_messages_at self.old c)) }
     {
         let c = c.index();
         if c < self.queues.len() {
@@ -256,7 +256,7 @@ impl Ties {
         client: ThreadId,
         channel: ChannelId,
     ) -> Result<(), NoMemory>
-        ensures { OnOk result (self.new ≡ spec.with_triple self.old server client channel) }
+        ensures { OnOk result (self.new ≡ spec.ties_with_triple self.old server client channel) }
     {
         self.triples.insert(
             0,
@@ -285,7 +285,7 @@ impl Ties {
 
 /// The operation at the thread's place.
 fn op_of(core: &Core, x: ThreadId) -> Op
-    ensures { result ≡ op_at core.now.setup.scenario x (thread_at (state_of core.now) x).place }
+    ensures { result ≡ op_at core.now.setup.scenario x (thread_at (state_of_run core.now) x).place }
 {
     let place = core.thread(x).place as usize;
     match core.history().scenario().threads().get(x.index()) {
@@ -305,7 +305,7 @@ fn op_in(ops: &[Op], place: usize) -> Op
 
 /// The channel that an operation names, or the first.
 fn channel_named(op: &Op) -> ChannelId
-    ensures { result ≡ spec.channel_named op.now }
+    ensures { result ≡ spec.channel_of_operation op.now }
 {
     match op {
         Op::Send(c) | Op::Receive(c) => *c,

@@ -40,7 +40,7 @@ pub fn test_word(test: &Test) -> &'static str
 
 impl Scene {
     pub fn thread_name(&self, x: ThreadId) -> &str
-        ensures { result.now ≡ spec.thread_name self.now x }
+        ensures { result.now ≡ spec.name_of_thread self.now x }
     {
         match self.scenario().threads().get(x.index()) {
             Some(row) => text_of(&row.name),
@@ -49,7 +49,7 @@ impl Scene {
     }
 
     pub fn row_name(&self, p: PartitionId) -> &str
-        ensures { result.now ≡ spec.row_name self.now p }
+        ensures { result.now ≡ spec.name_of_partition self.now p }
     {
         match self.rows().get(p.index()) {
             Some(row) => text_of(&row.name),
@@ -58,7 +58,7 @@ impl Scene {
     }
 
     pub fn channel_name(&self, c: ChannelId) -> &str
-        ensures { result.now ≡ spec.channel_name self.now c }
+        ensures { result.now ≡ spec.channel_name_in self.now c }
     {
         match self.scenario().channels().get(c.index()) {
             Some(name) => text_of(name),

@@ -8,7 +8,7 @@ use Rattle.aps_model.specs.declared.usage.Usage.{Usage}
 use Rattle.aps_model.specs.Limits.{longest_tick, most_partitions, most_threads}
 use Rattle.aps_model.specs.Report.{length_of}
 use Rattle.aps_model.specs.Sums.{IsAtMost}
-use Rattle.view_latency.specs.Bills.{AreBilled, AreBills, billed_in, critical_in, no_bills}
+use Rattle.view_latency.specs.Bills.{AreBilled, AreBills, billed_in_entry, critical_in_entry, no_bills}
 
 -- what is at most so much is at most more
 pub at_most_more : (n m : ℕ) (usage : Usage) → n ≤ m → IsAtMost n usage → IsAtMost m usage
@@ -46,9 +46,9 @@ pub bills_more : (h : List Entry) (e : Entry) (before after : List Usage) → Ar
 bills_more h e before after are billed = record {
   count = billed.count ∙ are.count;
   each = λ x p less below.
-      billed.each x p less below ∙ ap (λ n. n + billed_in x p e) (are.each x p less below) ∙ sym (sum_by_push (billed_in x p) h e);
+      billed.each x p less below ∙ ap (λ n. n + billed_in_entry x p e) (are.each x p less below) ∙ sym (sum_by_push (billed_in_entry x p) h e);
   critical = λ x p less below.
-      billed.critical x p less below ∙ ap (λ n. n + critical_in x p e) (are.critical x p less below) ∙ sym (sum_by_push (critical_in x p) h e);
+      billed.critical x p less below ∙ ap (λ n. n + critical_in_entry x p e) (are.critical x p less below) ∙ sym (sum_by_push (critical_in_entry x p) h e);
 }
 
 pub small_more : (i : ℕ) (e : Entry) (before after : List Usage) → length_of e ≤ longest_tick → AreBilled before e after

@@ -4,18 +4,18 @@ use Rattle.std.proofs.lemmas.List.{append-nil, get_or-replicate, length-replicat
 use Rattle.aps_model.specs.declared.entry.Entry.{Entry}
 use Rattle.aps_model.specs.After.{state_after}
 use Rattle.aps_model.specs.Scenario.{Scenario}
-use Rattle.view_latency.specs.Calls.{AreCalls, AreLonger, Calls, calls_from, calls_of, no_calls, with_next}
+use Rattle.view_latency.specs.Calls.{AreCalls, AreLongerCalls, Calls, calls_from, calls_of, no_calls, calls_with_entry}
 
 from_more : (scenario : Scenario) (x : ℕ) (calls : Calls) (before es : List Entry) (e : Entry)
-    → calls_from scenario x calls before (es ++ e ∷ []) ≡ with_next scenario (state_after scenario (before ++ es)) x (calls_from scenario x calls before es) e
-from_more scenario x calls before [] e = ap (λ h. with_next scenario (state_after scenario h) x calls e) (sym (append-nil before))
+    → calls_from scenario x calls before (es ++ e ∷ []) ≡ calls_with_entry scenario (state_after scenario (before ++ es)) x (calls_from scenario x calls before es) e
+from_more scenario x calls before [] e = ap (λ h. calls_with_entry scenario (state_after scenario h) x calls e) (sym (append-nil before))
 from_more scenario x calls before (d ∷ es) e =
-    let longer = with_next scenario (state_after scenario before) x calls d in
+    let longer = calls_with_entry scenario (state_after scenario before) x calls d in
     from_more scenario x longer (before ++ d ∷ []) es e
-    ∙ ap (λ h. with_next scenario (state_after scenario h) x (calls_from scenario x longer (before ++ d ∷ []) es) e) (append_assoc before (d ∷ []) es)
+    ∙ ap (λ h. calls_with_entry scenario (state_after scenario h) x (calls_from scenario x longer (before ++ d ∷ []) es) e) (append_assoc before (d ∷ []) es)
 
 pub calls_more : (scenario : Scenario) (h : List Entry) (e : Entry) (x : ℕ)
-    → calls_of scenario (h ++ e ∷ []) x ≡ with_next scenario (state_after scenario h) x (calls_of scenario h x) e
+    → calls_of scenario (h ++ e ∷ []) x ≡ calls_with_entry scenario (state_after scenario h) x (calls_of scenario h x) e
 unfolding calls_of
 calls_more scenario h e x = from_more scenario x no_calls [] h e
 
@@ -27,11 +27,11 @@ all_none scenario calls is = record {
 }
 
 pub all_more : (scenario : Scenario) (h : List Entry) (e : Entry) (before after : List Calls) → AreCalls scenario h before
-    → AreLonger scenario (state_after scenario h) e before after → AreCalls scenario (h ++ e ∷ []) after
+    → AreLongerCalls scenario (state_after scenario h) e before after → AreCalls scenario (h ++ e ∷ []) after
 all_more scenario h e before after are longer = record {
   count = longer.count ∙ are.count;
   each = λ x less.
       let count = are.count in
-      longer.each x (omega (arith, count, less)) ∙ ap (λ calls. with_next scenario (state_after scenario h) x calls e) (are.each x less)
+      longer.each x (omega (arith, count, less)) ∙ ap (λ calls. calls_with_entry scenario (state_after scenario h) x calls e) (are.each x less)
       ∙ sym (calls_more scenario h e x);
 }

@@ -22,7 +22,7 @@ use Rattle.view_latency.specs.declared.call.Asked.{Asked}
 use Rattle.view_latency.specs.declared.news.News.{News}
 use Rattle.view_latency.specs.declared.news.News.TheVariants.{Nothing, Sent, Taken, Served, Answered}
 use Rattle.view_latency.specs.News.{is_send, news_in, news_of, news_of_taking, sent_by, served, taken_if, time_of}
-use Rattle.view_latency.specs.Calls.{AreCalls, Calls, HaveRoom, HasRoom, calls_from, calls_of, no_calls, served_for, taken_at, with_news, with_next}
+use Rattle.view_latency.specs.Calls.{AreCalls, Calls, CallsHaveRoom, HasRoomInCall, calls_from, calls_of, no_calls, served_for, taken_at, with_news, calls_with_entry}
 
 -- ---- no entry tells of more time than its own
 
@@ -89,18 +89,18 @@ from_small scenario x n calls h (e ∷ es) entries small =
     let s = state_after scenario h in
     let time = time_in scenario x (thread_at s x).place (thread_at s x).state e in
     let short = entries.0.short in
-    let next = with_next scenario s x calls e in
+    let next = calls_with_entry scenario s x calls e in
     let here : IsServedAtMost (n + longest_tick) next.current = news_small n longest_tick calls e.to (news_of scenario s x e) (omega (arith, time, short)) small in
     at_most_more (n + longest_tick + length es * longest_tick) (n + length (e ∷ es) * longest_tick) (calls_from scenario x next (h ++ e ∷ []) es).current (omega arith)
     (from_small scenario x (n + longest_tick) next (h ++ e ∷ []) es entries.1 here)
 
-pub calls_small : (scenario : Scenario) (h : List Entry) (x : ℕ) → All IsEntry h → length h ≤ most_entries → HasRoom (calls_of scenario h x).current
+pub calls_small : (scenario : Scenario) (h : List Entry) (x : ℕ) → All IsEntry h → length h ≤ most_entries → HasRoomInCall (calls_of scenario h x).current
 unfolding calls_of
 calls_small scenario h x entries few =
     at_most_more (0 + length h * longest_tick) 9223372036854775808 (calls_from scenario x no_calls [] h).current (omega (arith, few))
     (from_small scenario x 0 no_calls [] h (recursion_from_All IsEntry h entries) tt)
 
-pub have_room : (scenario : Scenario) (h : List Entry) (calls : List Calls) → AreCalls scenario h calls → All IsEntry h → length h ≤ most_entries → HaveRoom calls
+pub have_room : (scenario : Scenario) (h : List Entry) (calls : List Calls) → AreCalls scenario h calls → All IsEntry h → length h ≤ most_entries → CallsHaveRoom calls
 have_room scenario h calls are entries few =
     λ x less. let count = are.count in
-    subst (λ (c : Calls). HasRoom c.current) (sym (are.each x (omega (arith, less, count)))) (calls_small scenario h x entries few)
+    subst (λ (c : Calls). HasRoomInCall c.current) (sym (are.each x (omega (arith, less, count)))) (calls_small scenario h x entries few)

@@ -6,7 +6,7 @@ use Rattle.aps_model.specs.declared.scenario.ThreadRow.{ThreadRow}
 use Rattle.aps_model.specs.Limits.{most_partitions, most_threads}
 use Rattle.aps_model.specs.Scenario.{Scenario}
 use Rattle.view_latency.specs.Bills.{AreBills, bill_at, billed_time}
-use Rattle.view_latency.specs.Text.{HasPlaces, IsKnown, Known, bill_line, bill_lines, thread_text, thread_with}
+use Rattle.view_latency.specs.Text.{HasPlaces, IsKnown, Known, bill_line, bill_lines, thread_latency_text, thread_by_known}
 use Rattle.view_latency.proofs.Pieces.{pieces_same}
 
 bills_same : (h : List Entry) (known : Known) (x : ℕ) → AreBills h known.bills → x < most_threads → bill_lines (bill_at known.bills x) ≡ bill_lines (billed_time h x)
@@ -16,7 +16,7 @@ bills_same h known x are less =
 
 pub lines_same : (scenario : Scenario) (h : List Entry) (known : Known) → IsKnown scenario h known → length scenario.threads ≤ most_threads
     → (n : ℕ) (rows : List ThreadRow) → n + length rows ≤ length scenario.threads
-    → flat_map (thread_with scenario.channels known) (enumerate_from n rows) ≡ flat_map (thread_text scenario h) (enumerate_from n rows)
+    → flat_map (thread_by_known scenario.channels known) (enumerate_from n rows) ≡ flat_map (thread_latency_text scenario h) (enumerate_from n rows)
 lines_same scenario h known is few n [] room = refl
 lines_same scenario h known is few n (row ∷ rows) room =
     rw (is.end, is.lives.each n (omega arith), is.calls.each n (omega arith), bills_same h known n is.bills (omega arith), lines_same scenario h known is few (n + 1) rows (omega arith)) refl

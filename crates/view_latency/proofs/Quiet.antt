@@ -16,7 +16,7 @@ use Rattle.laws_runs.specs.ThreadFits.{IsThreadFit, StandsAt}
 use Rattle.view_latency.specs.declared.news.News.{News}
 use Rattle.view_latency.specs.declared.news.News.TheVariants.{Nothing}
 use Rattle.view_latency.specs.Callers.{AreCallers, AreCallersBelow, caller_at, is_send_op, may_call}
-use Rattle.view_latency.specs.Calls.{AreLonger, Calls, no_calls, with_next, with_news}
+use Rattle.view_latency.specs.Calls.{AreLongerCalls, Calls, no_calls, calls_with_entry, with_news}
 use Rattle.view_latency.specs.News.{is_send, news_in, news_of, sent_by}
 
 -- ---- the list of them
@@ -140,7 +140,7 @@ quiet scenario rows x s e is_none fit =
 
 -- so the calls of anybody else stay
 pub others_stay : (scenario : Scenario) (rows x : ℕ) (s : SchedulerState) (calls : Calls) (e : Entry) → may_call scenario x ≡ false → IsThreadFit scenario rows x (thread_at s x)
-    → with_next scenario s x calls e ≡ calls
+    → calls_with_entry scenario s x calls e ≡ calls
 others_stay scenario rows x s calls e is_none fit = ap (λ (news : News). with_news calls e.to news) (quiet scenario rows x s e is_none fit)
 
 -- ---- all of them, one after the other
@@ -174,15 +174,15 @@ others_more callers k x v d start now at others y unlike =
 -- so all calls have gone on
 pub all_longer : (scenario : Scenario) (rows : ℕ) (s : SchedulerState) (e : Entry) (callers : List ℕ) (start now : List Calls) → AreCallers scenario callers → length now ≡ length start → length start ≡ length scenario.threads
     → ((x : ℕ) → x < length scenario.threads → IsThreadFit scenario rows x (thread_at s x))
-    → ((j : ℕ) → j < length callers → get_or now (caller_at callers j) no_calls ≡ with_next scenario s (caller_at callers j) (get_or start (caller_at callers j) no_calls) e)
+    → ((j : ℕ) → j < length callers → get_or now (caller_at callers j) no_calls ≡ calls_with_entry scenario s (caller_at callers j) (get_or start (caller_at callers j) no_calls) e)
     → ((x : ℕ) → ((j : ℕ) → j < length callers → caller_at callers j ≢ x) → get_or now x no_calls ≡ get_or start x no_calls)
-    → AreLonger scenario s e start now
+    → AreLongerCalls scenario s e start now
 all_longer scenario rows s e callers start now are count one_each fit done others = record {
   count = count;
   each = λ x less. elim (cases_Bool (may_call scenario x)) [
     | inl is_one ↦
         let found = are.all x (omega (arith, less, one_each)) is_one in
-        subst (λ y. get_or now y no_calls ≡ with_next scenario s y (get_or start y no_calls) e) found.2 (done found.0 found.1)
+        subst (λ y. get_or now y no_calls ≡ calls_with_entry scenario s y (get_or start y no_calls) e) found.2 (done found.0 found.1)
     | inr is_none ↦
         others x (λ j below same. clash (may_call scenario x) (ap (may_call scenario) (sym same) ∙ are.may j below) is_none)
         ∙ sym (others_stay scenario rows x s (get_or start x no_calls) e is_none (fit x (omega (arith, less, one_each))))

@@ -15,15 +15,15 @@ abbrev pub with_queue : Tally → Call → Tally
 with_queue queue call = if nat_lt 0 call.asked.queued then tallied queue call.asked.begin call.asked.queued else queue
 
 -- one call more: it took from the end of its send to its answer
-abbrev pub with_own : Answered → Call → Answered
-with_own answered call = record {
+abbrev pub with_own_call : Answered → Call → Answered
+with_own_call answered call = record {
   call = tallied answered.call call.asked.begin (call.end - call.asked.begin);
   queue = with_queue answered.queue call;
   served = answered.served + call.asked.served;
 }
 
 abbrev pub with_call : ℕ → Answered → Call → Answered
-with_call c answered call = if nat_eq call.asked.channel c then with_own answered call else answered
+with_call c answered call = if nat_eq call.asked.channel c then with_own_call answered call else answered
 
 -- those of the calls that went to channel c
 abbrev pub answered_at : ℕ → List Call → Answered
@@ -32,10 +32,10 @@ answered_at c calls = fold (with_call c) none_answered calls
 -- ---- the numbers are far below the greatest
 
 -- of at most so many calls
-pub record AreFew (n : ℕ) (answered : Answered) : Type 0 where
+pub record AreFewAnswers (n : ℕ) (answered : Answered) : Type 0 where
   pub call : tally.AreFew n answered.call
   pub queue : tally.AreFew n answered.queue
   pub served : answered.served ≤ n * 18446744073709551616
 
-abbrev pub HasRoomForOne : Answered → Type 0
-HasRoomForOne answered = AreFew (2 ^ 64 - 2) answered
+abbrev pub HasRoomForAnswer : Answered → Type 0
+HasRoomForAnswer answered = AreFewAnswers (2 ^ 64 - 2) answered

@@ -35,13 +35,13 @@ served_for ns (Some asked) = Some (record asked { served = asked.served + ns })
 served_for ns None = None
 
 -- the calls that were answered, with this one at this moment
-abbrev pub closing : List Call → Option Asked → ℕ → List Call
-closing ended (Some asked) moment = ended ++ (record { asked = asked; end = moment }) ∷ []
-closing ended None moment = ended
+abbrev pub with_answered_call : List Call → Option Asked → ℕ → List Call
+with_answered_call ended (Some asked) moment = ended ++ (record { asked = asked; end = moment }) ∷ []
+with_answered_call ended None moment = ended
 
 -- the call that goes on was served for so much more, and is answered at this moment
 abbrev pub closed : Calls → ℕ → ℕ → Calls
-closed calls ns moment = record { ended = closing calls.ended (served_for ns calls.current) moment; current = None }
+closed calls ns moment = record { ended = with_answered_call calls.ended (served_for ns calls.current) moment; current = None }
 
 -- ---- the calls by the entries
 
@@ -54,14 +54,14 @@ with_news calls moment (Served ns) = record calls { current = served_for ns call
 with_news calls moment (Answered ns) = closed calls ns moment
 
 -- the calls of thread x with one entry more, before which this state stood
-abbrev pub with_next : Scenario → SchedulerState → ℕ → Calls → Entry → Calls
-with_next scenario s x calls e = with_news calls e.to (news_of scenario s x e)
+abbrev pub calls_with_entry : Scenario → SchedulerState → ℕ → Calls → Entry → Calls
+calls_with_entry scenario s x calls e = with_news calls e.to (news_of scenario s x e)
 
 -- the calls of thread x with further entries
 abbrev pub calls_from : Scenario → ℕ → Calls → List Entry → List Entry → Calls
 calls_from scenario x calls h [] = calls
 calls_from scenario x calls h (e ∷ es) =
-    calls_from scenario x (with_next scenario (state_after scenario h) x calls e) (h ++ e ∷ []) es
+    calls_from scenario x (calls_with_entry scenario (state_after scenario h) x calls e) (h ++ e ∷ []) es
 
 -- the calls of thread x in a history
 unfoldable pub calls_of : Scenario → List Entry → ℕ → Calls
@@ -75,13 +75,14 @@ pub record AreCalls (scenario : Scenario) (h : List Entry) (calls : List Calls) 
   pub each : (x : ℕ) → x < length scenario.threads → slice_index_or calls x no_calls ≡ calls_of scenario h x
 
 -- those of each thread go on with this entry, before which this state stood
-pub record AreLonger (scenario : Scenario) (s : SchedulerState) (e : Entry) (before after : List Calls) : Type 0 where
+pub record AreLongerCalls (scenario : Scenario) (s : SchedulerState) (e : Entry) (before after : List Calls) : Type 0 where
   pub count : length after ≡ length before
-  pub each : (x : ℕ) → x < length before → slice_index_or after x no_calls ≡ with_next scenario s x (slice_index_or before x no_calls) e
+  pub each : (x : ℕ) → x < length before
+      → slice_index_or after x no_calls ≡ calls_with_entry scenario s x (slice_index_or before x no_calls) e
 
 -- the time of one entry more can be added
-abbrev pub HasRoom : Option Asked → Type 0
-HasRoom current = IfSome current (λ (asked : Asked). asked.served ≤ 2 ^ 63)
+abbrev pub HasRoomInCall : Option Asked → Type 0
+HasRoomInCall current = IfSome current (λ (asked : Asked). asked.served ≤ 2 ^ 63)
 
-abbrev pub HaveRoom : List Calls → Type 0
-HaveRoom calls = (x : ℕ) → x < length calls → HasRoom (slice_index_or calls x no_calls).current
+abbrev pub CallsHaveRoom : List Calls → Type 0
+CallsHaveRoom calls = (x : ℕ) → x < length calls → HasRoomInCall (slice_index_or calls x no_calls).current

@@ -65,15 +65,16 @@ ready_line None = []
 ready_line (Some segment) = ready_in segment segment.doing
 
 -- a cycle goes on at the end
-abbrev pub cycle_line : ℕ → Option Begun → List ℕ
-cycle_line end None = []
-cycle_line end (Some begun) = codes "open cycle " ++ (decimal (end - begun.begin) ++ (codes " at " ++ (decimal begun.begin ++ codes "\n")))
+abbrev pub open_cycle_line : ℕ → Option Begun → List ℕ
+open_cycle_line end None = []
+open_cycle_line end (Some begun) =
+    codes "open cycle " ++ (decimal (end - begun.begin) ++ (codes " at " ++ (decimal begun.begin ++ codes "\n")))
 
 abbrev pub wait_lines : ℕ → List Segment → List ℕ
 wait_lines end life =
     let waits = waits_in life in
     let cycles = cycles_in life in
-    tally_lines waits (cycle_tally cycles.ended) ++ (ready_line waits.last ++ cycle_line end cycles.current)
+    tally_lines waits (cycle_tally cycles.ended) ++ (ready_line waits.last ++ open_cycle_line end cycles.current)
 
 -- ---- calls
 
@@ -113,13 +114,14 @@ channel_lines end calls (c, name) = call_lines end calls c name
 
 -- ---- a thread, and all threads
 
-abbrev pub head_line : ℕ → List ℕ → List ℕ
-head_line x name = codes "thread " ++ (decimal x ++ (codes " " ++ (name ++ codes "\n")))
+abbrev pub thread_number_line : ℕ → List ℕ → List ℕ
+thread_number_line x name = codes "thread " ++ (decimal x ++ (codes " " ++ (name ++ codes "\n")))
 
 -- a thread with these bills, this life and these calls, where the history ends at this moment
 abbrev pub thread_lines : ℕ → List (List ℕ) → ℕ → List ℕ → (ℕ → ℕ) → List Segment → Calls → List ℕ
 thread_lines end channels x name billed life calls =
-    head_line x name ++ (bill_lines billed ++ (wait_lines end life ++ flat_map (channel_lines end calls) (enumerate_from 0 channels)))
+    thread_number_line x name ++ (bill_lines billed ++ (wait_lines end life
+    ++ flat_map (channel_lines end calls) (enumerate_from 0 channels)))
 
 -- where a history ends, and what is known of each thread
 pub record Known : Type 0 where
@@ -133,17 +135,17 @@ abbrev pub thread_by : List (List ℕ) → Known → ℕ → List ℕ → List �
 thread_by channels known x name =
     thread_lines known.end channels x name (bill_at known.bills x) (slice_index_or known.lives x []) (slice_index_or known.calls x no_calls)
 
-abbrev pub thread_with : List (List ℕ) → Known → ℕ × ThreadRow → List ℕ
-thread_with channels known (x, row) = thread_by channels known x row.name
+abbrev pub thread_by_known : List (List ℕ) → Known → ℕ × ThreadRow → List ℕ
+thread_by_known channels known (x, row) = thread_by channels known x row.name
 
 -- a thread by its history
-abbrev pub thread_text : Scenario → List Entry → ℕ × ThreadRow → List ℕ
-thread_text scenario h (x, row) =
+abbrev pub thread_latency_text : Scenario → List Entry → ℕ × ThreadRow → List ℕ
+thread_latency_text scenario h (x, row) =
     thread_lines (moment h) scenario.channels x row.name (billed_time h x) (life_of scenario h x) (calls_of scenario h x)
 
 -- what the threads of a history wait for
 abbrev pub latency_text : Scenario → List Entry → List ℕ
-latency_text scenario h = codes "aps latency 1\n" ++ flat_map (thread_text scenario h) (enumerate_from 0 scenario.threads)
+latency_text scenario h = codes "aps latency 1\n" ++ flat_map (thread_latency_text scenario h) (enumerate_from 0 scenario.threads)
 
 -- ---- what is known is the history's
 
@@ -154,11 +156,11 @@ pub record IsKnown (scenario : Scenario) (h : List Entry) (known : Known) : Type
   pub calls : AreCalls scenario h known.calls
 
 -- thread x is known
-pub record HasPlace (x : ℕ) (known : Known) : Type 0 where
+pub record IsKnownThread (x : ℕ) (known : Known) : Type 0 where
   pub bills : x < length known.bills
   pub lives : x < length known.lives
   pub calls : x < length known.calls
 
 -- and so are this many threads
 abbrev pub HasPlaces : ℕ → Known → Type 0
-HasPlaces count known = (x : ℕ) → x < count → HasPlace x known
+HasPlaces count known = (x : ℕ) → x < count → IsKnownThread x known

@@ -33,9 +33,9 @@ impl Answered {
 
     /// With one call more, if it went to this channel.
     fn with(self, call: &Call, channel: usize) -> Answered
-        requires { spec.HasRoomForOne self }
+        requires { spec.HasRoomForAnswer self }
         ensures same { result ≡ spec.with_call channel self call.now }
-        ensures few { (n : ℕ) → spec.AreFew n self → spec.AreFew (n + 1) result }
+        ensures few { (n : ℕ) → spec.AreFewAnswers n self → spec.AreFewAnswers (n + 1) result }
     {
         if call.asked.channel.index() == channel {
             self.with_own(call)
@@ -46,9 +46,9 @@ impl Answered {
 
     /// With one call more.
     fn with_own(self, call: &Call) -> Answered
-        requires { spec.HasRoomForOne self }
-        ensures same { result ≡ spec.with_own self call.now }
-        ensures few { (n : ℕ) → spec.AreFew n self → spec.AreFew (n + 1) result }
+        requires { spec.HasRoomForAnswer self }
+        ensures same { result ≡ spec.with_own_call self call.now }
+        ensures few { (n : ℕ) → spec.AreFewAnswers n self → spec.AreFewAnswers (n + 1) result }
     {
         let asked = &call.asked;
         Answered {

@@ -46,7 +46,7 @@ fn no_bills() -> Usage
 /// What the entry bills is added to its thread's.
 fn add(bills: &mut Vec<Usage>, e: &Entry)
     requires entry { IsEntry e.now }
-    requires room { spec.HaveRoom bills.old.items }
+    requires room { spec.BillsHaveRoom bills.old.items }
     ensures { spec.AreBilled bills.old.items e.now bills.new.items }
 {
     if let Some(x) = e.ran {

@@ -68,7 +68,7 @@ impl Calls {
 
     /// An entry that ends at this moment tells this. `NoMemory` comes where memory runs out.
     pub fn add(&mut self, moment: Nanos, news: &News) -> Result<(), NoMemory>
-        requires room { spec.HasRoom self.old.current }
+        requires room { spec.HasRoomInCall self.old.current }
         requires short { time_of news.now ≤ longest_tick }
         ensures { OnOk result (self.new ≡ spec.with_news self.old moment news.now) }
     {
@@ -84,7 +84,7 @@ impl Calls {
 
     /// The call that goes on, if one does, was served for so much more, and is answered at this moment.
     fn close(&mut self, ns: Nanos, moment: Nanos) -> Result<(), NoMemory>
-        requires room { spec.HasRoom self.old.current }
+        requires room { spec.HasRoomInCall self.old.current }
         requires short { ns ≤ longest_tick }
         ensures { OnOk result (self.new ≡ spec.closed self.old ns moment) }
     {
@@ -123,7 +123,7 @@ fn taken_at(moment: Nanos, current: &Option<Asked>) -> Option<Asked>
 
 /// The call that is served for so much more.
 fn served_for(ns: Nanos, current: &Option<Asked>) -> Option<Asked>
-    requires room { spec.HasRoom current.now }
+    requires room { spec.HasRoomInCall current.now }
     requires short { ns ≤ longest_tick }
     ensures { result ≡ spec.served_for ns current.now }
 {

@@ -3,9 +3,9 @@ ghost use Rattle.std.specs.Prelude.{◌≡◌, ℕ, ◌<◌, ◌≤◌, length, 
 ghost use Rattle.aps_model.specs.History.{IsEntry};
 ghost use Rattle.aps_model.specs.Limits.{most_threads};
 ghost use Rattle.aps_model.specs.SchedulerState.{SchedulerState};
-ghost use Rattle.aps_core.specs.Run.{state_of};
+ghost use Rattle.aps_core.specs.Run.{state_of_run};
 ghost use Rattle.view_latency.specs.Callers.{AreCallers};
-ghost use Rattle.view_latency.specs.Calls.{AreLonger, HaveRoom, no_calls};
+ghost use Rattle.view_latency.specs.Calls.{AreLongerCalls, CallsHaveRoom, no_calls};
 ghost use Rattle.view_latency.specs.Seen.{AreSeen, HasFits};
 
 use crate::call::Calls;
@@ -39,13 +39,13 @@ pub fn add_news(
     requires one_each { length calls.old.items ≡ length core.now.setup.scenario.threads }
     requires callers { AreCallers core.now.setup.scenario callers.now }
     requires seen { length seen.old.items ≡ length callers.now }
-    requires room { HaveRoom calls.old.items }
+    requires room { CallsHaveRoom calls.old.items }
     requires entry { IsEntry e.now }
-    ensures seen { OnOk result (AreSeen (state_of core.now) callers.now seen.new.items) }
+    ensures seen { OnOk result (AreSeen (state_of_run core.now) callers.now seen.new.items) }
     ensures longer { OnOk result ((s : SchedulerState)
         → AreSeen s callers.now seen.old.items
         → HasFits core.now.setup.scenario s
-        → AreLonger core.now.setup.scenario s e.now calls.old.items calls.new.items) }
+        → AreLongerCalls core.now.setup.scenario s e.now calls.old.items calls.new.items) }
 {
     let scenario = core.history().scenario();
     for k in 0..callers.len() {

@@ -101,7 +101,7 @@ fn add_threads(
 ) -> Result<(), NoMemory>
     requires { spec.HasPlaces (length threads.now) known.now }
     ensures { OnOk result (string_bytes out.new
-        ≡ string_bytes out.old ++ flat_map (spec.thread_with channels.now known.now) (enumerate_from 0 threads.now)) }
+        ≡ string_bytes out.old ++ flat_map (spec.thread_by_known channels.now known.now) (enumerate_from 0 threads.now)) }
 {
     for (x, thread) in threads.iter().enumerate() {
         add_thread(alloc, out, channels, x, &thread.name, known)?;
@@ -118,7 +118,7 @@ fn add_thread(
     name: &Name,
     known: &Known,
 ) -> Result<(), NoMemory>
-    requires { spec.HasPlace x known.now }
+    requires { spec.IsKnownThread x known.now }
     ensures { OnOk result (string_bytes out.new ≡ string_bytes out.old ++ spec.thread_by channels.now known.now x name.now) }
 {
     add_head(out, x, name)?;

@@ -95,7 +95,7 @@ fn add_open_ready(out: &mut String, segment: &Segment) -> Result<(), NoMemory>
 
 /// The time of the cycle that goes on at the end, if one does.
 fn add_cycle(out: &mut String, end: Nanos, current: &Option<Begun>) -> Result<(), NoMemory>
-    ensures { OnOk result (string_bytes out.new ≡ string_bytes out.old ++ spec.cycle_line end current.now) }
+    ensures { OnOk result (string_bytes out.new ≡ string_bytes out.old ++ spec.open_cycle_line end current.now) }
 {
     match current {
         None => Ok(()),
@@ -216,7 +216,7 @@ fn add_open_call(
 
 /// Which thread this is.
 pub fn add_head(out: &mut String, x: usize, name: &Name) -> Result<(), NoMemory>
-    ensures { OnOk result (string_bytes out.new ≡ string_bytes out.old ++ spec.head_line x name.now) }
+    ensures { OnOk result (string_bytes out.new ≡ string_bytes out.old ++ spec.thread_number_line x name.now) }
 {
     let name = text_of(name);
     write!(out, "thread {x} {name}\n")

@@ -2,7 +2,7 @@
 ghost use Rattle.std.specs.Prelude.{◌≡◌, ◌≤◌, ◌-◌};
 ghost use Rattle.aps_model.specs.Scenario.{op_at};
 ghost use Rattle.aps_model.specs.Usage.{names};
-ghost use Rattle.aps_core.specs.Run.{state_of};
+ghost use Rattle.aps_core.specs.Run.{state_of_run};
 ghost use Rattle.view_latency.specs.News as spec;
 ghost use Rattle.view_latency.specs.Seen.{news_by};
 
@@ -23,7 +23,7 @@ pub enum News {
 
 /// What the next entry tells of this thread's call, where the core has made the steps before it.
 pub fn news_of(core: &Core, scenario: &Scenario, x: ThreadId, e: &Entry) -> News
-    ensures same { result ≡ spec.news_of scenario.now (state_of core.now) x e.now }
+    ensures same { result ≡ spec.news_of scenario.now (state_of_run core.now) x e.now }
     ensures short { spec.time_of result ≤ e.now.to - e.now.from }
 {
     let thread = core.thread(x);

@@ -1,6 +1,6 @@
 //! What is seen of the threads that may call, before the next step.
 ghost use Rattle.std.specs.Prelude.{◌≡◌, ◌<◌, All, length, IfOk};
-ghost use Rattle.aps_core.specs.Run.{state_of};
+ghost use Rattle.aps_core.specs.Run.{state_of_run};
 ghost use Rattle.view_latency.specs.Seen as spec;
 ghost use Rattle.aps_model.specs.Limits.{most_threads};
 
@@ -20,7 +20,7 @@ pub enum Seen {
 
 /// What is seen of a thread.
 pub fn seen_of(core: &Core, x: ThreadId) -> Seen
-    ensures { result ≡ spec.seen_of (state_of core.now) x }
+    ensures { result ≡ spec.seen_of (state_of_run core.now) x }
 {
     let thread = core.thread(x);
     seen_in(thread.place, &thread.state)
@@ -41,7 +41,7 @@ fn seen_in(place: u16, state: &State) -> Seen
 /// What is seen of each of these threads. `NoMemory` comes where memory runs out.
 pub fn all_seen(alloc: Global, core: &Core, callers: &[usize]) -> Result<Vec<Seen>, NoMemory>
     requires { All (λ x. x < most_threads) callers.now }
-    ensures { IfOk result (λ seen. spec.AreSeen (state_of core.now) callers.now seen.items) }
+    ensures { IfOk result (λ seen. spec.AreSeen (state_of_run core.now) callers.now seen.items) }
 {
     let mut seen = Vec::with_capacity(alloc, callers.len())?;
     for k in 0..callers.len() {

@@ -5,7 +5,7 @@ use Rattle.std.specs.Prelude.{not}
 use Rattle.laws_runs.proofs.WaitFacts.{test_eq}
 use Rattle.view_lives.specs.declared.doing.Doing.{Doing}
 use Rattle.view_lives.specs.declared.doing.Doing.TheVariants.{Ready, Running, Sleeping, Sending, Receiving, Replying, Gone}
-use Rattle.view_lives.specs.Doing.{is_same}
+use Rattle.view_lives.specs.Doing.{is_same_doing}
 
 mark_refl : (m : Bool) → cond m m (not m) ≡ true
 mark_refl true = refl
@@ -16,7 +16,7 @@ mark_true true n h = sym h
 mark_true false true h = absurd (false≢true h)
 mark_true false false h = refl
 
-pub same_refl : (a : Doing) → is_same a a ≡ true
+pub same_refl : (a : Doing) → is_same_doing a a ≡ true
 same_refl Ready = refl
 same_refl (Running c p m) = rw (test_eq c c refl, test_eq p p refl, mark_refl m) refl
 same_refl Sleeping = refl
@@ -26,10 +26,10 @@ same_refl (Replying x) = test_eq x x refl
 same_refl Gone = refl
 
 -- what isn't the same differs
-pub same_false : (a b : Doing) → is_same a b ≡ false → a ≢ b
-same_false a b h = λ e. false≢true (sym (subst (λ d. is_same a d ≡ false) (sym e) h) ∙ same_refl a)
+pub same_false : (a b : Doing) → is_same_doing a b ≡ false → a ≢ b
+same_false a b h = λ e. false≢true (sym (subst (λ d. is_same_doing a d ≡ false) (sym e) h) ∙ same_refl a)
 
-pub same_true : (a b : Doing) → is_same a b ≡ true → a ≡ b
+pub same_true : (a b : Doing) → is_same_doing a b ≡ true → a ≡ b
 same_true Ready Ready h = refl
 same_true (Running c p m) (Running d q n) h =
     let parts = and_parts _ _ h in

@@ -16,7 +16,7 @@ use Rattle.laws_runs.proofs.Prefixes.{by_entries, one_more}
 use Rattle.laws_runs.proofs.Sound.{next_law}
 use Rattle.view_lives.specs.Doing.{doing_of}
 use Rattle.view_lives.specs.Life.{life_of}
-use Rattle.view_lives.specs.Whole.{IsLife, IsWhole, doing_at, until}
+use Rattle.view_lives.specs.Whole.{IsLife, IsWholeLife, doing_at, until}
 use Rattle.view_lives.proofs.Longer.{life_more, moment_more}
 use Rattle.view_lives.proofs.Wholes.{whole_more}
 
@@ -45,11 +45,11 @@ module _ (scenario : Scenario) (order : Order) (valid : IsScenario scenario) (x 
       let new : (m : ℕ) → moment h ≤ m → m < e.to → doing_at scenario (h ++ e ∷ []) x m ≡ doing_of (state_after scenario h) x =
       λ m from to. same m to ∙ ap (λ g. doing_of (state_after scenario g) x)
       (until_all m h (recursion_from_All (λ (d : Entry). d.to ≤ m) h (λ k d lt. let at = past k d lt in omega (arith, at, from)))) in
-      let whole : IsWhole (doing_at scenario (h ++ e ∷ []) x) 0 e.to (life_of scenario (h ++ e ∷ []) x) =
-      subst (IsWhole (doing_at scenario (h ++ e ∷ []) x) 0 e.to) (sym (life_more scenario h e x))
+      let whole : IsWholeLife (doing_at scenario (h ++ e ∷ []) x) 0 e.to (life_of scenario (h ++ e ∷ []) x) =
+      subst (IsWholeLife (doing_at scenario (h ++ e ∷ []) x) 0 e.to) (sym (life_more scenario h e x))
       (whole_more (doing_at scenario h x) (doing_at scenario (h ++ e ∷ []) x) 0 (moment h) e.to (doing_of (state_after scenario h) x) (life_of scenario h x) life rises
       (λ m early. same m (omega (arith, early, rises))) new) in
-      subst (λ b. IsWhole (doing_at scenario (h ++ e ∷ []) x) 0 b (life_of scenario (h ++ e ∷ []) x)) (sym ends) whole
+      subst (λ b. IsWholeLife (doing_at scenario (h ++ e ∷ []) x) 0 b (life_of scenario (h ++ e ∷ []) x)) (sym ends) whole
 
   none : IsLife scenario [] x (life_of scenario [] x)
   unfolding life_of

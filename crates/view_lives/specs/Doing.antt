@@ -26,12 +26,12 @@ abbrev pub doing_of : SchedulerState → ℕ → Doing
 doing_of s x = doing_by s (thread_at s x).state
 
 -- both are the same
-abbrev pub is_same : Doing → Doing → Bool
-is_same Ready Ready = true
-is_same (Running c p m) (Running d q n) = nat_eq c d && nat_eq p q && (if m then n else not n)
-is_same Sleeping Sleeping = true
-is_same (Sending c) (Sending d) = nat_eq c d
-is_same (Receiving c) (Receiving d) = nat_eq c d
-is_same (Replying x) (Replying y) = nat_eq x y
-is_same Gone Gone = true
-is_same doing other = false
+abbrev pub is_same_doing : Doing → Doing → Bool
+is_same_doing Ready Ready = true
+is_same_doing (Running c p m) (Running d q n) = nat_eq c d && nat_eq p q && (if m then n else not n)
+is_same_doing Sleeping Sleeping = true
+is_same_doing (Sending c) (Sending d) = nat_eq c d
+is_same_doing (Receiving c) (Receiving d) = nat_eq c d
+is_same_doing (Replying x) (Replying y) = nat_eq x y
+is_same_doing Gone Gone = true
+is_same_doing doing other = false

@@ -8,7 +8,7 @@ use Rattle.laws_runs.specs.Moments.{moment}
 use Rattle.view_lives.specs.declared.doing.Doing.{Doing}
 use Rattle.view_lives.specs.declared.doing.Doing.TheVariants.{Gone}
 use Rattle.view_lives.specs.declared.life.Segment.{Segment}
-use Rattle.view_lives.specs.Doing.{doing_of, is_same}
+use Rattle.view_lives.specs.Doing.{doing_of, is_same_doing}
 
 -- ---- a life with one piece more
 
@@ -21,19 +21,19 @@ last_of life = slice_index_or life (length life - 1) no_segment
 
 -- the life ends with the same
 abbrev pub goes_on : List Segment → Doing → Bool
-goes_on life doing = nat_lt 0 (length life) && is_same (last_of life).doing doing
+goes_on life doing = nat_lt 0 (length life) && is_same_doing (last_of life).doing doing
 
 -- the life with its last segment up to this moment
 abbrev pub lengthened : List Segment → ℕ → List Segment
 lengthened life moment = slice_set life (length life - 1) (record (last_of life) { to = moment })
 
 -- a piece lengthens the last segment where that is of the same, and is a segment of its own where it isn't
-abbrev pub joined : List Segment → Segment → List Segment
-joined life piece = if goes_on life piece.doing then lengthened life piece.to else life ++ piece ∷ []
+abbrev pub joined_segment : List Segment → Segment → List Segment
+joined_segment life piece = if goes_on life piece.doing then lengthened life piece.to else life ++ piece ∷ []
 
 -- a piece that lasts no time is left out
 abbrev pub with_piece : List Segment → Segment → List Segment
-with_piece life piece = if nat_lt piece.from piece.to then joined life piece else life
+with_piece life piece = if nat_lt piece.from piece.to then joined_segment life piece else life
 
 -- ---- the life by the entries
 

@@ -10,5 +10,5 @@ pub record AreAtMost (most : ℕ) (times : Times) : Type 0 where
   pub receiving : times.receiving ≤ most
 
 -- the time of one segment more can be added
-abbrev pub HasRoom : Option Begun → Type 0
-HasRoom current = IfSome current (λ (begun : Begun). AreAtMost (2 ^ 127) begun.times)
+abbrev pub HasRoomInCycle : Option Begun → Type 0
+HasRoomInCycle current = IfSome current (λ (begun : Begun). AreAtMost (2 ^ 127) begun.times)

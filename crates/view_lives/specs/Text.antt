@@ -26,8 +26,8 @@ abbrev pub cycle_lines : List ℕ → List Segment → List ℕ
 cycle_lines name life = flat_map (cycle_line name) (cycles_in life).ended
 
 -- the lines of a thread, by the lives of all
-abbrev pub thread_with : List (List Segment) → ℕ × ThreadRow → List ℕ
-thread_with lives (x, row) = cycle_lines row.name (slice_index_or lives x [])
+abbrev pub thread_cycle_lines : List (List Segment) → ℕ × ThreadRow → List ℕ
+thread_cycle_lines lives (x, row) = cycle_lines row.name (slice_index_or lives x [])
 
 abbrev pub thread_cycles : Scenario → List Entry → ℕ × ThreadRow → List ℕ
 thread_cycles scenario h (x, row) = cycle_lines row.name (life_of scenario h x)

@@ -18,9 +18,9 @@ abbrev pub doing_at : Scenario → List Entry → ℕ → ℕ → Doing
 doing_at scenario h x m = doing_of (state_after scenario (until m h)) x
 
 -- the segments follow each other without a gap, from one moment to another, and each lasts
-abbrev pub Tiles : ℕ → ℕ → List Segment → Type 0
-Tiles a b [] = a ≡ b
-Tiles a b (s ∷ life) = (s.from ≡ a) × (s.from < s.to) × Tiles s.to b life
+abbrev pub SegmentsTile : ℕ → ℕ → List Segment → Type 0
+SegmentsTile a b [] = a ≡ b
+SegmentsTile a b (s ∷ life) = (s.from ≡ a) × (s.from < s.to) × SegmentsTile s.to b life
 
 -- no two neighbours are of the same
 abbrev pub NeighboursDiffer : List Segment → Type 0
@@ -29,16 +29,16 @@ NeighboursDiffer (s ∷ []) = ⊤
 NeighboursDiffer (s ∷ t ∷ life) = (s.doing ≢ t.doing) × NeighboursDiffer (t ∷ life)
 
 -- each segment tells what is done at each of its moments
-abbrev pub IsTold : (ℕ → Doing) → List Segment → Type 0
-IsTold at [] = ⊤
-IsTold at (s ∷ life) = ((m : ℕ) → s.from ≤ m → m < s.to → at m ≡ s.doing) × IsTold at life
+abbrev pub SegmentsTell : (ℕ → Doing) → List Segment → Type 0
+SegmentsTell at [] = ⊤
+SegmentsTell at (s ∷ life) = ((m : ℕ) → s.from ≤ m → m < s.to → at m ≡ s.doing) × SegmentsTell at life
 
 -- the segments tell what is done at each moment from one to before another, and with no more segments than that takes
-pub record IsWhole (at : ℕ → Doing) (a b : ℕ) (life : List Segment) : Type 0 where
-  pub tiles : Tiles a b life
+pub record IsWholeLife (at : ℕ → Doing) (a b : ℕ) (life : List Segment) : Type 0 where
+  pub tiles : SegmentsTile a b life
   pub differ : NeighboursDiffer life
-  pub told : IsTold at life
+  pub told : SegmentsTell at life
 
 -- this is the life of thread x: it tells what the thread does at each moment from 0 to the end of the last entry
 abbrev pub IsLife : Scenario → List Entry → ℕ → List Segment → Type 0
-IsLife scenario h x life = IsWhole (doing_at scenario h x) 0 (moment h) life
+IsLife scenario h x life = IsWholeLife (doing_at scenario h x) 0 (moment h) life

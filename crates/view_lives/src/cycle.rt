@@ -1,7 +1,7 @@
 //! The cycles of a thread: from the end of a sleep, or the start, to the next sleep or the thread's end.
 ghost use Rattle.std.specs.Prelude.{◌≡◌, ◌-◌, ◌<◌, ◌≤◌, ◌^◌, None, IfOk, OnOk};
 ghost use Rattle.view_lives.specs.Cycle.{begun_or, closing, cycles_in, gone_on, rests, with_segment, with_time};
-ghost use Rattle.view_lives.specs.Room.{AreAtMost, HasRoom};
+ghost use Rattle.view_lives.specs.Room.{AreAtMost, HasRoomInCycle};
 
 use crate::doing::Doing;
 use crate::life::{Life, Segment};
@@ -80,7 +80,7 @@ impl Cycles {
 
     /// The life goes on with this segment.
     fn add(&mut self, segment: &Segment) -> Result<(), NoMemory>
-        requires { HasRoom self.old.current }
+        requires { HasRoomInCycle self.old.current }
         ensures same { OnOk result (self.new ≡ with_segment self.old segment.now) }
         ensures short { segment.now.to - segment.now.from ≤ 18446744073709551616 }
     {
@@ -121,7 +121,7 @@ fn rests(doing: &Doing) -> bool
 
 /// The cycle that goes on, or begins, with this segment, which is so long.
 fn gone_on(current: &Option<Begun>, segment: &Segment, ns: u128) -> Begun
-    requires room { HasRoom current.now }
+    requires room { HasRoomInCycle current.now }
     requires length { ns ≡ segment.now.to - segment.now.from }
     requires short { ns < 2 ^ 64 }
     ensures { result ≡ gone_on current.now segment.now }

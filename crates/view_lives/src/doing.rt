@@ -1,7 +1,7 @@
 //! What a thread does, as its life shows it.
 ghost use Rattle.std.specs.Prelude.{◌≡◌};
 ghost use Rattle.aps_model.specs.SchedulerState.{cpu_at};
-ghost use Rattle.aps_core.specs.Run.{state_of};
+ghost use Rattle.aps_core.specs.Run.{state_of_run};
 ghost use Rattle.view_lives.specs.Doing as spec;
 
 use aps_core::Core;
@@ -26,7 +26,7 @@ pub enum Doing {
 
 /// What a thread does that is in this state.
 pub fn doing_by(core: &Core, state: &State) -> Doing
-    ensures { result ≡ spec.doing_by (state_of core.now) state.now }
+    ensures { result ≡ spec.doing_by (state_of_run core.now) state.now }
 {
     match state {
         State::Ready => Doing::Ready,
@@ -59,7 +59,7 @@ fn running_by(c: CpuId, cpu: &CpuNow) -> Doing
 
 /// Whether a thread that is in this state does this.
 pub fn does(core: &Core, state: &State, doing: &Doing) -> bool
-    ensures { result ≡ spec.is_same doing.now (spec.doing_by (state_of core.now) state.now) }
+    ensures { result ≡ spec.is_same_doing doing.now (spec.doing_by (state_of_run core.now) state.now) }
 {
     match state {
         State::Ready => matches!(doing, Doing::Ready),
@@ -74,7 +74,7 @@ pub fn does(core: &Core, state: &State, doing: &Doing) -> bool
 
 /// Whether both are the same.
 pub fn is_same(doing: &Doing, other: &Doing) -> bool
-    ensures { result ≡ spec.is_same doing.now other.now }
+    ensures { result ≡ spec.is_same_doing doing.now other.now }
 {
     doing == other
 }

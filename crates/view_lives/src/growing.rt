@@ -1,8 +1,8 @@
 //! The lives of all threads as they grow beside a core that makes its steps again.
 ghost use Rattle.std.specs.Prelude.{◌≡◌, ℕ, ◌<◌, ◌≤◌, [], length, replicate, slice_index_or, true, IfOk, OnOk};
-ghost use Rattle.aps_core.specs.Run.{state_of};
+ghost use Rattle.aps_core.specs.Run.{state_of_run};
 ghost use Rattle.view_lives.specs.Doing as spec;
-ghost use Rattle.view_lives.specs.Growing.{IsPassed, keeps_on, nothing_aside, told_of};
+ghost use Rattle.view_lives.specs.Growing.{LifeGoesOnWith, keeps_on, nothing_aside, told_of};
 ghost use Rattle.view_lives.specs.Life.{AreLonger};
 ghost use Rattle.aps_model.specs.Limits.{most_threads};
 
@@ -60,7 +60,7 @@ impl GrowingLives {
     /// time passes between them nothing changes, whatever the threads do. `NoMemory` comes where memory runs out.
     pub fn lengthen(&mut self, core: &Core, from: Nanos, to: Nanos) -> Result<(), NoMemory>
         requires { length self.old ≤ most_threads }
-        ensures { OnOk result (AreLonger (state_of core.now) from to self.old self.new) }
+        ensures { OnOk result (AreLonger (state_of_run core.now) from to self.old self.new) }
     {
         if from >= to {
             return Ok(());
@@ -119,7 +119,7 @@ fn pass(
     ensures lives { length lives.new.items ≡ length lives.old.items }
     ensures aside { length aside.new.items ≡ length aside.old.items }
     ensures passed { OnOk result ((x : ℕ) → x < length lives.old.items
-        → IsPassed until from (spec.doing_of (state_of core.now) x) (slice_index_or lives.old.items x [])
+        → LifeGoesOnWith until from (spec.doing_of (state_of_run core.now) x) (slice_index_or lives.old.items x [])
         (slice_index_or aside.old.items x nothing_aside)
         (slice_index_or lives.new.items x []) (slice_index_or aside.new.items x nothing_aside)) }
 {
@@ -140,7 +140,7 @@ fn next_other(aside: &Vec<Aside>, core: &Core, start: usize, until: Nanos, from:
     ensures later { start ≤ result }
     ensures inside { result ≤ length aside.now.items }
     ensures kept { (x : ℕ) → start ≤ x → x < result
-        → keeps_on until from (slice_index_or aside.now.items x nothing_aside) (spec.doing_of (state_of core.now) x) ≡ true }
+        → keeps_on until from (slice_index_or aside.now.items x nothing_aside) (spec.doing_of (state_of_run core.now) x) ≡ true }
 {
     for x in start..aside.len() {
         let thread = core.thread(ThreadId::at(x));
@@ -159,7 +159,7 @@ fn turn(
     until: Nanos,
     from: Nanos,
 ) -> Result<(), NoMemory>
-    ensures { OnOk result (IsPassed until from doing life.old aside.old life.new aside.new) }
+    ensures { OnOk result (LifeGoesOnWith until from doing life.old aside.old life.new aside.new) }
 {
     life.add(Segment {
         from: aside.from,
@@ -172,7 +172,7 @@ fn turn(
 
 /// Whether a thread that is in this state goes on from a moment with what stands aside up to another.
 fn keeps_on(aside: &Aside, core: &Core, state: &State, until: Nanos, from: Nanos) -> bool
-    ensures { result ≡ keeps_on until from aside.now (spec.doing_by (state_of core.now) state.now) }
+    ensures { result ≡ keeps_on until from aside.now (spec.doing_by (state_of_run core.now) state.now) }
 {
     until == from && aside.from <= from && does(core, state, &aside.doing)
 }

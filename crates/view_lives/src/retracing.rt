@@ -2,7 +2,7 @@
 ghost use Rattle.std.specs.Prelude.{◌≡◌, ◌<◌, ◌≤◌, [], length, max, replicate, IfOk, OnOk};
 ghost use Rattle.aps_model.specs.Legal.{IsLegal};
 ghost use Rattle.aps_model.specs.Valid.{IsScenario};
-ghost use Rattle.aps_core.specs.Turn.{IsTaken, with_entry};
+ghost use Rattle.aps_core.specs.Turn.{IsTurnTaken, with_entry};
 ghost use Rattle.view_lives.specs.Life.{AreLives};
 ghost use Rattle.aps_model.specs.Limits.{most_entries};
 
@@ -83,7 +83,7 @@ fn lengthen_all(
 /// The core makes the step of which this is the entry.
 fn retrace(core: &mut Core, e: &Entry)
     requires exists { e.now.cpu < core.old.setup.scenario.shape.cpus }
-    requires taken { IsTaken core.old e.now.cpu e.now }
+    requires taken { IsTurnTaken core.old e.now.cpu e.now }
     ensures { core.new ≡ with_entry core.old e.now }
 {
     let _turn = core.step(e.cpu);

@@ -48,7 +48,7 @@ impl Tally {
 
 /// The longer of the longest so far and one wait more, and of equal ones the first.
 fn longer(longest: &Option<Longest>, begin: Nanos, ns: Nanos) -> Longest
-    ensures { result ≡ spec.longer longest.now begin ns }
+    ensures { result ≡ spec.longer_wait longest.now begin ns }
 {
     match longest {
         Some(first) if ns <= first.ns => *first,

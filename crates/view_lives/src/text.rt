@@ -37,7 +37,7 @@ fn add_threads(
 ) -> Result<(), NoMemory>
     requires { length lives.now.items ≡ length threads.now }
     ensures { OnOk result (string_bytes out.new
-        ≡ string_bytes out.old ++ flat_map (spec.thread_with lives.now.items) (enumerate_from 0 threads.now)) }
+        ≡ string_bytes out.old ++ flat_map (spec.thread_cycle_lines lives.now.items) (enumerate_from 0 threads.now)) }
 {
     for (x, thread) in threads.iter().enumerate() {
         add_cycles(alloc, out, &thread.name, &lives[x])?;

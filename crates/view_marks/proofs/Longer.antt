@@ -7,20 +7,20 @@ use Rattle.aps_model.specs.Scenario.{Scenario}
 use Rattle.view_marks.specs.declared.alteration.Alteration.{Alteration}
 use Rattle.view_marks.specs.declared.bar.Bar.{Bar}
 use Rattle.view_marks.specs.Alteration.{alterations_from, alterations_of, altered_between}
-use Rattle.view_marks.specs.Bar.{AreLanes, AreLonger, lane_from, lane_of, with_entry}
+use Rattle.view_marks.specs.Bar.{AreLanes, AreLongerLanes, lane_from, lane_of, lane_with_entry}
 
 -- ---- lanes
 
 lane_from_more : (scenario : Scenario) (c : ℕ) (lane : List Bar) (before es : List Entry) (e : Entry)
-    → lane_from scenario c lane before (es ++ e ∷ []) ≡ with_entry (state_after scenario (before ++ es)) c (lane_from scenario c lane before es) e
-lane_from_more scenario c lane before [] e = ap (λ h. with_entry (state_after scenario h) c lane e) (sym (append-nil before))
+    → lane_from scenario c lane before (es ++ e ∷ []) ≡ lane_with_entry (state_after scenario (before ++ es)) c (lane_from scenario c lane before es) e
+lane_from_more scenario c lane before [] e = ap (λ h. lane_with_entry (state_after scenario h) c lane e) (sym (append-nil before))
 lane_from_more scenario c lane before (d ∷ es) e =
-    let longer = with_entry (state_after scenario before) c lane d in
+    let longer = lane_with_entry (state_after scenario before) c lane d in
     lane_from_more scenario c longer (before ++ d ∷ []) es e
-    ∙ ap (λ h. with_entry (state_after scenario h) c (lane_from scenario c longer (before ++ d ∷ []) es) e) (append_assoc before (d ∷ []) es)
+    ∙ ap (λ h. lane_with_entry (state_after scenario h) c (lane_from scenario c longer (before ++ d ∷ []) es) e) (append_assoc before (d ∷ []) es)
 
 pub lane_more : (scenario : Scenario) (h : List Entry) (e : Entry) (c : ℕ)
-    → lane_of scenario (h ++ e ∷ []) c ≡ with_entry (state_after scenario h) c (lane_of scenario h c) e
+    → lane_of scenario (h ++ e ∷ []) c ≡ lane_with_entry (state_after scenario h) c (lane_of scenario h c) e
 unfolding lane_of
 lane_more scenario h e c = lane_from_more scenario c [] [] h e
 
@@ -32,12 +32,12 @@ lanes_none scenario lanes is = record {
 }
 
 pub lanes_more : (scenario : Scenario) (h : List Entry) (e : Entry) (before after : List (List Bar)) → AreLanes scenario h before
-    → AreLonger (state_after scenario h) e before after → AreLanes scenario (h ++ e ∷ []) after
+    → AreLongerLanes (state_after scenario h) e before after → AreLanes scenario (h ++ e ∷ []) after
 lanes_more scenario h e before after are longer = record {
   count = longer.count ∙ are.count;
   each = λ c less.
       let count = are.count in
-      longer.each c (omega (arith, count, less)) ∙ ap (λ lane. with_entry (state_after scenario h) c lane e) (are.each c less)
+      longer.each c (omega (arith, count, less)) ∙ ap (λ lane. lane_with_entry (state_after scenario h) c lane e) (are.each c less)
       ∙ sym (lane_more scenario h e c);
 }
 

@@ -33,8 +33,8 @@ altered_by call = None
 abbrev pub no_command : CommandRow
 no_command = record { tick = 0; call = QueryParameters }
 
-abbrev pub call_at : List CommandRow → ℕ → Call
-call_at commands place = (slice_index_or commands place no_command).call
+abbrev pub call_of_command : List CommandRow → ℕ → Call
+call_of_command commands place = (slice_index_or commands place no_command).call
 
 abbrev pub is_refused : Answer → Bool
 is_refused (Refused why) = true
@@ -46,7 +46,7 @@ at_moment moment refused (Some altered) = Some (record { moment = moment; altere
 
 -- the command that has this reply was done at this moment
 abbrev pub by_reply : List CommandRow → ℕ → Reply → Option Alteration
-by_reply commands moment reply = at_moment moment (is_refused reply.answer) (altered_by (call_at commands reply.command))
+by_reply commands moment reply = at_moment moment (is_refused reply.answer) (altered_by (call_of_command commands reply.command))
 
 abbrev pub option_list : Option Alteration → List Alteration
 option_list None = []

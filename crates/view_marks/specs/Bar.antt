@@ -27,8 +27,8 @@ bar_of s e = bar_by s e e.ran e.billed
 abbrev pub no_bar : Bar
 no_bar = record { from = 0; to = 0; thread = 0; partition = 0; own = 0; critical = false }
 
-abbrev pub last_of : List Bar → Bar
-last_of lane = slice_index_or lane (length lane - 1) no_bar
+abbrev pub last_bar : List Bar → Bar
+last_bar lane = slice_index_or lane (length lane - 1) no_bar
 
 -- the second begins where the first ends, and is the same in all else
 abbrev pub is_followed : Bar → Bar → Bool
@@ -36,30 +36,30 @@ is_followed bar next =
     nat_eq bar.to next.from && (nat_eq bar.thread next.thread && (nat_eq bar.partition next.partition && (nat_eq bar.own next.own
     && (if bar.critical then next.critical else not next.critical))))
 
-abbrev pub goes_on : List Bar → Bar → Bool
-goes_on lane bar = nat_lt 0 (length lane) && is_followed (last_of lane) bar
+abbrev pub lane_goes_on : List Bar → Bar → Bool
+lane_goes_on lane bar = nat_lt 0 (length lane) && is_followed (last_bar lane) bar
 
 -- the lane with its last bar up to this moment
-abbrev pub lengthened : List Bar → ℕ → List Bar
-lengthened lane moment = slice_set lane (length lane - 1) (record (last_of lane) { to = moment })
+abbrev pub lengthened_lane : List Bar → ℕ → List Bar
+lengthened_lane lane moment = slice_set lane (length lane - 1) (record (last_bar lane) { to = moment })
 
 -- a bar that follows on the last one lengthens it, and is one of its own where it doesn't
-abbrev pub joined : List Bar → Bar → List Bar
-joined lane bar = if goes_on lane bar then lengthened lane bar.to else lane ++ bar ∷ []
+abbrev pub joined_bar : List Bar → Bar → List Bar
+joined_bar lane bar = if lane_goes_on lane bar then lengthened_lane lane bar.to else lane ++ bar ∷ []
 
 abbrev pub with_bar : List Bar → Option Bar → List Bar
 with_bar lane None = lane
-with_bar lane (Some bar) = joined lane bar
+with_bar lane (Some bar) = joined_bar lane bar
 
 -- ---- the lane by the entries
 
 -- an entry goes into the lane of its processor; this is that of processor c
-abbrev pub with_entry : SchedulerState → ℕ → List Bar → Entry → List Bar
-with_entry s c lane e = if nat_eq e.cpu c then with_bar lane (bar_of s e) else lane
+abbrev pub lane_with_entry : SchedulerState → ℕ → List Bar → Entry → List Bar
+lane_with_entry s c lane e = if nat_eq e.cpu c then with_bar lane (bar_of s e) else lane
 
 abbrev pub lane_from : Scenario → ℕ → List Bar → List Entry → List Entry → List Bar
 lane_from scenario c lane h [] = lane
-lane_from scenario c lane h (e ∷ es) = lane_from scenario c (with_entry (state_after scenario h) c lane e) (h ++ e ∷ []) es
+lane_from scenario c lane h (e ∷ es) = lane_from scenario c (lane_with_entry (state_after scenario h) c lane e) (h ++ e ∷ []) es
 
 -- what processor c ran in a history
 unfoldable pub lane_of : Scenario → List Entry → ℕ → List Bar
@@ -71,6 +71,6 @@ pub record AreLanes (scenario : Scenario) (h : List Entry) (lanes : List (List B
   pub each : (c : ℕ) → c < scenario.shape.cpus → slice_index_or lanes c [] ≡ lane_of scenario h c
 
 -- the lanes go on with an entry, where this state stood before
-pub record AreLonger (s : SchedulerState) (e : Entry) (before after : List (List Bar)) : Type 0 where
+pub record AreLongerLanes (s : SchedulerState) (e : Entry) (before after : List (List Bar)) : Type 0 where
   pub count : length after ≡ length before
-  pub each : (c : ℕ) → c < length before → slice_index_or after c [] ≡ with_entry s c (slice_index_or before c []) e
+  pub each : (c : ℕ) → c < length before → slice_index_or after c [] ≡ lane_with_entry s c (slice_index_or before c []) e

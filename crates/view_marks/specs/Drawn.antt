@@ -16,7 +16,7 @@ pub record Drawn : Type 0 where
   pub rows : List PartitionRow
 
 -- this is what each processor ran in the history, what was altered, and the rows that stand last
-pub record IsDrawn (scenario : Scenario) (h : List Entry) (drawn : Drawn) : Type 0 where
+pub record IsDrawnHistory (scenario : Scenario) (h : List Entry) (drawn : Drawn) : Type 0 where
   pub lanes : AreLanes scenario h drawn.lanes
   pub alterations : drawn.alterations ≡ alterations_of scenario h
   pub rows : drawn.rows ≡ (state_after scenario h).rows

@@ -6,11 +6,11 @@ use Rattle.view_marks.specs.declared.mark.Message.{Message}
 use Rattle.view_marks.specs.declared.mark.Message.TheVariants.{Taken, Waits}
 
 -- a message is taken where a send finds its receiver and where a receive finds a message
-abbrev pub message_in : Done → Option Message
-message_in (SendTo receiver) = Some Taken
-message_in (ReceiveGot sender) = Some Taken
-message_in SendBlocked = Some Waits
-message_in done = None
+abbrev pub message_of_done : Done → Option Message
+message_of_done (SendTo receiver) = Some Taken
+message_of_done (ReceiveGot sender) = Some Taken
+message_of_done SendBlocked = Some Waits
+message_of_done done = None
 
 abbrev pub is_reply : Done → Bool
 is_reply (ReplyFreed client) = true

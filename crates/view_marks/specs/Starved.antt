@@ -7,26 +7,27 @@ use Rattle.view_marks.specs.declared.starved.Starved.{Starved}
 -- ---- the bars with one more
 
 -- what is read where there is no bar
-abbrev pub no_bar : Starved
-no_bar = record { from = 0; to = 0; partition = 0 }
+abbrev pub no_starved : Starved
+no_starved = record { from = 0; to = 0; partition = 0 }
 
-abbrev pub last_of : List Starved → Starved
-last_of bars = slice_index_or bars (length bars - 1) no_bar
+abbrev pub last_starved_bar : List Starved → Starved
+last_starved_bar bars = slice_index_or bars (length bars - 1) no_starved
 
 -- the last bar ends where this begins, and is of the same partition
-abbrev pub goes_on : List Starved → Starved → Bool
-goes_on bars bar = nat_lt 0 (length bars) && (nat_eq (last_of bars).to bar.from && nat_eq (last_of bars).partition bar.partition)
+abbrev pub starved_goes_on : List Starved → Starved → Bool
+starved_goes_on bars bar =
+    nat_lt 0 (length bars) && (nat_eq (last_starved_bar bars).to bar.from && nat_eq (last_starved_bar bars).partition bar.partition)
 
 -- the bars with the last one up to this moment
-abbrev pub lengthened : List Starved → ℕ → List Starved
-lengthened bars moment = slice_set bars (length bars - 1) (record (last_of bars) { to = moment })
+abbrev pub lengthened_starved : List Starved → ℕ → List Starved
+lengthened_starved bars moment = slice_set bars (length bars - 1) (record (last_starved_bar bars) { to = moment })
 
-abbrev pub joined : List Starved → Starved → List Starved
-joined bars bar = if goes_on bars bar then lengthened bars bar.to else bars ++ bar ∷ []
+abbrev pub joined_starved : List Starved → Starved → List Starved
+joined_starved bars bar = if starved_goes_on bars bar then lengthened_starved bars bar.to else bars ++ bar ∷ []
 
 -- a bar that lasts no time is left out
-abbrev pub with_bar : List Starved → Starved → List Starved
-with_bar bars bar = if nat_lt bar.from bar.to then joined bars bar else bars
+abbrev pub with_starved : List Starved → Starved → List Starved
+with_starved bars bar = if nat_lt bar.from bar.to then joined_starved bars bar else bars
 
 -- ---- the bars by the entries
 
@@ -36,16 +37,16 @@ pub record Without : Type 0 where
   pub moment : ℕ
   pub named : Option ℕ
 
-abbrev pub no_entry : Without
-no_entry = record { bars = []; moment = 0; named = None }
+abbrev pub without_at_start : Without
+without_at_start = record { bars = []; moment = 0; named = None }
 
 -- from this moment to where the next entry ends
 abbrev pub with_span : List Starved → ℕ → ℕ → Option ℕ → List Starved
 with_span bars from to None = bars
-with_span bars from to (Some p) = with_bar bars (record { from = from; to = to; partition = p })
+with_span bars from to (Some p) = with_starved bars (record { from = from; to = to; partition = p })
 
-abbrev pub with_next : Without → Entry → Without
-with_next without e = record {
+abbrev pub starved_with_entry : Without → Entry → Without
+starved_with_entry without e = record {
   bars = with_span without.bars without.moment e.to without.named;
   moment = e.to;
   named = e.starved;
@@ -53,4 +54,4 @@ with_next without e = record {
 
 -- from where each entry ends to where the next one does, the partition that it names was without work
 abbrev pub starved_of : List Entry → List Starved
-starved_of h = (fold with_next no_entry h).bars
+starved_of h = (fold starved_with_entry without_at_start h).bars

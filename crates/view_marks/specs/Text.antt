@@ -12,8 +12,8 @@ use Rattle.view_marks.specs.declared.alteration.Altered.TheVariants.{Create, Mod
 abbrev pub thread_name : List ThreadRow → ℕ → List ℕ
 thread_name threads x = (slice_index_or threads x no_thread_row).name
 
-abbrev pub row_name : List PartitionRow → ℕ → List ℕ
-row_name rows p = (row_or_none rows p).name
+abbrev pub partition_row_name : List PartitionRow → ℕ → List ℕ
+partition_row_name rows p = (row_or_none rows p).name
 
 abbrev pub altered_text : List ThreadRow → List PartitionRow → Altered → List ℕ
 altered_text threads rows (Create name) = codes "create " ++ name
@@ -21,7 +21,7 @@ altered_text threads rows (Modify name) = codes "modify " ++ name
 altered_text threads rows SetParameters = codes "set_parameters"
 altered_text threads rows (MarkCritical x) = codes "mark_critical " ++ thread_name threads x
 altered_text threads rows (ClearCritical x) = codes "clear_critical " ++ thread_name threads x
-altered_text threads rows (Cancel p) = codes "cancel " ++ row_name rows p
+altered_text threads rows (Cancel p) = codes "cancel " ++ partition_row_name rows p
 
 -- what was altered, and whether that was refused
 abbrev pub alteration_text : List ThreadRow → List PartitionRow → Alteration → List ℕ

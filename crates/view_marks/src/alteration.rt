@@ -87,7 +87,7 @@ fn by_reply(commands: &[CommandRow], moment: Nanos, reply: &Reply) -> Option<Alt
 
 /// The call of the command at this place.
 fn call_at(commands: &[CommandRow], place: u16) -> Call
-    ensures { result ≡ spec.call_at commands.now place }
+    ensures { result ≡ spec.call_of_command commands.now place }
 {
     match commands.get(usize::from(place)) {
         Some(row) => row.call,

@@ -1,6 +1,6 @@
 //! What one processor ran: bars, each of one thread on one bill.
 ghost use Rattle.std.specs.Prelude.{◌≡◌, ◌<◌, [], length, OnOk};
-ghost use Rattle.aps_core.specs.Run.{state_of};
+ghost use Rattle.aps_core.specs.Run.{state_of_run};
 ghost use Rattle.view_marks.specs.Bar as spec;
 
 use aps_core::Core;
@@ -55,7 +55,7 @@ impl Lane {
     /// The lane goes on with this bar: it lengthens the last one where that ends where this begins and is the same in all else,
     /// and is a bar of its own where it isn't. `NoMemory` leaves the lane as it was.
     pub fn add(&mut self, bar: Bar) -> Result<(), NoMemory>
-        ensures { OnOk result (self.new ≡ spec.joined self.old bar) }
+        ensures { OnOk result (self.new ≡ spec.joined_bar self.old bar) }
     {
         if self.goes_on(&bar) {
             self.lengthen(bar.to);
@@ -67,7 +67,7 @@ impl Lane {
 
     /// Whether the bar goes on with the last one.
     fn goes_on(&self, bar: &Bar) -> bool
-        ensures { result ≡ spec.goes_on self.now bar.now }
+        ensures { result ≡ spec.lane_goes_on self.now bar.now }
     {
         match self.bars.last() {
             Some(last) => is_followed(last, bar),
@@ -78,7 +78,7 @@ impl Lane {
     /// The last bar, which is there, ends at this moment.
     fn lengthen(&mut self, to: Nanos)
         requires { 0 < length self.old }
-        ensures { self.new ≡ spec.lengthened self.old to }
+        ensures { self.new ≡ spec.lengthened_lane self.old to }
     {
         let last = self.bars.len() - 1;
         self.bars[last].to = to;
@@ -99,7 +99,7 @@ fn is_followed(bar: &Bar, next: &Bar) -> bool
 /// The bar of the next entry, where the core has made the steps before it: there is none where the entry takes no time, or
 /// its processor ran nobody.
 pub fn bar_of(core: &Core, e: &Entry) -> Option<Bar>
-    ensures { result ≡ spec.bar_of (state_of core.now) e.now }
+    ensures { result ≡ spec.bar_of (state_of_run core.now) e.now }
 {
     match (e.ran, e.billed) {
         (Some(thread), Some(partition)) if e.from < e.to => Some(Bar {

@@ -3,11 +3,11 @@ ghost use Rattle.std.specs.Prelude.{◌≡◌, ◌++◌, ◌<◌, ◌≤◌, [],
 ghost use Rattle.aps_model.specs.After.{state_after};
 ghost use Rattle.aps_model.specs.Legal.{IsLegal};
 ghost use Rattle.aps_model.specs.Valid.{IsScenario};
-ghost use Rattle.aps_core.specs.Run.{state_of};
-ghost use Rattle.aps_core.specs.Turn.{IsTaken, with_entry};
+ghost use Rattle.aps_core.specs.Run.{state_of_run};
+ghost use Rattle.aps_core.specs.Turn.{IsTurnTaken, with_entry};
 ghost use Rattle.view_marks.specs.Alteration.{altered_between};
-ghost use Rattle.view_marks.specs.Bar.{AreLonger};
-ghost use Rattle.view_marks.specs.Drawn.{IsDrawn};
+ghost use Rattle.view_marks.specs.Bar.{AreLongerLanes};
+ghost use Rattle.view_marks.specs.Drawn.{IsDrawnHistory};
 ghost use Rattle.aps_model.specs.Limits.{most_entries, most_partitions};
 
 use crate::alteration::{Alteration, add_cancels, add_commands};
@@ -71,7 +71,7 @@ impl Drawn {
 pub fn drawn_of(alloc: Global, history: &History, order: Order) -> Result<Drawn, NoMemory>
     requires legal { IsLegal history.now.scenario order history.now.entries }
     requires few { length history.now.entries ≤ most_entries }
-    ensures { IfOk result (IsDrawn history.now.scenario history.now.entries) }
+    ensures { IfOk result (IsDrawnHistory history.now.scenario history.now.entries) }
 {
     let scenario = history.scenario();
     let entries = history.entries();
@@ -92,7 +92,7 @@ fn drawn_by(
     requires begins { core.old.entries ≡ [] }
     requires legal { IsLegal scenario.now core.old.setup.order entries.now }
     requires few { length entries.now ≤ core.old.setup.limit }
-    ensures { IfOk result (IsDrawn scenario.now entries.now) }
+    ensures { IfOk result (IsDrawnHistory scenario.now entries.now) }
 {
     let mut lanes = empty_lanes(alloc, usize::from(scenario.shape().cpus))?;
     let mut alterations = Vec::new(alloc);
@@ -122,7 +122,7 @@ fn empty_lanes(alloc: Global, count: usize) -> Result<Vec<Lane>, NoMemory>
 /// The entry's lane goes on with it, where the core has made the steps before it.
 fn lengthen(lanes: &mut Vec<Lane>, core: &Core, e: &Entry) -> Result<(), NoMemory>
     requires { e.now.cpu < length lanes.old.items }
-    ensures { OnOk result (AreLonger (state_of core.now) e.now lanes.old.items lanes.new.items) }
+    ensures { OnOk result (AreLongerLanes (state_of_run core.now) e.now lanes.old.items lanes.new.items) }
 {
     if let Some(bar) = bar_of(core, e) {
         lanes[e.cpu.index()].add(bar)?;
@@ -138,10 +138,10 @@ fn go_on(
     e: &Entry,
 ) -> Result<(), NoMemory>
     requires exists { e.now.cpu < core.old.setup.scenario.shape.cpus }
-    requires taken { IsTaken core.old e.now.cpu e.now }
+    requires taken { IsTurnTaken core.old e.now.cpu e.now }
     ensures core { OnOk result (core.new ≡ with_entry core.old e.now) }
     ensures alterations { OnOk result (alterations.new.items ≡ alterations.old.items
-        ++ altered_between commands.now e.now.to (state_of core.old) (state_of (with_entry core.old e.now))) }
+        ++ altered_between commands.now e.now.to (state_of_run core.old) (state_of_run (with_entry core.old e.now))) }
 {
     let replies = core.history().replies().len();
     let changes = core.history().changes().len();
@@ -170,7 +170,7 @@ fn changes_from(history: &History, count: usize) -> &[Change]
 /// The core makes the step of which this is the entry.
 fn retrace(core: &mut Core, e: &Entry)
     requires exists { e.now.cpu < core.old.setup.scenario.shape.cpus }
-    requires taken { IsTaken core.old e.now.cpu e.now }
+    requires taken { IsTurnTaken core.old e.now.cpu e.now }
     ensures { core.new ≡ with_entry core.old e.now }
 {
     let _turn = core.step(e.cpu);
@@ -178,7 +178,7 @@ fn retrace(core: &mut Core, e: &Entry)
 
 /// A copy of the rows that stand.
 fn rows_of(alloc: Global, core: &Core) -> Result<Vec<PartitionRow>, NoMemory>
-    ensures same { IfOk result (λ rows. rows.items ≡ (state_of core.now).rows) }
+    ensures same { IfOk result (λ rows. rows.items ≡ (state_of_run core.now).rows) }
     ensures few { IfOk result (λ rows. length rows.items ≤ most_partitions) }
 {
     let mut rows = Vec::new(alloc);

@@ -15,7 +15,7 @@ pub enum Message {
 /// What the entry tells of a message, if it does: one is taken where a send finds its receiver and where a receive finds a
 /// message, and waits where a send finds no receiver.
 pub fn message_of(e: &Entry) -> Option<Message>
-    ensures { result ≡ spec.message_in e.now.done }
+    ensures { result ≡ spec.message_of_done e.now.done }
 {
     match e.done {
         Done::SendTo(_) | Done::ReceiveGot(_) => Some(Message::Taken),

@@ -45,7 +45,7 @@ pub fn all_starved(alloc: Global, entries: &[Entry]) -> Result<Vec<Starved>, NoM
 impl Without {
     /// Before the first entry.
     fn none(alloc: Global) -> Without
-        ensures { result ≡ spec.no_entry }
+        ensures { result ≡ spec.without_at_start }
     {
         Without {
             bars: Vec::new(alloc),
@@ -56,7 +56,7 @@ impl Without {
 
     /// This entry comes next.
     fn add(&mut self, e: &Entry) -> Result<(), NoMemory>
-        ensures { OnOk result (self.new ≡ spec.with_next self.old e.now) }
+        ensures { OnOk result (self.new ≡ spec.starved_with_entry self.old e.now) }
     {
         if let Some(partition) = self.named {
             self.add_bar(Starved {
@@ -72,7 +72,7 @@ impl Without {
 
     /// The bars with one more, which lengthens the last one where it follows on that; one that lasts no time changes nothing.
     fn add_bar(&mut self, bar: Starved) -> Result<(), NoMemory>
-        ensures { OnOk result (self.new ≡ record self.old { bars = spec.with_bar self.old.bars bar }) }
+        ensures { OnOk result (self.new ≡ record self.old { bars = spec.with_starved self.old.bars bar }) }
     {
         if bar.from >= bar.to {
             return Ok(());
@@ -87,7 +87,7 @@ impl Without {
 
     /// Whether the bar follows on the last one.
     fn goes_on(&self, bar: &Starved) -> bool
-        ensures { result ≡ spec.goes_on self.now.bars bar.now }
+        ensures { result ≡ spec.starved_goes_on self.now.bars bar.now }
     {
         match self.bars.last() {
             Some(last) => last.to == bar.from && last.partition == bar.partition,
@@ -98,7 +98,7 @@ impl Without {
     /// The last bar, which is there, ends at this moment.
     fn lengthen(&mut self, to: Nanos)
         requires { 0 < length self.old.bars }
-        ensures { self.new ≡ record self.old { bars = spec.lengthened self.old.bars to } }
+        ensures { self.new ≡ record self.old { bars = spec.lengthened_starved self.old.bars to } }
     {
         let last = self.bars.len() - 1;
         self.bars[last].to = to;

@@ -61,7 +61,7 @@ pub fn thread_name(threads: &[ThreadRow], x: ThreadId) -> &str
 
 /// The name of a partition, by the rows.
 pub fn row_name(rows: &[PartitionRow], p: PartitionId) -> &str
-    ensures { result.now ≡ spec.row_name rows.now p }
+    ensures { result.now ≡ spec.partition_row_name rows.now p }
 {
     match rows.get(p.index()) {
         Some(row) => text_of(&row.name),

@@ -6,7 +6,7 @@ use Rattle.std.proofs.Math.Nat.{mul-le-mul_right}
 use Rattle.view_samples.specs.declared.sample.Sample.{Sample}
 use Rattle.view_pictures.specs.declared.group.Point.{Point}
 use Rattle.view_pictures.specs.declared.scale.Sizes.{Sizes}
-use Rattle.view_pictures.specs.Group.{IsBounded, column_of, is_nearer, joined, no_point, point_of}
+use Rattle.view_pictures.specs.Group.{IsBounded, column_of, is_nearer, joined_points, no_point, point_of}
 use Rattle.view_pictures.specs.Scale.{depth_of, plot_height}
 use Rattle.view_pictures.specs.Survey.{bound_of, whole_of}
 
@@ -33,17 +33,17 @@ either : (c : Bool) (a b : Point) → Keeps a → Keeps b → Keeps (if c then b
 either true a b first second = second
 either false a b first second = first
 
-joined_keeps : (a b : Point) → Keeps a → Keeps b → Keeps (joined a b)
+joined_keeps : (a b : Point) → Keeps a → Keeps b → Keeps (joined_points a b)
 joined_keeps a b first second = either (is_nearer b a) a b first second
 
 one_keeps : (sizes : Sizes) (p top : ℕ) (s : Sample × Bool) → IsBounded sizes p s → Keeps (point_of sizes p top s.1 s.0)
 one_keeps sizes p top s bounded = higher (slice_index s.0.usage.used p) (bound_of sizes s.0 p) (whole_of sizes s.0) top bounded
 
 all_keep : (sizes : Sizes) (p top : ℕ) (samples : List (Sample × Bool)) (point : Point) → Keeps point → All (IsBounded sizes p) samples
-    → Keeps (fold (λ point (s : Sample × Bool). joined point (point_of sizes p top s.1 s.0)) point samples)
+    → Keeps (fold (λ point (s : Sample × Bool). joined_points point (point_of sizes p top s.1 s.0)) point samples)
 all_keep sizes p top [] point so_far each = so_far
 all_keep sizes p top (s ∷ samples) point so_far each =
-    all_keep sizes p top samples (joined point (point_of sizes p top s.1 s.0))
+    all_keep sizes p top samples (joined_points point (point_of sizes p top s.1 s.0))
     (joined_keeps point (point_of sizes p top s.1 s.0) so_far (one_keeps sizes p top s (each 0 s (omega arith))))
     (λ k d below. each (suc k) d (omega (arith, below)))
 

@@ -50,15 +50,15 @@ abbrev pub nearer : Point → Point → Point
 nearer point next = if is_nearer next point then next else point
 
 -- both together: what is shown of the nearer, the least used, and whether a candidate lacked in either
-abbrev pub joined : Point → Point → Point
-joined point next = record (nearer point next) {
+abbrev pub joined_points : Point → Point → Point
+joined_points point next = record (nearer point next) {
   low = max point.low next.low;
   lacking = point.lacking || next.lacking;
 }
 
 -- the point of these samples, one after the other; beside each stands whether there was no candidate at some pick of its tick
 abbrev pub column_of : Sizes → ℕ → ℕ → List (Sample × Bool) → Point
-column_of sizes p top samples = fold (λ point (s : Sample × Bool). joined point (point_of sizes p top s.1 s.0)) no_point samples
+column_of sizes p top samples = fold (λ point (s : Sample × Bool). joined_points point (point_of sizes p top s.1 s.0)) no_point samples
 
 -- in this sample partition p uses no more than its bound
 abbrev pub IsBounded : Sizes → ℕ → Sample × Bool → Type 0

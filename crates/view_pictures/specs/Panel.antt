@@ -12,7 +12,7 @@ abbrev pub rows_of_panels : ℕ → ℕ
 rows_of_panels count = if in_two count then (count + 1) / 2 else count
 
 -- the panel of partition p, of so many: the first column on the left, and in each the lower numbers higher up
-pub record IsPlaced (p count : ℕ) (panel : Panel) : Type 0 where
+pub record IsPanelPlaced (p count : ℕ) (panel : Panel) : Type 0 where
   pub x : panel.x ≡ (if nat_lt p (rows_of_panels count) then left_edge else 7900)
   pub y : panel.y ≡ 780 + (if in_two count then p % rows_of_panels count else p) * 1560
   pub width : panel.width ≡ (if in_two count then 5500 else shown_width)

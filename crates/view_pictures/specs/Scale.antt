@@ -8,16 +8,16 @@ abbrev pub tops : List ℕ
 tops = 10 ∷ 20 ∷ 50 ∷ 100 ∷ 200 ∷ 300 ∷ 400 ∷ 500 ∷ 600 ∷ 800 ∷ []
 
 -- what the top stands for that has this place
-abbrev pub top_at : ℕ → ℕ
-top_at scale = slice_index_or tops scale 1000
+abbrev pub top_of_scale : ℕ → ℕ
+top_of_scale scale = slice_index_or tops scale 1000
 
 -- the part of the whole is below a top
-abbrev pub is_below : ℕ → ℕ → ℕ → Bool
-is_below part whole top = nat_lt (part * thousandths) (top * whole)
+abbrev pub is_below_top : ℕ → ℕ → ℕ → Bool
+is_below_top part whole top = nat_lt (part * thousandths) (top * whole)
 
 -- the place of the first top that the part is below, or of the last one
 abbrev pub scale_of : ℕ → ℕ → ℕ
-scale_of part whole = position_or_len (is_below part whole) tops
+scale_of part whole = position_or_len (is_below_top part whole) tops
 
 -- how high the lines of a panel are
 abbrev pub plot_height : ℕ

@@ -14,8 +14,8 @@ abbrev pub end_by : Option Entry → ℕ
 end_by None = 0
 end_by (Some e) = e.to
 
-abbrev pub end_of : List Entry → ℕ
-end_of h = end_by (slice_get h (length h - 1))
+abbrev pub end_of_entries : List Entry → ℕ
+end_of_entries h = end_by (slice_get h (length h - 1))
 
 -- before which tick the picture ends where the history ends at this moment: the one that was asked for, or the one after its
 -- end; at least one tick is shown, and there is a greatest one
@@ -32,7 +32,7 @@ up_to moment [] = []
 up_to moment (e ∷ h) = e ∷ (if nat_le moment e.to then [] else up_to moment h)
 
 -- what stands after these
-pub record IsStanding (history : History) (moment : ℕ) (standing : Standing) : Type 0 where
+pub record IsStandingAfter (history : History) (moment : ℕ) (standing : Standing) : Type 0 where
   pub rows : standing.rows.items ≡ (state_after history.scenario (up_to moment history.entries)).rows
   pub window : standing.window ≡ (state_after history.scenario (up_to moment history.entries)).shape.window
 
@@ -43,12 +43,13 @@ last_begin to end tick = min (to - 1) (end / tick) * tick
 -- what a picture of these ticks shows of the history
 pub record IsScene (history : History) (ticks : Ticks) (scene : Scene) : Type 0 where
   pub from : scene.stretch.from ≡ ticks.from
-  pub to : scene.stretch.to ≡ shown_end ticks (end_of history.entries) history.scenario.shape.tick
+  pub to : scene.stretch.to ≡ shown_end ticks (end_of_entries history.entries) history.scenario.shape.tick
   pub begins : scene.span.from ≡ scene.stretch.from * history.scenario.shape.tick
   pub ends : scene.span.to ≡ scene.stretch.to * history.scenario.shape.tick
   pub cpus : scene.cpus ≡ history.scenario.shape.cpus
   pub tick : scene.tick ≡ history.scenario.shape.tick
   pub parts : scene.parts ≡ history.scenario.shape.parts
   pub rows : scene.rows.items ≡ (state_after history.scenario history.entries).rows
-  pub standing : IsStanding history (last_begin scene.stretch.to (end_of history.entries) history.scenario.shape.tick) scene.standing
+  pub standing : IsStandingAfter history
+      (last_begin scene.stretch.to (end_of_entries history.entries) history.scenario.shape.tick) scene.standing
   pub usage : IsUsage history.scenario.shape.tick scene.stretch.from scene.stretch.to history.entries scene.usage

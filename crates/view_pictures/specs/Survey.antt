@@ -13,16 +13,16 @@ use Rattle.view_pictures.specs.declared.survey.Survey.{Survey}
 use Rattle.view_pictures.specs.Scale.{scale_of}
 
 -- two times together, or the greatest number that there is
-abbrev pub with_time : ℕ → ℕ → ℕ
-with_time a b = min (a + b) greatest_u64
+abbrev pub times_together : ℕ → ℕ → ℕ
+times_together a b = min (a + b) greatest_u64
 
 -- all processor time of the window of a sample
 abbrev pub whole_of : Sizes → Sample → ℕ
 whole_of sizes sample = sizes.cpus * sample.window * sizes.tick
 
 -- how many parts of 1,000 of the whole, rounded down
-abbrev pub share_of : ℕ → ℕ → ℕ
-share_of used whole = if nat_eq whole 0 then 0 else used * thousandths / whole
+abbrev pub thousandths_of : ℕ → ℕ → ℕ
+thousandths_of used whole = if nat_eq whole 0 then 0 else used * thousandths / whole
 
 -- a tick of each processor, where anything is allowed
 abbrev pub slack_of : Sizes → ℕ → ℕ
@@ -31,8 +31,8 @@ slack_of sizes allowance = if nat_lt 0 allowance then sizes.cpus * sizes.tick el
 -- what partition p uses at most in a window without a change: what it is allowed, its critical time, its free time and the slack
 abbrev pub bound_of : Sizes → Sample → ℕ → ℕ
 bound_of sizes sample p =
-    with_time
-    (with_time (with_time (slice_index sample.allowance p) (slice_index sample.usage.critical p)) (slice_index sample.free p))
+    times_together
+    (times_together (times_together (slice_index sample.allowance p) (slice_index sample.usage.critical p)) (slice_index sample.free p))
     (slack_of sizes (slice_index sample.allowance p))
 
 -- the greatest of what is drawn of it: what it used and was allowed, and the bound where no change stands
@@ -46,7 +46,7 @@ peak_of sizes sample p = record {
   tick = sample.tick;
   used = slice_index sample.usage.used p;
   whole = whole_of sizes sample;
-  share = share_of (slice_index sample.usage.used p) (whole_of sizes sample);
+  share = thousandths_of (slice_index sample.usage.used p) (whole_of sizes sample);
 }
 
 -- the first of the greatest so far, where the peak counts

@@ -2,10 +2,10 @@
 ghost use Rattle.std.specs.Prelude.{◌≡◌, ℕ, ◌+◌, ◌*◌, ◌<◌, ◌≤◌, ◌&&◌, false, nat_lt, length, IfOk, slice_index, slice_index_or};
 ghost use Rattle.aps_model.specs.Legal.{IsLegal};
 ghost use Rattle.aps_model.specs.Loaded.{finished_ticks};
-ghost use Rattle.view_pictures.specs.Group.{IsEmptyGroup, is_nearer, joined, nearer, no_point, point_of, unread_point};
-ghost use Rattle.view_pictures.specs.Scale.{depth_of, top_at};
+ghost use Rattle.view_pictures.specs.Group.{IsEmptyGroup, is_nearer, joined_points, nearer, no_point, point_of, unread_point};
+ghost use Rattle.view_pictures.specs.Scale.{depth_of, top_of_scale};
 ghost use Rattle.view_pictures.specs.Survey.{no_found, whole_of};
-ghost use Rattle.view_samples.specs.Pass.{IsAt, scenario_of};
+ghost use Rattle.view_samples.specs.Pass.{IsAtTickBegin, scenario_of_cursor};
 ghost use Rattle.aps_model.specs.Limits.{last_tick, most_entries, most_partitions};
 
 use crate::scale::{Sizes, depth_of, top_of};
@@ -77,7 +77,7 @@ pub fn groups_of(
 
 /// What the top of each partition's panel stands for.
 fn tops_of(survey: &Survey) -> [u64; 32]
-    ensures { (p : ℕ) → p < most_partitions → slice_index_or result p 0 ≡ top_at (slice_index_or survey.now.found p no_found).scale }
+    ensures { (p : ℕ) → p < most_partitions → slice_index_or result p 0 ≡ top_of_scale (slice_index_or survey.now.found p no_found).scale }
 {
     let mut tops = [0; MOST_PARTITIONS];
     for p in 0..MOST_PARTITIONS {
@@ -96,8 +96,8 @@ impl Groups {
         range: Range,
         tops: &[u64; 32],
     ) -> Result<(), NoMemory>
-        requires at { IsAt history.now.entries samples.old }
-        requires of { scenario_of samples.old.cursor ≡ history.now.scenario }
+        requires at { IsAtTickBegin history.now.entries samples.old }
+        requires of { scenario_of_cursor samples.old.cursor ≡ history.now.scenario }
         requires first { samples.old.tick ≡ 0 }
         requires finished { range.end ≤ finished_ticks history.now.scenario.shape history.now.entries }
     {
@@ -201,7 +201,7 @@ impl Group {
         ensures end { self.new.end ≡ self.old.end }
         ensures unchanged { self.new.unchanged ≡ (self.old.unchanged && sample.now.unchanged) }
         ensures points { (p : ℕ) → p < most_partitions → slice_index_or self.new.points p unread_point
-            ≡ joined (slice_index_or self.old.points p unread_point)
+            ≡ joined_points (slice_index_or self.old.points p unread_point)
             (point_of sizes p (slice_index_or tops.now p 0) (slice_index_or lacking.now p false) sample.now) }
     {
         self.points = points_with(&self.points, sample, sizes, tops, lacking);
@@ -220,7 +220,7 @@ fn points_with(
     lacking: &[bool; 32],
 ) -> [Point; 32]
     ensures { (p : ℕ) → p < most_partitions → slice_index_or result p unread_point
-        ≡ joined (slice_index_or points.now p unread_point)
+        ≡ joined_points (slice_index_or points.now p unread_point)
         (point_of sizes p (slice_index_or tops.now p 0) (slice_index_or lacking.now p false) sample.now) }
 {
     let mut all = [no_point(); MOST_PARTITIONS];
@@ -254,7 +254,7 @@ fn point_of(sample: &Sample, sizes: Sizes, p: usize, top: u64, lacking: bool) ->
 
 /// The point of a group with one sample more.
 fn joined(point: &Point, next: &Point) -> Point
-    ensures { result ≡ joined point.now next.now }
+    ensures { result ≡ joined_points point.now next.now }
 {
     let shown = nearer(point, next);
     Point {

@@ -3,7 +3,7 @@ ghost use Rattle.std.specs.Prelude.{◌≡◌, ◌≤◌, [], length, IfOk};
 ghost use Rattle.aps_model.specs.After.{state_after};
 ghost use Rattle.aps_model.specs.Legal.{IsLegal};
 ghost use Rattle.aps_model.specs.Valid.{IsScenario};
-ghost use Rattle.view_pictures.specs.Scene.{IsStanding, up_to};
+ghost use Rattle.view_pictures.specs.Scene.{IsStandingAfter, up_to};
 ghost use Rattle.aps_model.specs.Limits.{most_entries};
 
 use aps_core::Core;
@@ -28,7 +28,7 @@ pub fn standing_at(
 ) -> Result<Standing, NoMemory>
     requires legal { IsLegal history.now.scenario order history.now.entries }
     requires few { length history.now.entries ≤ most_entries }
-    ensures { IfOk result (IsStanding history.now moment) }
+    ensures { IfOk result (IsStandingAfter history.now moment) }
 {
     let mut core = boot(alloc, history, order)?;
     retrace_to(&mut core, history.entries(), moment);

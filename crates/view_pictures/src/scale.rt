@@ -1,6 +1,6 @@
 //! The scale of a panel.
 ghost use Rattle.std.specs.Prelude.{◌≡◌, ◌+◌, ◌*◌, ◌<◌, ◌≤◌, length};
-ghost use Rattle.view_pictures.specs.Scale.{depth_of, plot_height, scale_of, top_at};
+ghost use Rattle.view_pictures.specs.Scale.{depth_of, plot_height, scale_of, top_of_scale};
 ghost use Rattle.aps_model.specs.Limits.{longest_tick, most_cpus, most_time_of_tick};
 
 use aps_model::Nanos;
@@ -57,7 +57,7 @@ pub fn scale_of(part: Nanos, whole: Nanos) -> usize
 
 /// What the top stands for that has this place.
 pub fn top_of(scale: usize) -> u64
-    ensures { result ≡ top_at scale }
+    ensures { result ≡ top_of_scale scale }
 {
     match TOPS.get(scale) {
         Some(top) => *top,

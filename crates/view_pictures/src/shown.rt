@@ -2,7 +2,7 @@
 ghost use Rattle.std.specs.Prelude.{◌≡◌, ◌+◌, ◌*◌, ◌<◌, ◌≤◌, length, IfOk};
 ghost use Rattle.aps_model.specs.Legal.{IsLegal};
 ghost use Rattle.aps_model.specs.Shape.{IsShape};
-ghost use Rattle.view_pictures.specs.Scene.{IsScene, asked_end, end_of, last_begin, shown_end};
+ghost use Rattle.view_pictures.specs.Scene.{IsScene, asked_end, end_of_entries, last_begin, shown_end};
 ghost use Rattle.aps_model.specs.Limits.{longest_tick, most_entries};
 
 use crate::retracing::standing_at;
@@ -52,7 +52,7 @@ impl Scene {
 
 /// Where the last entry ends, in ns; 0 where there is none.
 fn end_of(entries: &[Entry]) -> Nanos
-    ensures { result ≡ end_of entries.now }
+    ensures { result ≡ end_of_entries entries.now }
 {
     match entries.last() {
         Some(e) => e.to,

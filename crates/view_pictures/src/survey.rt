@@ -2,9 +2,9 @@
 ghost use Rattle.std.specs.Prelude.{◌≡◌, ℕ, ◌+◌, ◌-◌, ◌*◌, ◌<◌, ◌≤◌, length, IfOk, OnOk, if◌then◌else◌, slice_index, slice_index_or, Some, None};
 ghost use Rattle.aps_model.specs.Legal.{IsLegal};
 ghost use Rattle.aps_model.specs.Loaded.{finished_ticks};
-ghost use Rattle.view_pictures.specs.Survey.{IsSurvey, bound_of, found_with, highest_of, is_changed, less, more, no_found, peak_of, share_of, whole_of};
+ghost use Rattle.view_pictures.specs.Survey.{IsSurvey, bound_of, found_with, highest_of, is_changed, less, more, no_found, peak_of, thousandths_of, whole_of};
 ghost use Rattle.view_pictures.specs.declared.scale.Sizes.{Sizes};
-ghost use Rattle.view_samples.specs.Pass.{IsAt, scenario_of};
+ghost use Rattle.view_samples.specs.Pass.{IsAtTickBegin, scenario_of_cursor};
 ghost use Rattle.aps_model.specs.Limits.{last_tick, most_entries, most_partitions};
 
 use crate::scale::{Sizes, scale_of};
@@ -106,8 +106,8 @@ impl Survey {
         sizes: Sizes,
         range: Range,
     ) -> Result<(), NoMemory>
-        requires at { IsAt history.now.entries samples.old }
-        requires of { scenario_of samples.old.cursor ≡ history.now.scenario }
+        requires at { IsAtTickBegin history.now.entries samples.old }
+        requires of { scenario_of_cursor samples.old.cursor ≡ history.now.scenario }
         requires first { samples.old.tick ≡ 0 }
         requires finished { range.end ≤ finished_ticks history.now.scenario.shape history.now.entries }
         requires none { IsSurvey history.now.scenario history.now.entries sizes range.from 0 self.old }
@@ -222,7 +222,7 @@ fn peak_of(sample: &Sample, whole: Nanos, p: usize) -> Peak
 
 /// How many parts of 1,000 of the whole this is, rounded down.
 fn share_of(used: Nanos, whole: Nanos) -> u128
-    ensures { result ≡ share_of used whole }
+    ensures { result ≡ thousandths_of used whole }
 {
     if whole == 0 {
         return 0;

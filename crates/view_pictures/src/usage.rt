@@ -2,7 +2,7 @@
 ghost use Rattle.std.specs.Prelude.{◌≡◌, ◌+◌, ◌*◌, ◌<◌, ◌≤◌, length};
 ghost use Rattle.aps_model.specs.Legal.{IsLegal};
 ghost use Rattle.aps_model.specs.Loaded.{finished_ticks};
-ghost use Rattle.view_pictures.specs.Panel.{IsPlaced, rows_of_panels};
+ghost use Rattle.view_pictures.specs.Panel.{IsPanelPlaced, rows_of_panels};
 ghost use Rattle.aps_model.specs.Limits.{most_entries, most_partitions};
 
 use crate::group::{Groups, groups_of};
@@ -202,7 +202,7 @@ fn add_panels(
 fn panel_at(p: usize, count: usize) -> Panel
     requires p { p < count }
     requires count { count ≤ most_partitions }
-    ensures { IsPlaced p count result }
+    ensures { IsPanelPlaced p count result }
 {
     if count <= ONE_COLUMN {
         return Panel {

@@ -3,7 +3,7 @@ ghost use Rattle.std.specs.Prelude.{◌≡◌, ◌<◌, ◌++◌, [], ◌∷◌,
 ghost use Rattle.aps_model.specs.Due.{due};
 ghost use Rattle.aps_model.specs.History.{IsEntry};
 ghost use Rattle.aps_model.specs.Legal.{IsLegal};
-ghost use Rattle.aps_core.specs.Run.{end_of_run, state_of};
+ghost use Rattle.aps_core.specs.Run.{end_of_run, state_of_run};
 ghost use Rattle.aps_core.specs.Turn.{HasTurnIn, with_entry};
 ghost use Rattle.view_replay.specs.Entry.{entry_of};
 
@@ -17,7 +17,7 @@ pub fn take_turn(core: &mut Core, cpu: CpuId) -> Entry
     ensures same { result ≡ entry_of core.old cpu }
     ensures run { core.new ≡ with_entry core.old result }
     ensures legal { IsLegal core.old.setup.scenario core.old.setup.order (core.old.entries ++ result ∷ []) }
-    ensures to { result.to ≡ due (state_of core.old) core.old.entries cpu }
+    ensures to { result.to ≡ due (state_of_run core.old) core.old.entries cpu }
     ensures entry { IsEntry result }
     ensures room { length core.old.entries < core.old.setup.limit }
 {

@@ -7,11 +7,11 @@ use Rattle.aps_model.specs.Scenario.{Scenario}
 use Rattle.aps_model.specs.Usage.{billed_by, critical_by, critical_used, names, overlap, used}
 use Rattle.laws_bounds.specs.FreeTime.{free_by, free_used, sum_along}
 use Rattle.laws_bounds.specs.Kinds.{is_free, last_kind}
-use Rattle.view_samples.specs.Sums.{freed, freed_from, marked}
+use Rattle.view_samples.specs.Sums.{freed, freed_from, entry_marked}
 
 -- the entry with its mark
 abbrev pub freed_at : Scenario → List Entry → Entry → Entry
-freed_at scenario before e = marked e (is_free (last_kind scenario before e.cpu))
+freed_at scenario before e = entry_marked e (is_free (last_kind scenario before e.cpu))
 
 append_from : (scenario : Scenario) (before xs ys : List Entry) → freed_from scenario before (xs ++ ys) ≡ freed_from scenario before xs ++ freed_from scenario (before ++ xs) ys
 append_from scenario before [] ys = ap (λ g. freed_from scenario g ys) (sym (append-nil before))

@@ -18,7 +18,7 @@ use Rattle.aps_model.specs.SchedulerState.{cpu_at}
 use Rattle.laws_runs.specs.Window.{kept_if, pair_kept}
 use Rattle.laws_bounds.specs.Kinds.{is_free, kind_by}
 use Rattle.view_samples.specs.declared.look.Look.{Look}
-use Rattle.view_samples.specs.Look.{IsLook, IsSeen}
+use Rattle.view_samples.specs.Look.{IsLook, IsLookAtEntry}
 use Rattle.view_samples.specs.Picks.{is_unfunded}
 
 never : (a b : ℕ) → b ≡ 0 → false ≡ nat_lt a b
@@ -50,7 +50,7 @@ free_is shape rows h j (Some x) (Some pick) =
     by_tests false true = refl
     by_tests false false = refl
 
-pub seen_is : (scenario : Scenario) (h : List Entry) (e : Entry) (look : Look) → IsSeen (state_after scenario (h ++ e ∷ [])) (h ++ e ∷ []) (length (state_after scenario h).changes) e look → IsLook scenario h e look
+pub seen_is : (scenario : Scenario) (h : List Entry) (e : Entry) (look : Look) → IsLookAtEntry (state_after scenario (h ++ e ∷ [])) (h ++ e ∷ []) (length (state_after scenario h).changes) e look → IsLook scenario h e look
 seen_is scenario h e look seen = record {
   lacking = seen.lacking;
   out = seen.out;

@@ -11,7 +11,7 @@ use Rattle.view_samples.specs.declared.look.Look.{Look}
 use Rattle.view_samples.specs.declared.note.Note.{Note}
 use Rattle.view_samples.specs.Along.{any_of}
 use Rattle.view_samples.specs.Look.{IsLook}
-use Rattle.view_samples.specs.Note.{IsAdded, IsBegun, IsFresh, IsNote, is_reached}
+use Rattle.view_samples.specs.Note.{IsLookAdded, IsBegunNote, IsFreshNote, IsNote, is_reached}
 use Rattle.view_samples.specs.Picks.{changes_by, lacks_test, out_test}
 use Rattle.view_samples.proofs.Along.{along_later, along_more, any_longer}
 use Rattle.view_samples.proofs.Passing.{changes_are, lacks_is, out_is, starved_is, starved_test}
@@ -36,16 +36,16 @@ here test tick j h e is =
 
 -- this is so of tick j, by the state of a later history and the picks of an earlier one
 pub record IsSplit (scenario : Scenario) (later h : List Entry) (j : ℕ) (note : Note) : Type 0 where
-  pub begun : IsBegun (state_of_tick scenario later j) note
+  pub begun : IsBegunNote (state_of_tick scenario later j) note
   pub lacking : (p : ℕ) → p < most_partitions → slice_index_or note.lacking p false ≡ any_of (lacks_test scenario p) scenario.shape.tick j (j + 1) h
   pub out : (p : ℕ) → p < most_partitions → slice_index_or note.out p false ≡ any_of (out_test scenario p) scenario.shape.tick j (j + 1) h
   pub starved : note.starved ≡ any_of starved_test scenario.shape.tick j (j + 1) h
   pub changed : note.changed ≡ any_of (changes_by scenario) scenario.shape.tick j (j + 1) h
 
-pub split_fresh : (scenario : Scenario) (later h : List Entry) (j : ℕ) (s : SchedulerState) (note : Note) → AreEarly scenario.shape.tick j h → state_of_tick scenario later j ≡ s → IsFresh s note
+pub split_fresh : (scenario : Scenario) (later h : List Entry) (j : ℕ) (s : SchedulerState) (note : Note) → AreEarly scenario.shape.tick j h → state_of_tick scenario later j ≡ s → IsFreshNote s note
     → IsSplit scenario later h j note
 split_fresh scenario later h j s note early is fresh = record {
-  begun = subst (λ (t : SchedulerState). IsBegun t note) (sym is) fresh.begun;
+  begun = subst (λ (t : SchedulerState). IsBegunNote t note) (sym is) fresh.begun;
   lacking = λ p less. fresh.lacking p less ∙ sym (none_yet (lacks_test scenario p) scenario.shape.tick j h early);
   out = λ p less. fresh.out p less ∙ sym (none_yet (out_test scenario p) scenario.shape.tick j h early);
   starved = fresh.starved ∙ sym (none_yet starved_test scenario.shape.tick j h early);
@@ -54,7 +54,7 @@ split_fresh scenario later h j s note early is fresh = record {
 
 pub split_note : (scenario : Scenario) (h es : List Entry) (j : ℕ) (note : Note) → is_reached (j * scenario.shape.tick) h ≡ true → IsNote scenario h j note → IsSplit scenario (h ++ es) h j note
 split_note scenario h es j note reached is = record {
-  begun = subst (λ (g : List Entry). IsBegun (state_after scenario g) note) (sym (through_kept (j * scenario.shape.tick) h es reached)) is.begun;
+  begun = subst (λ (g : List Entry). IsBegunNote (state_after scenario g) note) (sym (through_kept (j * scenario.shape.tick) h es reached)) is.begun;
   lacking = λ p less. is.lacking p less ∙ lacks_is scenario h p j (j + 1);
   out = λ p less. is.out p less ∙ out_is scenario h p j (j + 1);
   starved = is.starved ∙ starved_is scenario.shape.tick h j (j + 1);
@@ -72,7 +72,7 @@ note_of scenario h j note is = record {
 
 -- the look at its pick is added
 pub note_more : (scenario : Scenario) (h : List Entry) (e : Entry) (j : ℕ) (look : Look) (before after : Note) → e.to / scenario.shape.tick ≡ j → IsSplit scenario (h ++ e ∷ []) h j before
-    → IsLook scenario h e look → IsAdded look before after → IsNote scenario (h ++ e ∷ []) j after
+    → IsLook scenario h e look → IsLookAdded look before after → IsNote scenario (h ++ e ∷ []) j after
 note_more scenario h e j look before after at is seen added = note_of scenario (h ++ e ∷ []) j after (record {
   begun = record {
     window = added.window ∙ is.begun.window;

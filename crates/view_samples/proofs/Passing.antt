@@ -8,7 +8,7 @@ use Rattle.aps_model.specs.Loaded.{has_starved, is_among}
 use Rattle.aps_model.specs.Scenario.{Scenario}
 use Rattle.view_samples.specs.declared.lasts.Lasts.{Lasts}
 use Rattle.view_samples.specs.declared.note.Note.{Note}
-use Rattle.view_samples.specs.Lasts.{AreLasts, IsLast}
+use Rattle.view_samples.specs.Lasts.{AreLasts, IsAfterLast}
 use Rattle.view_samples.specs.Note.{IsNote}
 use Rattle.view_samples.specs.Passed.{IsPassed, later, no_lasts}
 use Rattle.view_samples.specs.Along.{any_of}
@@ -72,13 +72,13 @@ starved_passes tick h = passes_same (has_starved tick h) (λ a b. any_of starved
 changes_pass : (scenario : Scenario) (h : List Entry) → PassesBy (changes_in scenario h)
 changes_pass scenario h = passes_same (changes_in scenario h) (λ a b. any_of (changes_by scenario) scenario.shape.tick a b h) (changes_are scenario h) (any_passes (changes_by scenario) scenario.shape.tick h)
 
-last_none : (was : ℕ → ℕ → Bool) → PassesBy was → IsLast was 0 0
+last_none : (was : ℕ → ℕ → Bool) → PassesBy was → IsAfterLast was 0 0
 last_none was passes = record { same = λ a. passes.none a ∙ nothing a; within = omega arith }
   where
     nothing : (a : ℕ) → false ≡ nat_lt a 0
     nothing a = grind (arith, nat_tests)
 
-last_more : (was : ℕ → ℕ → Bool) (j last : ℕ) (t : Bool) → PassesBy was → was j (j + 1) ≡ t → IsLast was j last → IsLast was (j + 1) (later last t j)
+last_more : (was : ℕ → ℕ → Bool) (j last : ℕ) (t : Bool) → PassesBy was → was j (j + 1) ≡ t → IsAfterLast was j last → IsAfterLast was (j + 1) (later last t j)
 last_more was j last t passes is before = record {
   same = λ a. passes.more a j ∙ ap (λ b. was a j || (nat_le a j && b)) is ∙ ap (λ b. b || (nat_le a j && t)) (before.same a) ∙ by_test a t;
   within = within t;
@@ -111,7 +111,7 @@ lasts_none scenario h = record {
   changed = last_none (changes_in scenario h) (changes_pass scenario h);
 }
   where
-    from : (was : ℕ → ℕ → Bool) (p : ℕ) → p < most_partitions → PassesBy was → IsLast was 0 (slice_index (replicate most_partitions 0) p)
+    from : (was : ℕ → ℕ → Bool) (p : ℕ) → p < most_partitions → PassesBy was → IsAfterLast was 0 (slice_index (replicate most_partitions 0) p)
     from was p less passes = let zero : slice_index (replicate most_partitions 0) p ≡ 0 = get_or-replicate most_partitions p 0 0 less in rw zero (last_none was passes)
 
 pub lasts_more : (scenario : Scenario) (h : List Entry) (j : ℕ) (note : Note) (before after : Lasts) → IsNote scenario h j note → AreLasts scenario h j before
@@ -123,5 +123,5 @@ lasts_more scenario h j note before after is are passed = record {
   changed = one (changes_in scenario h) _ _ _ (changes_pass scenario h) passed.changed (sym is.changed) are.changed;
 }
   where
-    one : (was : ℕ → ℕ → Bool) (last next : ℕ) (t : Bool) → PassesBy was → next ≡ later last t j → was j (j + 1) ≡ t → IsLast was j last → IsLast was (j + 1) next
+    one : (was : ℕ → ℕ → Bool) (last next : ℕ) (t : Bool) → PassesBy was → next ≡ later last t j → was j (j + 1) ≡ t → IsAfterLast was j last → IsAfterLast was (j + 1) next
     one was last next t passes same now here = rw same (last_more was j last t passes now here)

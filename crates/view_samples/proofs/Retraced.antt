@@ -13,7 +13,7 @@ use Rattle.laws_runs.proofs.WaitFacts.{test_ne}
 use Rattle.laws_runs.specs.Runs.{GoesOn}
 use Rattle.aps_core.specs.Run.{Run, Setup}
 use Rattle.view_samples.specs.Retraced.{front}
-use Rattle.aps_core.specs.Turn.{IsTaken, with_entry}
+use Rattle.aps_core.specs.Turn.{IsTurnTaken, with_entry}
 use Rattle.aps_core.proofs.Turns.{cpus_exist}
 
 -- the history by the entries before one, that one, and those after it
@@ -29,7 +29,7 @@ one_more h i e less is = take_more h i e less ∙ ap (λ x. take i h ++ x ∷ []
 
 -- the next entry is the step of its processor, which has the turn
 pub next_taken : (scenario : Scenario) (order : Order) (limit : ℕ) (h : List Entry) (i : ℕ) (e : Entry) → IsLegal scenario order h → i < length h → get_or h i e ≡ e → length h ≤ limit
-    → IsTaken (front scenario order limit h i) e.cpu e
+    → IsTurnTaken (front scenario order limit h i) e.cpu e
 next_taken scenario order limit h i e legal less is room =
     let next : GoesOn scenario order (take i h) e =
     goes_on scenario order (take i h) (drop (i + 1) h) e (subst (IsLegal scenario order) (parted h i e less is) legal) in

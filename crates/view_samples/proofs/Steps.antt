@@ -13,7 +13,7 @@ use Rattle.aps_model.specs.Legal.{IsLegal}
 use Rattle.aps_model.specs.Limits.{most_cpus, most_time_of_tick}
 use Rattle.aps_model.specs.Scenario.{Scenario}
 use Rattle.aps_model.specs.Valid.{IsScenario}
-use Rattle.aps_core.specs.Run.{Run, Setup, state_of}
+use Rattle.aps_core.specs.Run.{Run, Setup, state_of_run}
 use Rattle.aps_core.specs.Turn.{with_entry}
 use Rattle.laws_bounds.specs.Kinds.{is_free, kind_of, last_kind}
 use Rattle.laws_bounds.proofs.LastPick.{kind_other, kind_own}
@@ -21,11 +21,11 @@ use Rattle.view_samples.specs.declared.look.Look.{Look}
 use Rattle.view_samples.specs.declared.pass.Cursor.{Cursor}
 use Rattle.view_samples.specs.declared.pass.Samples.{Samples}
 use Rattle.view_samples.specs.declared.sums.Sums.{Sums}
-use Rattle.view_samples.specs.Look.{IsLook, IsSeen}
-use Rattle.view_samples.specs.Note.{IsAdded, IsFresh, IsNote, is_reached}
-use Rattle.view_samples.specs.Pass.{AreFree, HasNote, IsCut, IsReady, IsUpTo, KeepsNotes, Opens, entry_at, no_entry, order_of, scenario_of}
+use Rattle.view_samples.specs.Look.{IsLook, IsLookAtEntry}
+use Rattle.view_samples.specs.Note.{IsLookAdded, IsFreshNote, IsNote, is_reached}
+use Rattle.view_samples.specs.Pass.{AreFree, HasNote, IsCut, IsPassReady, IsUpTo, KeepsNotes, Opens, entry_at, no_entry, order_of_cursor, scenario_of_cursor}
 use Rattle.view_samples.specs.Retraced.{front}
-use Rattle.view_samples.specs.Sums.{AreSums, GoesOnBy, HasRoom}
+use Rattle.view_samples.specs.Sums.{AreWindowSums, GoesOnByMarked, HasRoomInTick}
 use Rattle.view_samples.proofs.Billing.{room_all, room_free, sums_more}
 use Rattle.view_samples.proofs.Cuts.{all_before, all_later, entry_fits, in_one_tick, legal_to, one_longer}
 use Rattle.view_samples.proofs.Fill.{same_read}
@@ -61,8 +61,8 @@ pub up_more : (scenario : Scenario) (order : Order) (h : List Entry) (j : ℕ) (
     → ((entry_at h cursor.next).from < (entry_at h cursor.next).to → (entry_at h cursor.next).from / scenario.shape.tick ≡ j)
     → core ≡ with_entry cursor.core (entry_at h cursor.next)
     → (entry_at h cursor.next).cpu < most_cpus → length cursor.free ≡ most_cpus → mark ≡ is_free (kind_of scenario (take cursor.next h) (entry_at h cursor.next))
-    → GoesOnBy cursor.sums.all j (entry_at h cursor.next) (entry_at h cursor.next).critical sums.all
-    → GoesOnBy cursor.sums.free j (entry_at h cursor.next) (slice_index_or cursor.free (entry_at h cursor.next).cpu false) sums.free → sums.span ≡ cursor.sums.span
+    → GoesOnByMarked cursor.sums.all j (entry_at h cursor.next) (entry_at h cursor.next).critical sums.all
+    → GoesOnByMarked cursor.sums.free j (entry_at h cursor.next) (slice_index_or cursor.free (entry_at h cursor.next).cpu false) sums.free → sums.span ≡ cursor.sums.span
     → IsUpTo scenario order h j (record { core = core; next = cursor.next + 1; free = set cursor.free (entry_at h cursor.next).cpu mark; sums = sums })
 up_more scenario order h j cursor core sums mark valid legal up less at goes_on few places is all free span =
     let e = entry_at h cursor.next in
@@ -75,15 +75,15 @@ up_more scenario order h j cursor core sums mark valid legal up less at goes_on 
       place = omega (arith, less);
       room = omega (arith, limit, room);
       free = subst (λ g. AreFree scenario g (set cursor.free e.cpu mark)) (sym longer) (free_more scenario (take cursor.next h) e cursor.free mark up.free (omega (arith, few, places)) is);
-      sums = subst (λ g. AreSums scenario g j up.window sums) (sym longer)
+      sums = subst (λ g. AreWindowSums scenario g j up.window sums) (sym longer)
           (sums_more scenario (take cursor.next h) j up.window cursor.sums sums e (slice_index_or cursor.free e.cpu false) up.sums (in_one_tick scenario order h cursor.next valid legal less) at (up.free e.cpu few) all free span);
     }
 
 pub look_of : (scenario : Scenario) (order : Order) (limit : ℕ) (h : List Entry) (i changes : ℕ) (core : Run) (look : Look) → i < length h → core ≡ front scenario order limit h (i + 1)
-    → changes ≡ length (state_after scenario (take i h)).changes → IsSeen (state_of core) core.entries changes (entry_at h i) look → IsLook scenario (take i h) (entry_at h i) look
+    → changes ≡ length (state_after scenario (take i h)).changes → IsLookAtEntry (state_of_run core) core.entries changes (entry_at h i) look → IsLook scenario (take i h) (entry_at h i) look
 look_of scenario order limit h i changes core look less run count seen =
-    let ByRun : Run → Type 0 = λ r. IsSeen (state_of r) r.entries changes (entry_at h i) look in
-    let ByList : List Entry → ℕ → Type 0 = λ g n. IsSeen (state_after scenario g) g n (entry_at h i) look in
+    let ByRun : Run → Type 0 = λ r. IsLookAtEntry (state_of_run r) r.entries changes (entry_at h i) look in
+    let ByList : List Entry → ℕ → Type 0 = λ g n. IsLookAtEntry (state_after scenario g) g n (entry_at h i) look in
     let there : ByRun (front scenario order limit h (i + 1)) = subst ByRun run seen in
     let here : ByList (take i h ++ entry_at h i ∷ []) changes = subst (λ g. ByList g changes) (one_longer h i less) there in
     seen_is scenario (take i h) (entry_at h i) look (subst (λ n. ByList (take i h ++ entry_at h i ∷ []) n) count here)
@@ -91,7 +91,7 @@ look_of scenario order limit h i changes core look less run count seen =
 -- its time has room
 pub rooms : (scenario : Scenario) (order : Order) (h : List Entry) (j : ℕ) (cursor : Cursor) → IsScenario scenario → IsLegal scenario order h → IsUpTo scenario order h j cursor → cursor.next < length h
     → ((entry_at h cursor.next).from < (entry_at h cursor.next).to → (entry_at h cursor.next).from / scenario.shape.tick ≡ j)
-    → HasRoom cursor.sums.all j (entry_at h cursor.next) × HasRoom cursor.sums.free j (entry_at h cursor.next)
+    → HasRoomInTick cursor.sums.all j (entry_at h cursor.next) × HasRoomInTick cursor.sums.free j (entry_at h cursor.next)
 rooms scenario order h j cursor valid legal up less at =
     let e = entry_at h cursor.next in
     let g = take cursor.next h in
@@ -103,21 +103,21 @@ rooms scenario order h j cursor valid legal up less at =
 
 -- ---- the pass
 
-pub ready_more : (h : List Entry) (before after : Samples) → IsReady h before → after.tick ≡ before.tick → after.cursor.core.setup ≡ before.cursor.core.setup
-    → IsUpTo (scenario_of before.cursor) (order_of before.cursor) h before.tick after.cursor → IsReady h after
+pub ready_more : (h : List Entry) (before after : Samples) → IsPassReady h before → after.tick ≡ before.tick → after.cursor.core.setup ≡ before.cursor.core.setup
+    → IsUpTo (scenario_of_cursor before.cursor) (order_of_cursor before.cursor) h before.tick after.cursor → IsPassReady h after
 ready_more h before after ready tick setup up =
     let early = ready.early in
     record {
       valid = subst (λ (s : Setup). IsScenario s.scenario) (sym setup) ready.valid;
       legal = subst (λ (s : Setup). IsLegal s.scenario s.order h) (sym setup) ready.legal;
       up = subst (λ (s : Setup). IsUpTo s.scenario s.order h after.tick after.cursor) (sym setup)
-          (subst (λ n. IsUpTo (scenario_of before.cursor) (order_of before.cursor) h n after.cursor) (sym tick) up);
+          (subst (λ n. IsUpTo (scenario_of_cursor before.cursor) (order_of_cursor before.cursor) h n after.cursor) (sym tick) up);
       early = omega (arith, early, tick);
     }
 
 -- the note has its pick
 pub notes_more : (scenario : Scenario) (h : List Entry) (before mid after : Samples) (look : Look) → mid.cursor.next < length h → before.cursor.next ≤ mid.cursor.next → after.cursor.next ≡ mid.cursor.next + 1
-    → IsLook scenario (take mid.cursor.next h) (entry_at h mid.cursor.next) look → IsAdded look mid.note after.note
+    → IsLook scenario (take mid.cursor.next h) (entry_at h mid.cursor.next) look → IsLookAdded look mid.note after.note
     → KeepsNotes scenario h before mid → KeepsNotes scenario h before after
 notes_more scenario h before mid after look less from next seen added keeps = λ j all reached note.
     let i = mid.cursor.next in
@@ -139,10 +139,10 @@ at_boundary : (tick j to : ℕ) → 0 < tick → to ≡ j * tick → to / tick �
 at_boundary tick j to pos is = search (arith)
 
 -- the first entry that meets it opens the note
-pub note_begun : (h : List Entry) (j : ℕ) (before after : Samples) → IsScenario (scenario_of before.cursor) → before.cursor.next < length h → (entry_at h before.cursor.next).to ≡ j * (scenario_of before.cursor).shape.tick
-    → IsCut h (j * (scenario_of before.cursor).shape.tick) before.cursor.next → Opens h before after → HasNote (scenario_of before.cursor) h j after
+pub note_begun : (h : List Entry) (j : ℕ) (before after : Samples) → IsScenario (scenario_of_cursor before.cursor) → before.cursor.next < length h → (entry_at h before.cursor.next).to ≡ j * (scenario_of_cursor before.cursor).shape.tick
+    → IsCut h (j * (scenario_of_cursor before.cursor).shape.tick) before.cursor.next → Opens h before after → HasNote (scenario_of_cursor before.cursor) h j after
 note_begun h j before after valid less at cut opens =
-    let scenario = scenario_of before.cursor in
+    let scenario = scenario_of_cursor before.cursor in
     let tick = scenario.shape.tick in
     let i = before.cursor.next in
     let e = entry_at h i in
@@ -152,7 +152,7 @@ note_begun h j before after valid less at cut opens =
     let past = all_before h (j * tick) i (omega (arith, less)) cut in
     let longer : take (i + 1) h ≡ g ++ e ∷ [] = one_longer h i less in
     let later : take after.cursor.next h ≡ g ++ e ∷ [] = ap (λ n. take n h) opens.next ∙ longer in
-    let fresh : IsFresh (state_after scenario (g ++ e ∷ [])) opens.fresh = subst (λ (l : List Entry). IsFresh (state_after scenario l) opens.fresh) longer opens.is_fresh in
+    let fresh : IsFreshNote (state_after scenario (g ++ e ∷ [])) opens.fresh = subst (λ (l : List Entry). IsFreshNote (state_after scenario l) opens.fresh) longer opens.is_fresh in
     let state = ap (state_after scenario) (through_next (j * tick) g e (recursion_from_All (λ (d : Entry). d.to < j * tick) g past)) in
     let split = split_fresh scenario (g ++ e ∷ []) g j (state_after scenario (g ++ e ∷ [])) opens.fresh (early_of tick j g pos past) state fresh in
     record {
@@ -162,18 +162,18 @@ note_begun h j before after valid less at cut opens =
     }
 
 -- and those that follow on at that moment keep it
-pub note_opened : (h : List Entry) (j moment : ℕ) (before mid after : Samples) → IsScenario (scenario_of before.cursor) → before.cursor.next < length h → moment ≡ j * (scenario_of before.cursor).shape.tick
+pub note_opened : (h : List Entry) (j moment : ℕ) (before mid after : Samples) → IsScenario (scenario_of_cursor before.cursor) → before.cursor.next < length h → moment ≡ j * (scenario_of_cursor before.cursor).shape.tick
     → (entry_at h before.cursor.next).to < moment + 1 → IsCut h moment before.cursor.next → Opens h before mid → after.cursor.next ≤ length h → mid.cursor.next ≤ after.cursor.next → IsCut h (moment + 1) after.cursor.next
-    → KeepsNotes (scenario_of mid.cursor) h mid after → HasNote (scenario_of before.cursor) h j after
+    → KeepsNotes (scenario_of_cursor mid.cursor) h mid after → HasNote (scenario_of_cursor before.cursor) h j after
 note_opened h j moment before mid after valid less at early cut opens place forward end keeps =
-    let scenario = scenario_of before.cursor in
+    let scenario = scenario_of_cursor before.cursor in
     let tick = scenario.shape.tick in
     let long = valid.shape.tick_long in
     let pos : 0 < tick = omega (arith, long) in
     let i = before.cursor.next in
     let low = cut.later i (omega arith) less in
     let note = note_begun h j before mid valid less (omega (arith, low, early, at)) (subst (λ n. IsCut h n i) at cut) opens in
-    let same : scenario_of mid.cursor ≡ scenario = ap (λ (s : Setup). s.scenario) opens.setup in
+    let same : scenario_of_cursor mid.cursor ≡ scenario = ap (λ (s : Setup). s.scenario) opens.setup in
     let keeps' = subst (λ (s : Scenario). KeepsNotes s h mid after) same keeps in
     let next = opens.next in
     keeps' j

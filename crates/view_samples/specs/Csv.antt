@@ -42,15 +42,15 @@ sample_line tick rows sample =
     (first_cells tick sample ++ flat_map (part_cells sample) (range_with_len 0 rows)) ++ codes "\n"
 
 -- the line of tick j
-abbrev pub line_at : Scenario → List Entry → ℕ → List ℕ
-line_at scenario h j = sample_line scenario.shape.tick (length (state_after scenario h).rows) (sample_of scenario h j)
+abbrev pub line_of_tick : Scenario → List Entry → ℕ → List ℕ
+line_of_tick scenario h j = sample_line scenario.shape.tick (length (state_after scenario h).rows) (sample_of scenario h j)
 
 -- the tick before which the lines end, where so many are finished
-abbrev pub past_of : Ticks → ℕ → ℕ
-past_of ticks finished = min finished (unwrap_or ticks.to finished)
+abbrev pub tick_past_lines : Ticks → ℕ → ℕ
+tick_past_lines ticks finished = min finished (unwrap_or ticks.to finished)
 
 -- a line of titles, by the rows that stand last, and a line for each of these of the finished ticks
 abbrev pub csv_text : Scenario → List Entry → Ticks → List ℕ
 csv_text scenario h ticks =
     head_line (state_after scenario h).rows
-    ++ flat_map (line_at scenario h) (range_with_len ticks.from (past_of ticks (finished_ticks scenario.shape h) - ticks.from))
+    ++ flat_map (line_of_tick scenario h) (range_with_len ticks.from (tick_past_lines ticks (finished_ticks scenario.shape h) - ticks.from))

@@ -8,12 +8,12 @@ use Rattle.view_samples.specs.declared.lasts.Lasts.{Lasts}
 use Rattle.view_samples.specs.Picks.{changes_in, lacks, was_out}
 
 -- of ticks below j, this is the one after the last in which it was so, or 0
-pub record IsLast (was : ℕ → ℕ → Bool) (j after : ℕ) : Type 0 where
+pub record IsAfterLast (was : ℕ → ℕ → Bool) (j after : ℕ) : Type 0 where
   pub same : (a : ℕ) → was a j ≡ nat_lt a after
   pub within : after ≤ j
 
 pub record AreLasts (scenario : Scenario) (h : List Entry) (j : ℕ) (lasts : Lasts) : Type 0 where
-  pub lacked : (p : ℕ) → p < most_partitions → IsLast (lacks scenario h p) j (slice_index lasts.lacked p)
-  pub out : (p : ℕ) → p < most_partitions → IsLast (was_out scenario h p) j (slice_index lasts.out p)
-  pub starved : IsLast (has_starved scenario.shape.tick h) j lasts.starved
-  pub changed : IsLast (changes_in scenario h) j lasts.changed
+  pub lacked : (p : ℕ) → p < most_partitions → IsAfterLast (lacks scenario h p) j (slice_index lasts.lacked p)
+  pub out : (p : ℕ) → p < most_partitions → IsAfterLast (was_out scenario h p) j (slice_index lasts.out p)
+  pub starved : IsAfterLast (has_starved scenario.shape.tick h) j lasts.starved
+  pub changed : IsAfterLast (changes_in scenario h) j lasts.changed

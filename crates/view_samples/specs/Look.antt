@@ -12,7 +12,7 @@ use Rattle.view_samples.specs.declared.look.Look.{Look}
 use Rattle.view_samples.specs.Picks.{changes_by, had_candidate, is_in_budget, is_unfunded, lacks_test, out_test}
 
 -- the entry came last and left this state, so many changes stood before it
-pub record IsSeen (s : SchedulerState) (h : List Entry) (changes : ℕ) (e : Entry) (look : Look) : Type 0 where
+pub record IsLookAtEntry (s : SchedulerState) (h : List Entry) (changes : ℕ) (e : Entry) (look : Look) : Type 0 where
   pub lacking : (p : ℕ) → p < most_partitions → slice_index_or look.lacking p false ≡ not (had_candidate s h e.cpu p)
   pub out : (p : ℕ) → p < most_partitions → slice_index_or look.out p false ≡ not (is_in_budget s h p)
   pub starved : look.starved ≡ is_some e.starved

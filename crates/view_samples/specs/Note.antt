@@ -24,20 +24,20 @@ no_note = record {
 }
 
 -- what this state says of a tick that begins with it
-pub record IsBegun (s : SchedulerState) (note : Note) : Type 0 where
+pub record IsBegunNote (s : SchedulerState) (note : Note) : Type 0 where
   pub window : note.window ≡ s.shape.window
   pub allowance : (p : ℕ) → p < most_partitions → slice_index note.allowance p ≡ allowance s.shape (row_or_none s.rows p).budget
 
 -- and nothing yet of its picks
-pub record IsFresh (s : SchedulerState) (note : Note) : Type 0 where
-  pub begun : IsBegun s note
+pub record IsFreshNote (s : SchedulerState) (note : Note) : Type 0 where
+  pub begun : IsBegunNote s note
   pub lacking : (p : ℕ) → p < most_partitions → slice_index_or note.lacking p false ≡ false
   pub out : (p : ℕ) → p < most_partitions → slice_index_or note.out p false ≡ false
   pub starved : note.starved ≡ false
   pub changed : note.changed ≡ false
 
 -- the look at a pick was added
-pub record IsAdded (look : Look) (before after : Note) : Type 0 where
+pub record IsLookAdded (look : Look) (before after : Note) : Type 0 where
   pub window : after.window ≡ before.window
   pub allowance : after.allowance ≡ before.allowance
   pub lacking : (p : ℕ) → p < most_partitions
@@ -49,7 +49,7 @@ pub record IsAdded (look : Look) (before after : Note) : Type 0 where
 
 -- this is so of tick j: an entry has reached it, what stood then, and what its picks tell
 pub record IsNote (scenario : Scenario) (h : List Entry) (j : ℕ) (note : Note) : Type 0 where
-  pub begun : IsBegun (state_of_tick scenario h j) note
+  pub begun : IsBegunNote (state_of_tick scenario h j) note
   pub lacking : (p : ℕ) → p < most_partitions → slice_index_or note.lacking p false ≡ lacks scenario h p j (j + 1)
   pub out : (p : ℕ) → p < most_partitions → slice_index_or note.out p false ≡ was_out scenario h p j (j + 1)
   pub starved : note.starved ≡ has_starved scenario.shape.tick h j (j + 1)

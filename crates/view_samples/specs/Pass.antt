@@ -18,10 +18,10 @@ use Rattle.view_samples.specs.declared.pass.Cursor.{Cursor}
 use Rattle.view_samples.specs.declared.pass.Samples.{Samples}
 use Rattle.view_samples.specs.Lasts.{AreLasts}
 use Rattle.view_samples.specs.Look.{IsLook}
-use Rattle.view_samples.specs.Note.{IsAdded, IsFresh, IsNote, is_reached, no_note}
+use Rattle.view_samples.specs.Note.{IsLookAdded, IsFreshNote, IsNote, is_reached, no_note}
 use Rattle.view_samples.specs.Passed.{no_lasts}
 use Rattle.view_samples.specs.Retraced.{front, start_of}
-use Rattle.view_samples.specs.Sums.{AreSums}
+use Rattle.view_samples.specs.Sums.{AreWindowSums}
 
 -- what is read past the end
 abbrev pub no_entry : Entry
@@ -56,7 +56,7 @@ pub record IsUpTo (scenario : Scenario) (order : Order) (h : List Entry) (j : �
   pub place : cursor.next ≤ length h
   pub room : length h ≤ cursor.core.setup.limit
   pub free : AreFree scenario (take cursor.next h) cursor.free
-  pub sums : AreSums scenario (take cursor.next h) j window cursor.sums
+  pub sums : AreWindowSums scenario (take cursor.next h) j window cursor.sums
 
 -- the entries before this place end before the bound, and the others don't
 pub record IsCut (h : List Entry) (bound i : ℕ) : Type 0 where
@@ -69,22 +69,22 @@ RunsIn tick h i bound j =
     (k : ℕ) → i ≤ k → k < length h → (entry_at h k).to < bound → (entry_at h k).from < (entry_at h k).to → (entry_at h k).from / tick ≡ j
 
 -- the scenario and the order of the pass
-abbrev pub scenario_of : Cursor → Scenario
-scenario_of cursor = cursor.core.setup.scenario
+abbrev pub scenario_of_cursor : Cursor → Scenario
+scenario_of_cursor cursor = cursor.core.setup.scenario
 
-abbrev pub order_of : Cursor → Order
-order_of cursor = cursor.core.setup.order
+abbrev pub order_of_cursor : Cursor → Order
+order_of_cursor cursor = cursor.core.setup.order
 
 -- the entries so far are done, those of a legal history
-pub record IsReady (h : List Entry) (s : Samples) : Type 0 where
-  pub valid : IsScenario (scenario_of s.cursor)
-  pub legal : IsLegal (scenario_of s.cursor) (order_of s.cursor) h
-  pub up : IsUpTo (scenario_of s.cursor) (order_of s.cursor) h s.tick s.cursor
+pub record IsPassReady (h : List Entry) (s : Samples) : Type 0 where
+  pub valid : IsScenario (scenario_of_cursor s.cursor)
+  pub legal : IsLegal (scenario_of_cursor s.cursor) (order_of_cursor s.cursor) h
+  pub up : IsUpTo (scenario_of_cursor s.cursor) (order_of_cursor s.cursor) h s.tick s.cursor
   pub early : s.tick ≤ last_tick
 
 -- it goes on to the first entry that doesn't end before the bound
 pub record GoesUpTo (h : List Entry) (bound : ℕ) (before after : Samples) : Type 0 where
-  pub ready : IsReady h after
+  pub ready : IsPassReady h after
   pub tick : after.tick ≡ before.tick
   pub lasts : after.lasts ≡ before.lasts
   pub setup : after.cursor.core.setup ≡ before.cursor.core.setup
@@ -107,16 +107,16 @@ KeepsNotes scenario h before after =
 
 -- one entry more, which opens a note
 pub record Opens (h : List Entry) (before after : Samples) : Type 0 where
-  pub ready : IsReady h after
+  pub ready : IsPassReady h after
   pub tick : after.tick ≡ before.tick
   pub lasts : after.lasts ≡ before.lasts
   pub setup : after.cursor.core.setup ≡ before.cursor.core.setup
   pub next : after.cursor.next ≡ before.cursor.next + 1
   pub fresh : Note
   pub look : Look
-  pub is_fresh : IsFresh (state_after (scenario_of before.cursor) (take (before.cursor.next + 1) h)) fresh
-  pub is_look : IsLook (scenario_of before.cursor) (take before.cursor.next h) (entry_at h before.cursor.next) look
-  pub is_added : IsAdded look fresh after.note
+  pub is_fresh : IsFreshNote (state_after (scenario_of_cursor before.cursor) (take (before.cursor.next + 1) h)) fresh
+  pub is_look : IsLook (scenario_of_cursor before.cursor) (take before.cursor.next h) (entry_at h before.cursor.next) look
+  pub is_added : IsLookAdded look fresh after.note
 
 -- where tick j begins at this moment, and an entry meets it, there is a note of this tick then
 abbrev pub BeginsIfMet : Scenario → List Entry → ℕ → Samples → Samples → Type 0
@@ -128,15 +128,15 @@ BeginsIfMet scenario h moment before after =
     → HasNote scenario h j after
 
 -- the pass stands at the beginning of its next tick
-pub record IsAt (h : List Entry) (s : Samples) : Type 0 where
-  pub ready : IsReady h s
-  pub cut : IsCut h (s.tick * (scenario_of s.cursor).shape.tick + 1) s.cursor.next
-  pub note : s.tick < finished_ticks (scenario_of s.cursor).shape h → HasNote (scenario_of s.cursor) h s.tick s
-  pub lasts : AreLasts (scenario_of s.cursor) h s.tick s.lasts
+pub record IsAtTickBegin (h : List Entry) (s : Samples) : Type 0 where
+  pub ready : IsPassReady h s
+  pub cut : IsCut h (s.tick * (scenario_of_cursor s.cursor).shape.tick + 1) s.cursor.next
+  pub note : s.tick < finished_ticks (scenario_of_cursor s.cursor).shape h → HasNote (scenario_of_cursor s.cursor) h s.tick s
+  pub lasts : AreLasts (scenario_of_cursor s.cursor) h s.tick s.lasts
 
 -- before its first step
-abbrev pub at_start : History → Order → Samples
-at_start history order = record {
+abbrev pub samples_at_start : History → Order → Samples
+samples_at_start history order = record {
   cursor = record {
     core = start_of history order;
     next = 0;

@@ -29,8 +29,8 @@ is_full scenario h j = nat_le (window_at scenario h j) (j + 1)
 abbrev pub used_at : Scenario → List Entry → ℕ → ℕ → ℕ
 used_at scenario h j p = used scenario.shape.tick h p (first_at scenario h j) (j + 1)
 
-abbrev pub critical_at : Scenario → List Entry → ℕ → ℕ → ℕ
-critical_at scenario h j p = critical_used scenario.shape.tick h p (first_at scenario h j) (j + 1)
+abbrev pub critical_at_tick : Scenario → List Entry → ℕ → ℕ → ℕ
+critical_at_tick scenario h j p = critical_used scenario.shape.tick h p (first_at scenario h j) (j + 1)
 
 -- what it ran in free time there
 abbrev pub free_at : Scenario → List Entry → ℕ → ℕ → ℕ
@@ -70,7 +70,7 @@ sample_of scenario h j = record {
   steady = is_full scenario h j && (is_unchanged scenario h j && is_fed scenario h j);
   usage = record {
     used = of_each (used_at scenario h j);
-    critical = of_each (critical_at scenario h j);
+    critical = of_each (critical_at_tick scenario h j);
   };
   free = of_each (free_at scenario h j);
   allowance = of_each (allowance_at scenario h j);

@@ -5,10 +5,10 @@ ghost use Rattle.aps_model.specs.Budget.{no_part, part_at};
 ghost use Rattle.aps_model.specs.Limits.{most_partitions};
 ghost use Rattle.aps_model.specs.Pick.{contenders};
 ghost use Rattle.aps_model.specs.SchedulerState.{cpu_at};
-ghost use Rattle.aps_core.specs.Run.{state_of};
+ghost use Rattle.aps_core.specs.Run.{state_of_run};
 ghost use Rattle.aps_core.specs.Scan.{has_candidate};
 ghost use Rattle.laws_load.specs.Passing.{parts_now};
-ghost use Rattle.view_samples.specs.Look.{EachHad, IsSeen, TellsOfNobody, have_budgets};
+ghost use Rattle.view_samples.specs.Look.{EachHad, IsLookAtEntry, TellsOfNobody, have_budgets};
 ghost use Rattle.view_samples.specs.Picks.{bills, had_candidate, is_unfunded};
 
 use crate::truth::nor;
@@ -31,7 +31,7 @@ impl Look {
     /// The look at the pick that the core made last, which is this entry's. So many changes stood before the step.
     pub fn at(core: &Core, e: &Entry, changes: usize) -> Look
         requires last { (before : List Entry) × (core.now.entries ≡ before ++ e.now ∷ []) }
-        ensures { IsSeen (state_of core.now) core.now.entries changes e.now result }
+        ensures { IsLookAtEntry (state_of_run core.now) core.now.entries changes e.now result }
     {
         let history = core.history();
         let count = history.rows().len();
@@ -65,9 +65,9 @@ fn no_part() -> PartFacts
 /// somebody was picked and nobody is starved, each had one.
 fn lacking(core: &Core, parts: &[PartFacts], e: &Entry) -> [bool; 32]
     requires last { (before : List Entry) × (core.now.entries ≡ before ++ e.now ∷ []) }
-    requires parts { parts.now ≡ parts_now (state_of core.now) core.now.entries }
+    requires parts { parts.now ≡ parts_now (state_of_run core.now) core.now.entries }
     ensures { (p : ℕ) → p < most_partitions
-        → slice_index_or result p false ≡ not (had_candidate (state_of core.now) core.now.entries e.now.cpu p) }
+        → slice_index_or result p false ≡ not (had_candidate (state_of_run core.now) core.now.entries e.now.cpu p) }
 {
     // the check wants to see here that the entries of the core are legal
     let _history = core.history();
@@ -117,7 +117,7 @@ fn found_lacking(core: &Core, parts: &[PartFacts], c: CpuId) -> [bool; 32]
     ensures { (p : ℕ)
         → p < most_partitions
         → slice_index_or result p false
-        ≡ not (bills (cpu_at (state_of core.now) c).running p || has_candidate parts.now p (contenders (state_of core.now))) }
+        ≡ not (bills (cpu_at (state_of_run core.now) c).running p || has_candidate parts.now p (contenders (state_of_run core.now))) }
 {
     let ready = core.candidates(parts);
     let cpu = core.cpu(c);
@@ -167,7 +167,7 @@ fn is_funded(parts: &[PartFacts], p: usize) -> bool
 
 /// Whether the entry's pick, which was the core's last one, was free.
 fn is_free(core: &Core, parts: &[PartFacts], e: &Entry) -> bool
-    ensures { result ≡ is_unfunded parts.now e.now.picked (cpu_at (state_of core.now) e.now.cpu).running }
+    ensures { result ≡ is_unfunded parts.now e.now.picked (cpu_at (state_of_run core.now) e.now.cpu).running }
 {
     let cpu = core.cpu(e.cpu);
     match (e.picked, cpu.running) {

@@ -4,8 +4,8 @@ ghost use Rattle.aps_model.specs.Audit.{allowance};
 ghost use Rattle.aps_model.specs.Limits.{most_partitions, thousandths};
 ghost use Rattle.aps_model.specs.Partition.{IsRow, row_or_none};
 ghost use Rattle.aps_model.specs.Shape.{IsShape};
-ghost use Rattle.aps_core.specs.Run.{state_of};
-ghost use Rattle.view_samples.specs.Note.{IsAdded, IsFresh, no_note};
+ghost use Rattle.aps_core.specs.Run.{state_of_run};
+ghost use Rattle.view_samples.specs.Note.{IsLookAdded, IsFreshNote, no_note};
 
 use crate::look::Look;
 use crate::truth::or;
@@ -43,7 +43,7 @@ impl Note {
 
     /// The note of a tick that begins as the core stands.
     pub fn fresh(core: &Core) -> Note
-        ensures { IsFresh (state_of core.now) result }
+        ensures { IsFreshNote (state_of_run core.now) result }
     {
         let history = core.history();
         let shape = history.shape();
@@ -59,7 +59,7 @@ impl Note {
 
     /// Adds the look at a pick.
     pub fn add(&mut self, look: &Look)
-        ensures { IsAdded look.now self.old self.new }
+        ensures { IsLookAdded look.now self.old self.new }
     {
         self.lacking = either(&self.lacking, &look.lacking);
         self.out = either(&self.out, &look.out);

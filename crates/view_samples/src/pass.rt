@@ -6,7 +6,7 @@ ghost use Rattle.aps_model.specs.Legal.{IsLegal};
 ghost use Rattle.aps_model.specs.Loaded.{finished_ticks};
 ghost use Rattle.aps_model.specs.Valid.{IsScenario};
 ghost use Rattle.view_samples.specs.Look.{IsLook};
-ghost use Rattle.view_samples.specs.Pass.{BeginsIfMet, GoesUpTo, IsAt, IsReady, IsUpTo, KeepsNotes, Opens, RunsIn, at_start, entry_at, is_before, order_of, scenario_of};
+ghost use Rattle.view_samples.specs.Pass.{BeginsIfMet, GoesUpTo, IsAtTickBegin, IsPassReady, IsUpTo, KeepsNotes, Opens, RunsIn, samples_at_start, entry_at, is_before, order_of_cursor, scenario_of_cursor};
 ghost use Rattle.view_samples.specs.Sample.{sample_of};
 ghost use Rattle.aps_model.specs.Limits.{last_tick, most_entries, most_partitions};
 
@@ -46,8 +46,8 @@ impl Samples {
     pub fn begin(alloc: Global, history: &History, order: Order) -> Result<Samples, NoMemory>
         requires legal { IsLegal history.now.scenario order history.now.entries }
         requires few { length history.now.entries ≤ most_entries }
-        ensures at { IfOk result (λ samples. IsAt history.now.entries samples) }
-        ensures of { IfOk result (λ samples. scenario_of samples.cursor ≡ history.now.scenario) }
+        ensures at { IfOk result (λ samples. IsAtTickBegin history.now.entries samples) }
+        ensures of { IfOk result (λ samples. scenario_of_cursor samples.cursor ≡ history.now.scenario) }
         ensures first { IfOk result (λ samples. samples.tick ≡ 0) }
     {
         let mut samples = Samples::new(alloc, history, order)?;
@@ -58,7 +58,7 @@ impl Samples {
     /// A pass that has made no step.
     fn new(alloc: Global, history: &History, order: Order) -> Result<Samples, NoMemory>
         requires { length history.now.entries ≤ most_entries }
-        ensures same { IfOk result (λ samples. samples ≡ at_start history.now order) }
+        ensures same { IfOk result (λ samples. samples ≡ samples_at_start history.now order) }
         ensures valid { IfOk result (λ samples. IsScenario history.now.scenario) }
     {
         let window = history.scenario().shape().window;
@@ -79,13 +79,13 @@ impl Samples {
 
     /// The sample of the next tick, which is finished; the one after it comes next then.
     pub fn next(&mut self, history: &History) -> Sample
-        requires at { IsAt history.now.entries self.old }
-        requires of { scenario_of self.old.cursor ≡ history.now.scenario }
+        requires at { IsAtTickBegin history.now.entries self.old }
+        requires of { scenario_of_cursor self.old.cursor ≡ history.now.scenario }
         requires finished { self.old.tick < finished_ticks history.now.scenario.shape history.now.entries }
         requires few { self.old.tick < last_tick }
         ensures same { result ≡ sample_of history.now.scenario history.now.entries self.old.tick }
-        ensures at { IsAt history.now.entries self.new }
-        ensures of { scenario_of self.new.cursor ≡ history.now.scenario }
+        ensures at { IsAtTickBegin history.now.entries self.new }
+        ensures of { scenario_of_cursor self.new.cursor ≡ history.now.scenario }
         ensures next { self.new.tick ≡ self.old.tick + 1 }
     {
         let entries = history.entries();
@@ -103,8 +103,8 @@ impl Samples {
 
     /// The partition rows that all entries of the history leave; the pass ends with that. `NoMemory` comes where memory runs out.
     pub fn last_rows(self, alloc: Global, history: &History) -> Result<Vec<PartitionRow>, NoMemory>
-        requires at { IsAt history.now.entries self }
-        requires of { scenario_of self.cursor ≡ history.now.scenario }
+        requires at { IsAtTickBegin history.now.entries self }
+        requires of { scenario_of_cursor self.cursor ≡ history.now.scenario }
         ensures same { IfOk result (λ rows. rows.items ≡ (state_after history.now.scenario history.now.entries).rows) }
         ensures few { IfOk result (λ rows. length rows.items ≤ most_partitions) }
     {
@@ -115,10 +115,10 @@ impl Samples {
 
     /// Makes the steps of the entries that end before a moment, and notes their picks. Their time lies in the next tick.
     fn go_through(&mut self, entries: &[Entry], bound: u64)
-        requires ready { IsReady entries.now self.old }
-        requires runs { RunsIn (scenario_of self.old.cursor).shape.tick entries.now self.old.cursor.next bound self.old.tick }
+        requires ready { IsPassReady entries.now self.old }
+        requires runs { RunsIn (scenario_of_cursor self.old.cursor).shape.tick entries.now self.old.cursor.next bound self.old.tick }
         ensures up { GoesUpTo entries.now bound self.old self.new }
-        ensures notes { KeepsNotes (scenario_of self.old.cursor) entries.now self.old self.new }
+        ensures notes { KeepsNotes (scenario_of_cursor self.old.cursor) entries.now self.old self.new }
     {
         while is_before(entries, self.cursor.next, bound) {
             let look = self.cursor.go_on(entries, self.tick as u32);
@@ -129,11 +129,11 @@ impl Samples {
     /// Makes the steps of the entries that end at the moment at which a tick begins, and no later, and notes their picks in
     /// a fresh note.
     fn begin_tick(&mut self, entries: &[Entry], moment: u64)
-        requires ready { IsReady entries.now self.old }
-        requires runs { RunsIn (scenario_of self.old.cursor).shape.tick entries.now self.old.cursor.next (moment + 1) self.old.tick }
+        requires ready { IsPassReady entries.now self.old }
+        requires runs { RunsIn (scenario_of_cursor self.old.cursor).shape.tick entries.now self.old.cursor.next (moment + 1) self.old.tick }
         requires fits { moment ≤ 1000000000000000 }
         ensures up { GoesUpTo entries.now (moment + 1) self.old self.new }
-        ensures begins { BeginsIfMet (scenario_of self.old.cursor) entries.now moment self.old self.new }
+        ensures begins { BeginsIfMet (scenario_of_cursor self.old.cursor) entries.now moment self.old self.new }
     {
         if is_before(entries, self.cursor.next, moment + 1) {
             self.open(entries);
@@ -143,10 +143,10 @@ impl Samples {
 
     /// Makes the step of the next entry. The note begins by what stands then, and has its pick.
     fn open(&mut self, entries: &[Entry])
-        requires ready { IsReady entries.now self.old }
+        requires ready { IsPassReady entries.now self.old }
         requires some { self.old.cursor.next < length entries.now }
         requires runs { (entry_at entries.now self.old.cursor.next).from < (entry_at entries.now self.old.cursor.next).to
-            → (entry_at entries.now self.old.cursor.next).from / (scenario_of self.old.cursor).shape.tick ≡ self.old.tick }
+            → (entry_at entries.now self.old.cursor.next).from / (scenario_of_cursor self.old.cursor).shape.tick ≡ self.old.tick }
         ensures { Opens entries.now self.old self.new }
     {
         let look = self.cursor.go_on(entries, self.tick as u32);
@@ -158,16 +158,16 @@ impl Samples {
 impl Cursor {
     /// Makes the step of the next entry, whose time lies in this tick. The answer is what is seen at its pick.
     fn go_on(&mut self, entries: &[Entry], tick: u32) -> Look
-        requires valid { IsScenario (scenario_of self.old) }
-        requires legal { IsLegal (scenario_of self.old) (order_of self.old) entries.now }
-        requires up { IsUpTo (scenario_of self.old) (order_of self.old) entries.now tick self.old }
+        requires valid { IsScenario (scenario_of_cursor self.old) }
+        requires legal { IsLegal (scenario_of_cursor self.old) (order_of_cursor self.old) entries.now }
+        requires up { IsUpTo (scenario_of_cursor self.old) (order_of_cursor self.old) entries.now tick self.old }
         requires some { self.old.next < length entries.now }
         requires runs { (entry_at entries.now self.old.next).from < (entry_at entries.now self.old.next).to
-            → (entry_at entries.now self.old.next).from / (scenario_of self.old).shape.tick ≡ tick }
-        ensures up { IsUpTo (scenario_of self.old) (order_of self.old) entries.now tick self.new }
+            → (entry_at entries.now self.old.next).from / (scenario_of_cursor self.old).shape.tick ≡ tick }
+        ensures up { IsUpTo (scenario_of_cursor self.old) (order_of_cursor self.old) entries.now tick self.new }
         ensures setup { self.new.core.setup ≡ self.old.core.setup }
         ensures next { self.new.next ≡ self.old.next + 1 }
-        ensures look { IsLook (scenario_of self.old) (take self.old.next entries.now) (entry_at entries.now self.old.next) result }
+        ensures look { IsLook (scenario_of_cursor self.old) (take self.old.next entries.now) (entry_at entries.now self.old.next) result }
     {
         let e = &entries[self.next];
         let changes = self.core.history().changes().len();

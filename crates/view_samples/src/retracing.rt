@@ -3,7 +3,7 @@ ghost use Rattle.std.specs.Prelude.{◌≡◌, ◌<◌, ◌≤◌, [], max, All,
 ghost use Rattle.aps_model.specs.After.{state_after};
 ghost use Rattle.aps_model.specs.Legal.{IsLegal};
 ghost use Rattle.aps_model.specs.Valid.{IsScenario};
-ghost use Rattle.aps_core.specs.Turn.{IsTaken, with_entry};
+ghost use Rattle.aps_core.specs.Turn.{IsTurnTaken, with_entry};
 ghost use Rattle.view_samples.specs.Retraced.{start_of};
 ghost use Rattle.aps_model.specs.Limits.{most_entries, most_partitions};
 
@@ -81,7 +81,7 @@ pub fn retrace_rest(core: &mut Core, entries: &[Entry], done: usize)
 /// The core makes the step of which this is the entry.
 pub fn retrace(core: &mut Core, e: &Entry)
     requires exists { e.now.cpu < core.old.setup.scenario.shape.cpus }
-    requires taken { IsTaken core.old e.now.cpu e.now }
+    requires taken { IsTurnTaken core.old e.now.cpu e.now }
     ensures { core.new ≡ with_entry core.old e.now }
 {
     let _turn = core.step(e.cpu);

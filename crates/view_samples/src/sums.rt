@@ -4,7 +4,7 @@ ghost use Rattle.aps_model.specs.History.{IsEntry};
 ghost use Rattle.aps_model.specs.Limits.{last_tick, longest_window, shortest_window};
 ghost use Rattle.aps_window.specs.Window.{advanced, opened, resized};
 ghost use Rattle.aps_core.specs.Counts.{critical_in, used_in};
-ghost use Rattle.view_samples.specs.Sums.{GoesOnBy, HasRoom};
+ghost use Rattle.view_samples.specs.Sums.{GoesOnByMarked, HasRoomInTick};
 
 use aps_model::limits::MOST_PARTITIONS;
 use aps_model::{Entry, Nanos, NoMemory, PartitionId, Usage};
@@ -39,10 +39,10 @@ impl Sums {
     /// Adds the time of an entry, which ran in the tick at which the windows stand, in free time or not.
     pub fn add(&mut self, e: &Entry, tick: u32, is_free: bool)
         requires entry { IsEntry e.now }
-        requires all { HasRoom self.old.all tick e.now }
-        requires free { HasRoom self.old.free tick e.now }
-        ensures all { GoesOnBy self.old.all tick e.now e.now.critical self.new.all }
-        ensures free { GoesOnBy self.old.free tick e.now is_free self.new.free }
+        requires all { HasRoomInTick self.old.all tick e.now }
+        requires free { HasRoomInTick self.old.free tick e.now }
+        ensures all { GoesOnByMarked self.old.all tick e.now e.now.critical self.new.all }
+        ensures free { GoesOnByMarked self.old.free tick e.now is_free self.new.free }
         ensures span { self.new.span ≡ self.old.span }
     {
         add_time(&mut self.all, e, tick, e.critical);
@@ -104,8 +104,8 @@ impl Sums {
 /// Bills the time of an entry, if it takes any, in the tick at which the window stands.
 fn add_time(window: &mut Window, e: &Entry, tick: u32, critical: bool)
     requires entry { IsEntry e.now }
-    requires room { HasRoom window.old tick e.now }
-    ensures { GoesOnBy window.old tick e.now critical window.new }
+    requires room { HasRoomInTick window.old tick e.now }
+    ensures { GoesOnByMarked window.old tick e.now critical window.new }
 {
     if let Some(p) = e.billed {
         if e.from < e.to {

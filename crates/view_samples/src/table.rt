@@ -4,8 +4,8 @@ ghost use Rattle.std.specs.List.{flat_map, range_with_len};
 ghost use Rattle.aps_model.specs.After.{state_after};
 ghost use Rattle.aps_model.specs.Legal.{IsLegal};
 ghost use Rattle.aps_model.specs.Loaded.{finished_ticks};
-ghost use Rattle.view_samples.specs.Csv.{bit, csv_text, first_cells, head_line, line_at, part_cells, past_of, row_titles, sample_line};
-ghost use Rattle.view_samples.specs.Pass.{IsAt, scenario_of};
+ghost use Rattle.view_samples.specs.Csv.{bit, csv_text, first_cells, head_line, line_of_tick, part_cells, tick_past_lines, row_titles, sample_line};
+ghost use Rattle.view_samples.specs.Pass.{IsAtTickBegin, scenario_of_cursor};
 ghost use Rattle.aps_model.specs.Limits.{last_tick, longest_tick, most_entries, most_partitions};
 
 use crate::pass::Samples;
@@ -44,8 +44,8 @@ fn text_of_samples(
     ticks: Ticks,
 ) -> Result<String, NoMemory>
     requires rows { rows.now ≡ (state_after history.now.scenario history.now.entries).rows }
-    requires at { IsAt history.now.entries samples.old }
-    requires of { scenario_of samples.old.cursor ≡ history.now.scenario }
+    requires at { IsAtTickBegin history.now.entries samples.old }
+    requires of { scenario_of_cursor samples.old.cursor ≡ history.now.scenario }
     requires first { samples.old.tick ≡ 0 }
     requires few_rows { length rows.now ≤ most_partitions }
     ensures { IfOk result (λ text. string_bytes text ≡ csv_text history.now.scenario history.now.entries ticks) }
@@ -67,7 +67,7 @@ fn text_of_samples(
 
 /// The tick before which the lines end, where so many are finished.
 fn past_of(ticks: Ticks, finished: u64) -> u64
-    ensures { result ≡ past_of ticks finished }
+    ensures { result ≡ tick_past_lines ticks finished }
 {
     match ticks.to {
         Some(to) => finished.min(u64::from(to)),
@@ -137,13 +137,13 @@ fn add_lines(
 ) -> Result<(), NoMemory>
     requires rows { rows ≡ length (state_after history.now.scenario history.now.entries).rows }
     requires few_rows { rows ≤ most_partitions }
-    requires at { IsAt history.now.entries samples.old }
-    requires of { scenario_of samples.old.cursor ≡ history.now.scenario }
+    requires at { IsAtTickBegin history.now.entries samples.old }
+    requires of { scenario_of_cursor samples.old.cursor ≡ history.now.scenario }
     requires first { samples.old.tick ≡ 0 }
     requires finished { end ≤ finished_ticks history.now.scenario.shape history.now.entries }
     requires few { end ≤ last_tick }
     ensures { OnOk result (string_bytes out.new
-        ≡ string_bytes out.old ++ flat_map (line_at history.now.scenario history.now.entries) (range_with_len first (end - first))) }
+        ≡ string_bytes out.old ++ flat_map (line_of_tick history.now.scenario history.now.entries) (range_with_len first (end - first))) }
 {
     let tick = history.scenario().shape().tick;
     for j in 0..end {

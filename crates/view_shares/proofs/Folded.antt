@@ -10,8 +10,8 @@ use Rattle.view_samples.specs.Sample.{sample_of}
 use Rattle.view_shares.specs.declared.share.Counts.{Counts}
 use Rattle.view_shares.specs.declared.share.Share.{Share}
 use Rattle.view_shares.specs.declared.shares.Shares.{Shares}
-use Rattle.view_shares.specs.Share.{counted, counts_with, has_had, is_asked, no_counts, no_share, share_with}
-use Rattle.view_shares.specs.Shares.{AreFew, AreFewCounts, AreUpTo, IsFew, counts_up_to, share_up_to, tick_of_all}
+use Rattle.view_shares.specs.Share.{counted_if, counts_with, has_had, is_asked, no_counts, no_share, share_with}
+use Rattle.view_shares.specs.Shares.{AreFewShares, AreFewCounts, AreUpTo, IsFew, counts_up_to, share_up_to, tick_of_all}
 use Rattle.std.specs.Prelude.{◌&&◌}
 use Rattle.aps_model.specs.Limits.{last_tick, most_partitions}
 
@@ -33,7 +33,7 @@ one_told scenario h n turn s t sample is same so_far counts each = record {
 
 -- ---- no more is counted than there are ticks
 
-counted_few : (count : ℕ) (b : Bool) → counted count b ≤ count + 1
+counted_few : (count : ℕ) (b : Bool) → counted_if count b ≤ count + 1
 counted_few count true = omega arith
 counted_few count false = omega arith
 
@@ -61,7 +61,7 @@ share_few scenario h p n few =
     let had = fold_few (λ (s : Share). s.had) f (λ (s : Share) j. counted_few s.had (is_asked p (sample_of scenario h j) && has_had p (sample_of scenario h j))) 0 n no_share in
     record { demand = omega (arith, demand, few); had = omega (arith, had, few) }
 
-pub told_few : (scenario : Scenario) (h : List Entry) (n : ℕ) (s : Shares) → n ≤ last_tick → AreUpTo scenario h n s → AreFew s
+pub told_few : (scenario : Scenario) (h : List Entry) (n : ℕ) (s : Shares) → n ≤ last_tick → AreUpTo scenario h n s → AreFewShares s
 told_few scenario h n s few is = record {
   counts = subst AreFewCounts (sym is.counts) (counts_few scenario h n few);
   each = λ p less. subst IsFew (sym (is.each p less)) (share_few scenario h p n few);

@@ -22,7 +22,7 @@ use Rattle.aps_window.specs.Window.{Window, advanced, resized}
 use Rattle.aps_core.specs.Counts.{Counts}
 use Rattle.aps_core.proofs.Counting.{can_bill, counts_later, counts_resized}
 use Rattle.view_shares.specs.declared.critical_time.CriticalTime.{CriticalTime}
-use Rattle.view_shares.specs.CriticalTime.{HasRoom, IsCounted, shape_with}
+use Rattle.view_shares.specs.CriticalTime.{HasRoomInWindow, IsTimeCounted, shape_with}
 
 -- the next entry: it has its moments, crosses no boundary, ends no earlier than the last one, and in one of a million ticks
 pub record IsLater (scenario : Scenario) (h : List Entry) (e : Entry) : Type 0 where
@@ -50,7 +50,7 @@ is_later scenario order h e valid legal =
     }
 
 -- where the window has gone on to its tick
-pub gone_on : (scenario : Scenario) (h : List Entry) (j : ℕ) (time : CriticalTime) (after : Window) → IsCounted scenario h time → moment h / scenario.shape.tick ≤ j → after ≡ advanced (j - time.window.tick) time.window
+pub gone_on : (scenario : Scenario) (h : List Entry) (j : ℕ) (time : CriticalTime) (after : Window) → IsTimeCounted scenario h time → moment h / scenario.shape.tick ≤ j → after ≡ advanced (j - time.window.tick) time.window
     → Counts (shape_with scenario time.span) h j after
 gone_on scenario h j time after counted forward is =
     subst (Counts (shape_with scenario time.span) h j) (sym is) (counts_later (shape_with scenario time.span) h (moment h / scenario.shape.tick) j time.window counted forward)
@@ -64,7 +64,7 @@ few_used scenario order h p k valid legal =
 
 -- there is room
 pub has_room : (scenario : Scenario) (order : Order) (h : List Entry) (e : Entry) (span : ℕ) (w : Window) → IsScenario scenario → IsLegal scenario order (h ++ e ∷ [])
-    → Counts (shape_with scenario span) h (e.to / scenario.shape.tick) w → HasRoom scenario.shape.tick w e
+    → Counts (shape_with scenario span) h (e.to / scenario.shape.tick) w → HasRoomInWindow scenario.shape.tick w e
 has_room scenario order h e span w valid legal counts =
     let later = is_later scenario order h e valid legal in
     let own = counts_resized (shape_with scenario span) scenario.shape h (e.to / scenario.shape.tick) w counts refl valid.shape.window_short in

@@ -29,12 +29,12 @@ abbrev pub budget_at : Scenario → List Entry → Entry → Option CriticalBudg
 budget_at scenario before e = option_map (budget_by (standing_of (state_tested scenario before e))) (tested_by e)
 
 -- the partition that a pick bills for critical time, if it does
-abbrev pub critical_by : Pick → Option ℕ
-critical_by pick = if pick.critical then Some pick.partition else None
+abbrev pub billed_critically : Pick → Option ℕ
+billed_critically pick = if pick.critical then Some pick.partition else None
 
 abbrev pub critical_on : Option Pick → Option ℕ
 critical_on None = None
-critical_on (Some pick) = critical_by pick
+critical_on (Some pick) = billed_critically pick
 
 -- a budget, where the entry takes time
 abbrev pub if_lasts : Entry → Option CriticalBudget → Option CriticalBudget

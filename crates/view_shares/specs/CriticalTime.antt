@@ -15,15 +15,15 @@ abbrev pub shape_with : Scenario → ℕ → Shape
 shape_with scenario window = record scenario.shape { window = window }
 
 -- the window stands at the tick of the last entry's end, and has the bills of these entries
-abbrev pub IsCounted : Scenario → List Entry → CriticalTime → Type 0
-IsCounted scenario h time = Counts (shape_with scenario time.span) h (moment h / scenario.shape.tick) time.window
+abbrev pub IsTimeCounted : Scenario → List Entry → CriticalTime → Type 0
+IsTimeCounted scenario h time = Counts (shape_with scenario time.span) h (moment h / scenario.shape.tick) time.window
 
 -- the same bills, where the last `span` ticks count
 abbrev pub for_span : ℕ → CriticalTime → CriticalTime
 for_span span time = record { window = resized span time.window; span = span }
 
 -- the entry ran in the window's tick or the one before, and its time has room there
-pub record HasRoom (tick : ℕ) (window : Window) (e : Entry) : Type 0 where
+pub record HasRoomInWindow (tick : ℕ) (window : Window) (e : Entry) : Type 0 where
   pub early : window.tick ≤ most_ticks
   pub past : e.from / tick ≤ window.tick
   pub recent : window.tick ≤ e.from / tick + 1

@@ -10,23 +10,23 @@ use Rattle.view_shares.specs.declared.critical_budget.CriticalBudget.{CriticalBu
 use Rattle.view_shares.specs.declared.critical_time.CriticalTime.{CriticalTime}
 use Rattle.view_shares.specs.declared.overspending.Pass.{Pass}
 use Rattle.view_shares.specs.declared.spent.Spent.{Spent}
-use Rattle.view_shares.specs.CriticalTime.{IsCounted}
+use Rattle.view_shares.specs.CriticalTime.{IsTimeCounted}
 use Rattle.view_shares.specs.Spent.{AreSpent}
 
 -- the scenario and the order of the pass
-abbrev pub scenario_of : Pass → Scenario
-scenario_of pass = pass.core.setup.scenario
+abbrev pub scenario_of_pass : Pass → Scenario
+scenario_of_pass pass = pass.core.setup.scenario
 
-abbrev pub order_of : Pass → Order
-order_of pass = pass.core.setup.order
+abbrev pub order_of_pass : Pass → Order
+order_of_pass pass = pass.core.setup.order
 
 -- the entries of its core are done: the moment is that of the last one's end, their time is counted, and who has overspent is
 -- noted
-pub record IsAt (pass : Pass) : Type 0 where
-  pub valid : IsScenario (scenario_of pass)
+pub record PassFollowsCore (pass : Pass) : Type 0 where
+  pub valid : IsScenario (scenario_of_pass pass)
   pub moment : pass.moment ≡ moment pass.core.entries
-  pub counted : IsCounted (scenario_of pass) pass.core.entries pass.time
-  pub spent : AreSpent (scenario_of pass) pass.core.entries pass.spent
+  pub counted : IsTimeCounted (scenario_of_pass pass) pass.core.entries pass.time
+  pub spent : AreSpent (scenario_of_pass pass) pass.core.entries pass.spent
 
 -- what the partition of the budget used of critical time in the window of the budget
 abbrev pub used_by : CriticalBudget → CriticalTime → ℕ
@@ -41,5 +41,5 @@ abbrev pub most_overspent : ℕ
 most_overspent = 10000000
 
 -- so often one can go on counting
-abbrev pub AreFew : List (Option Spent) → Type 0
-AreFew spent = (p : ℕ) → p < most_partitions → IfSome (slice_index_or spent p None) (λ s. s.count ≤ most_overspent)
+abbrev pub AreFewOverspent : List (Option Spent) → Type 0
+AreFewOverspent spent = (p : ℕ) → p < most_partitions → IfSome (slice_index_or spent p None) (λ s. s.count ≤ most_overspent)

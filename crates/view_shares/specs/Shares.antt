@@ -46,6 +46,6 @@ pub record AreFewCounts (counts : Counts) : Type 0 where
   pub unchanged : counts.unchanged ≤ last_tick
   pub steady : counts.steady ≤ last_tick
 
-pub record AreFew (shares : Shares) : Type 0 where
+pub record AreFewShares (shares : Shares) : Type 0 where
   pub counts : AreFewCounts shares.counts
   pub each : (p : ℕ) → p < most_partitions → IsFew (slice_index_or shares.each p no_share)

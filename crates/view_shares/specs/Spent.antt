@@ -30,9 +30,9 @@ overspent_as moment p None = None
 overspent_as moment p (Some excess) = Some (record { moment = moment; partition = p; excess = excess })
 
 -- what there is, as a list
-abbrev pub listed : Option Overspent → List Overspent
-listed None = []
-listed (Some overspent) = overspent ∷ []
+abbrev pub overspent_listed : Option Overspent → List Overspent
+overspent_listed None = []
+overspent_listed (Some overspent) = overspent ∷ []
 
 abbrev pub excess_of : Scenario → ℕ → List Entry → Entry → Option ℕ
 excess_of scenario p before e = excess_at (state_tested scenario before e) (before ++ e ∷ []) e p
@@ -44,7 +44,7 @@ overspent_by scenario before e = option_and_then (λ p. overspent_as e.to p (exc
 -- what the entries overspend, which follow on these
 abbrev pub overspent_from : Scenario → List Entry → List Entry → List Overspent
 overspent_from scenario before [] = []
-overspent_from scenario before (e ∷ es) = listed (overspent_by scenario before e) ++ overspent_from scenario (before ++ e ∷ []) es
+overspent_from scenario before (e ∷ es) = overspent_listed (overspent_by scenario before e) ++ overspent_from scenario (before ++ e ∷ []) es
 
 -- each entry of a history that makes its partition bankrupt, in order
 unfoldable pub overspent_of : Scenario → List Entry → List Overspent

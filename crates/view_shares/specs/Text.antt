@@ -62,8 +62,8 @@ spent_line spent = codes "overspent " ++ spent_text spent
 abbrev pub partition_lines : ℕ → List ℕ → Share → Option Spent → List ℕ
 partition_lines p name share spent = title_line p name ++ (full_lines share ++ (asked_lines share ++ spent_line spent))
 
-abbrev pub partition_text : (ℕ → Share) → (ℕ → Option Spent) → ℕ × PartitionRow → List ℕ
-partition_text shares spent (p, row) = partition_lines p row.name (shares p) (spent p)
+abbrev pub partition_share_text : (ℕ → Share) → (ℕ → Option Spent) → ℕ × PartitionRow → List ℕ
+partition_share_text shares spent (p, row) = partition_lines p row.name (shares p) (spent p)
 
 -- ---- all of them
 
@@ -76,4 +76,4 @@ head_lines counts turn =
 abbrev pub shares_text : Scenario → List Entry → List ℕ
 shares_text scenario h =
     head_lines (counts_of scenario h) (tick_of_all scenario.shape)
-    ++ flat_map (partition_text (share_of scenario h) (spent_of scenario h)) (enumerate_from 0 (state_after scenario h).rows)
+    ++ flat_map (partition_share_text (share_of scenario h) (spent_of scenario h)) (enumerate_from 0 (state_after scenario h).rows)

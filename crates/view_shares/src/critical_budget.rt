@@ -2,7 +2,7 @@
 ghost use Rattle.std.specs.Prelude.{◌≡◌, IfOk, None};
 ghost use Rattle.aps_model.specs.Shape.{IsShape};
 ghost use Rattle.laws_runs.specs.Moments.{moment};
-ghost use Rattle.aps_core.specs.Run.{end_of_run, state_of};
+ghost use Rattle.aps_core.specs.Run.{end_of_run, state_of_run};
 ghost use Rattle.aps_core.specs.Turn.{HasTurnIn};
 ghost use Rattle.view_replay.specs.Entry.{entry_of};
 ghost use Rattle.view_shares.specs.CriticalBudget as spec;
@@ -60,7 +60,7 @@ fn critical_on(cpu: &CpuNow) -> Option<PartitionId>
 }
 
 fn critical_by(pick: &Pick) -> Option<PartitionId>
-    ensures { result ≡ spec.critical_by pick.now }
+    ensures { result ≡ spec.billed_critically pick.now }
 {
     if pick.critical {
         Some(pick.partition)
@@ -103,7 +103,7 @@ fn budget_after(
     p: PartitionId,
 ) -> Result<CriticalBudget, NoMemory>
     ensures { IfOk result (λ budget. budget
-        ≡ spec.budget_by (all_commanded tick core.now.setup.scenario.commands (standing_of (state_of core.now))) p) }
+        ≡ spec.budget_by (all_commanded tick core.now.setup.scenario.commands (standing_of (state_of_run core.now))) p) }
 {
     let history = core.history();
     let commands = history.scenario().commands();

@@ -4,7 +4,7 @@ ghost use Rattle.aps_model.specs.declared.entry.Entry.{Entry as EntryOf};
 ghost use Rattle.aps_model.specs.History.{IsEntry};
 ghost use Rattle.aps_model.specs.Limits.{last_tick, longest_window, shortest_window};
 ghost use Rattle.aps_window.specs.Window.{advanced, opened, total_of};
-ghost use Rattle.view_shares.specs.CriticalTime.{GoesOnBy, HasRoom, IsCounted, for_span};
+ghost use Rattle.view_shares.specs.CriticalTime.{GoesOnBy, HasRoomInWindow, IsTimeCounted, for_span};
 
 use aps_core::Core;
 use aps_model::{Entry, Nanos, NoMemory, PartitionId};
@@ -32,8 +32,8 @@ impl CriticalTime {
     /// Adds the time of the entry that the core made last.
     pub fn add(&mut self, core: &Core, e: &Entry)
         requires last { (before : List EntryOf) × (core.now.entries ≡ before ++ e.now ∷ [])
-            × IsCounted core.now.setup.scenario before self.old }
-        ensures { IsCounted core.now.setup.scenario core.now.entries self.new }
+            × IsTimeCounted core.now.setup.scenario before self.old }
+        ensures { IsTimeCounted core.now.setup.scenario core.now.entries self.new }
     {
         let tick = core.history().scenario().shape().tick;
         go_on(&mut self.window, (e.to / tick) as u32);
@@ -72,7 +72,7 @@ fn go_on(window: &mut Window, tick: u32)
 fn add_time(window: &mut Window, tick: Nanos, e: &Entry)
     requires some { 0 < tick }
     requires entry { IsEntry e.now }
-    requires room { HasRoom tick window.old e.now }
+    requires room { HasRoomInWindow tick window.old e.now }
     ensures { GoesOnBy tick window.old e.now window.new }
 {
     if let Some(p) = e.billed {

@@ -4,11 +4,11 @@ ghost use Rattle.aps_model.specs.Legal.{IsLegal};
 ghost use Rattle.aps_core.specs.Run.{end_of_run};
 ghost use Rattle.aps_core.specs.Turn.{HasTurnIn, with_entry};
 ghost use Rattle.view_replay.specs.Entry.{entry_of};
-ghost use Rattle.view_shares.specs.Overspending.{AreFew, IsAt, excess_by, order_of, scenario_of, used_by};
+ghost use Rattle.view_shares.specs.Overspending.{AreFewOverspent, PassFollowsCore, excess_by, order_of_pass, scenario_of_pass, used_by};
 ghost use Rattle.view_samples.specs.Retraced.{start_of};
 ghost use Rattle.view_shares.specs.CriticalBudget.{AreUntestedFrom, tested_by};
 ghost use Rattle.view_shares.specs.CriticalTime.{for_span};
-ghost use Rattle.view_shares.specs.Spent.{AreSpent, listed, overspent_as, overspent_by, overspent_of, spent_with};
+ghost use Rattle.view_shares.specs.Spent.{AreSpent, overspent_listed, overspent_as, overspent_by, overspent_of, spent_with};
 ghost use Rattle.aps_model.specs.Limits.{longest_window, most_entries, most_partitions, shortest_window};
 
 use crate::critical_budget::{CriticalBudget, budget_next, if_lasts, tested};
@@ -94,7 +94,7 @@ impl Pass {
     /// A pass beside a core that has made no step.
     pub fn begin(alloc: Global, core: Core) -> Result<Pass, NoMemory>
         requires begins { core.entries ≡ [] }
-        ensures at { IfOk result IsAt }
+        ensures at { IfOk result PassFollowsCore }
         ensures core { IfOk result (λ pass. pass.core ≡ core) }
     {
         let window = core.history().scenario().shape().window;
@@ -109,12 +109,12 @@ impl Pass {
 
     /// Makes the steps of these entries, from the first one on, and gives what they overspend.
     fn collect(&mut self, alloc: Global, entries: &[Entry]) -> Result<Vec<Overspent>, NoMemory>
-        requires at { IsAt self.old }
+        requires at { PassFollowsCore self.old }
         requires begins { self.old.core.entries ≡ [] }
-        requires legal { IsLegal (scenario_of self.old) (order_of self.old) entries.now }
+        requires legal { IsLegal (scenario_of_pass self.old) (order_of_pass self.old) entries.now }
         requires few { length entries.now ≤ self.old.core.setup.limit }
         requires most { self.old.core.setup.limit ≤ most_entries }
-        ensures { IfOk result (λ all. all.items ≡ overspent_of (scenario_of self.old) entries.now) }
+        ensures { IfOk result (λ all. all.items ≡ overspent_of (scenario_of_pass self.old) entries.now) }
     {
         let mut all = Vec::new(alloc);
         for e in entries {
@@ -126,12 +126,12 @@ impl Pass {
 
     /// Makes the steps of these entries, from the first one on.
     fn go_through(&mut self, alloc: Global, entries: &[Entry]) -> Result<(), NoMemory>
-        requires at { IsAt self.old }
+        requires at { PassFollowsCore self.old }
         requires begins { self.old.core.entries ≡ [] }
-        requires legal { IsLegal (scenario_of self.old) (order_of self.old) entries.now }
+        requires legal { IsLegal (scenario_of_pass self.old) (order_of_pass self.old) entries.now }
         requires few { length entries.now ≤ self.old.core.setup.limit }
         requires most { self.old.core.setup.limit ≤ most_entries }
-        ensures { OnOk result (AreSpent (scenario_of self.old) entries.now self.new.spent) }
+        ensures { OnOk result (AreSpent (scenario_of_pass self.old) entries.now self.new.spent) }
     {
         for e in entries {
             let _overspent = self.go_on(alloc, e.cpu)?;
@@ -141,14 +141,14 @@ impl Pass {
 
     /// Makes the step of a processor that has the turn, and gives what that overspends.
     pub fn go_on(&mut self, alloc: Global, cpu: CpuId) -> Result<Option<Overspent>, NoMemory>
-        requires at { IsAt self.old }
+        requires at { PassFollowsCore self.old }
         requires goes_on { end_of_run self.old.core ≡ None }
         requires turn { HasTurnIn self.old.core cpu }
         requires few { self.old.core.setup.limit ≤ most_entries }
-        ensures at { OnOk result (IsAt self.new) }
+        ensures at { OnOk result (PassFollowsCore self.new) }
         ensures core { OnOk result (self.new.core ≡ with_entry self.old.core (entry_of self.old.core cpu)) }
         ensures overspent { IfOk result (λ overspent. overspent
-            ≡ overspent_by (scenario_of self.old) self.old.core.entries (entry_of self.old.core cpu)) }
+            ≡ overspent_by (scenario_of_pass self.old) self.old.core.entries (entry_of self.old.core cpu)) }
         ensures room { OnOk result (length self.old.core.entries < self.old.core.setup.limit) }
     {
         // the check wants to see here that the core's entries are legal
@@ -168,7 +168,7 @@ impl Pass {
         requires least { shortest_window ≤ budget.now.window }
         requires most { budget.now.window ≤ longest_window }
         requires span { self.old.time.window.span ≡ self.old.time.span }
-        requires few { AreFew self.old.spent }
+        requires few { AreFewOverspent self.old.spent }
         ensures same { self.new ≡ record self.old { time = self.new.time; spent = self.new.spent } }
         ensures time { self.new.time ≡ for_span budget.now.window self.old.time }
         ensures within { budget.now.partition < most_partitions }
@@ -197,7 +197,7 @@ impl Pass {
 
 /// Puts what there is behind the others.
 fn add(all: &mut Vec<Overspent>, overspent: Option<Overspent>) -> Result<(), NoMemory>
-    ensures { OnOk result (all.new.items ≡ all.old.items ++ listed overspent) }
+    ensures { OnOk result (all.new.items ≡ all.old.items ++ overspent_listed overspent) }
 {
     if let Some(overspent) = overspent {
         all.push(overspent)?;

@@ -87,7 +87,7 @@ impl Counts {
 /// One more where it is so.
 fn counted(count: u64, is_so: bool) -> u64
     requires { count ≤ last_tick }
-    ensures { result ≡ spec.counted count is_so }
+    ensures { result ≡ spec.counted_if count is_so }
 {
     if is_so { count + 1 } else { count }
 }
@@ -165,7 +165,7 @@ fn first_tick(sample: &Sample) -> u64
 fn used_in(sample: &Sample, p: usize) -> Used
     requires p { p < most_partitions }
     requires tick { sample.now.tick ≤ last_tick }
-    ensures { result ≡ spec.used_in p sample.now }
+    ensures { result ≡ spec.used_in_sample p sample.now }
 {
     Used {
         used: sample.usage.used[p],
@@ -190,7 +190,7 @@ fn free_in(sample: &Sample, p: usize) -> Amount
 fn critical_in(sample: &Sample, p: usize) -> Amount
     requires p { p < most_partitions }
     requires tick { sample.now.tick ≤ last_tick }
-    ensures { result ≡ spec.critical_in p sample.now }
+    ensures { result ≡ spec.critical_in_sample p sample.now }
 {
     Amount {
         ns: sample.usage.critical[p],
@@ -259,7 +259,7 @@ fn others(sample: &Sample, p: usize, turn: Nanos) -> u128
 /// all processors. It takes nothing from itself.
 fn taken_by(sample: &Sample, p: usize, q: usize, turn: Nanos) -> u128
     requires { q < most_partitions }
-    ensures same { result ≡ spec.taken_by turn p sample.now q }
+    ensures same { result ≡ spec.time_taken_by turn p sample.now q }
     ensures few { result ≤ most_taken_by_one }
 {
     if q == p {
@@ -297,7 +297,7 @@ fn least_with(best: Option<Used>, new: Used, counts: bool) -> Option<Used>
 
 /// The first of the greatest amounts, with this one more where it counts.
 fn greatest_with(best: Option<Amount>, new: Amount, counts: bool) -> Option<Amount>
-    ensures { result ≡ spec.with_one spec.is_greater best new counts }
+    ensures { result ≡ spec.with_one spec.is_greater_amount best new counts }
 {
     match best {
         _ if !counts => best,

@@ -4,9 +4,9 @@ ghost use Rattle.aps_model.specs.After.{state_after};
 ghost use Rattle.aps_model.specs.Legal.{IsLegal};
 ghost use Rattle.aps_model.specs.Loaded.{finished_ticks};
 ghost use Rattle.aps_model.specs.Shape.{IsShape};
-ghost use Rattle.view_samples.specs.Pass.{IsAt, scenario_of};
+ghost use Rattle.view_samples.specs.Pass.{IsAtTickBegin, scenario_of_cursor};
 ghost use Rattle.view_shares.specs.Share.{counts_with, no_counts, no_share, share_with};
-ghost use Rattle.view_shares.specs.Shares.{AreFew, AreUpTo, IsFew, tick_of_all};
+ghost use Rattle.view_shares.specs.Shares.{AreFewShares, AreUpTo, IsFew, tick_of_all};
 ghost use Rattle.aps_model.specs.Limits.{last_tick, most_entries, most_partitions};
 
 use crate::share::{Counts, Share};
@@ -47,12 +47,12 @@ pub fn all_shares(alloc: Global, history: &History, order: Order) -> Result<AllS
 
 /// The same, by a pass that begins.
 fn shares_of(history: &History, samples: &mut Samples) -> Shares
-    requires at { IsAt history.now.entries samples.old }
-    requires of { scenario_of samples.old.cursor ≡ history.now.scenario }
+    requires at { IsAtTickBegin history.now.entries samples.old }
+    requires of { scenario_of_cursor samples.old.cursor ≡ history.now.scenario }
     requires first { samples.old.tick ≡ 0 }
     ensures told { AreUpTo history.now.scenario history.now.entries (finished_ticks history.now.scenario.shape history.now.entries) result }
-    ensures at { IsAt history.now.entries samples.new }
-    ensures of { scenario_of samples.new.cursor ≡ history.now.scenario }
+    ensures at { IsAtTickBegin history.now.entries samples.new }
+    ensures of { scenario_of_cursor samples.new.cursor ≡ history.now.scenario }
 {
     let shape = history.scenario().shape();
     let finished = finished_ticks(shape, history.entries());
@@ -87,7 +87,7 @@ impl Shares {
 
     /// Adds the window of one sample more, where all processors have so much time in a tick (ns).
     fn add(&mut self, sample: &Sample, turn: Nanos)
-        requires few { AreFew self.old }
+        requires few { AreFewShares self.old }
         requires tick { sample.now.tick ≤ last_tick }
         ensures counts { self.new.counts ≡ counts_with self.old.counts sample.now }
         ensures each { (p : ℕ)

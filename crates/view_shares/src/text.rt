@@ -59,7 +59,7 @@ fn add_partitions(
     requires { length rows.now ≤ most_partitions }
     ensures { OnOk result (string_bytes out.new
         ≡ string_bytes out.old
-        ++ flat_map (spec.partition_text (λ p. slice_index_or shares.now p no_share) (λ p. slice_index_or spent.now p None))
+        ++ flat_map (spec.partition_share_text (λ p. slice_index_or shares.now p no_share) (λ p. slice_index_or spent.now p None))
         (enumerate_from 0 rows.now)) }
 {
     for (p, row) in rows.iter().enumerate() {

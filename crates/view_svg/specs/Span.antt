@@ -38,9 +38,9 @@ abbrev pub meets : ℕ → ℕ → ℕ → ℕ → Bool
 meets shown_from shown_to from to = nat_lt shown_from to && nat_lt from shown_to
 
 -- the moment is shown, as the end is too
-abbrev pub has : ℕ → ℕ → ℕ → Bool
-has shown_from shown_to moment = nat_le shown_from moment && nat_le moment shown_to
+abbrev pub shows_moment : ℕ → ℕ → ℕ → Bool
+shows_moment shown_from shown_to moment = nat_le shown_from moment && nat_le moment shown_to
 
 -- how much of the time is shown
-abbrev pub within : ℕ → ℕ → ℕ → ℕ → ℕ
-within shown_from shown_to from to = min to shown_to - max from shown_from
+abbrev pub shown_length : ℕ → ℕ → ℕ → ℕ → ℕ
+shown_length shown_from shown_to from to = min to shown_to - max from shown_from

@@ -1,6 +1,6 @@
 //! The time that a picture shows.
 ghost use Rattle.std.specs.Prelude.{◌≡◌, ◌+◌, ◌-◌, ◌<◌, ◌≤◌};
-ghost use Rattle.view_svg.specs.Span.{has, last_shown, left_edge, meets, shown_width, within, x_of};
+ghost use Rattle.view_svg.specs.Span.{shows_moment, last_shown, left_edge, meets, shown_width, shown_length, x_of};
 
 use crate::sharing::share;
 use aps_model::Nanos;
@@ -38,14 +38,14 @@ impl Span {
 
     /// Whether the span has this moment; its end is one of it too.
     pub fn has(&self, moment: Nanos) -> bool
-        ensures { result ≡ has self.now.from self.now.to moment }
+        ensures { result ≡ shows_moment self.now.from self.now.to moment }
     {
         self.from <= moment && moment <= self.to
     }
 
     /// How much of the time from one moment to another lies in the span.
     pub fn within(&self, from: Nanos, to: Nanos) -> Nanos
-        ensures { result ≡ within self.now.from self.now.to from to }
+        ensures { result ≡ shown_length self.now.from self.now.to from to }
     {
         to.min(self.to).saturating_sub(from.max(self.from))
     }

@@ -2,7 +2,7 @@
 ghost use Rattle.std.specs.Prelude.{◌≡◌, ◌+◌, ◌*◌, ◌<◌, ◌≤◌, length, map, IfOk, OnOk, [], nat_lt, if◌then◌else◌};
 ghost use Rattle.view_marks.specs.declared.alteration.Alteration.{Alteration};
 ghost use Rattle.view_marks.specs.declared.overspent.Overspent.{Overspent};
-ghost use Rattle.view_timeline.specs.Strip.{all_drawn, lowest_bar, marks_of, room_behind, with_mark, with_moment};
+ghost use Rattle.view_timeline.specs.Strip.{all_drawn, lowest_bar, marks_of, room_behind, with_drawn_mark, with_moment};
 ghost use Rattle.view_svg.specs.Span.{lowest_top, page_width};
 
 use crate::mark::Mark;
@@ -118,7 +118,7 @@ fn add_moment(
 /// The mark of what stands at this place of its list: it is counted at the last one where it is too near that.
 fn add_mark(marks: &mut Vec<Mark>, x: u64, place: usize) -> Result<(), NoMemory>
     requires { x ≤ page_width }
-    ensures { OnOk result (all_drawn marks.new.items ≡ with_mark (all_drawn marks.old.items) x place) }
+    ensures { OnOk result (all_drawn marks.new.items ≡ with_drawn_mark (all_drawn marks.old.items) x place) }
 {
     if let Some(last) = marks.last().copied() {
         if x < last.x + NEAR {

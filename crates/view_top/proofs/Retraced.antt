@@ -6,7 +6,7 @@ use Rattle.laws_runs.proofs.Prefixes.{goes_on}
 use Rattle.laws_runs.specs.Runs.{GoesOn}
 use Rattle.aps_check.specs.Verdict.{IsRunSoFar}
 use Rattle.aps_core.specs.Run.{Run, Setup}
-use Rattle.aps_core.specs.Turn.{IsTaken}
+use Rattle.aps_core.specs.Turn.{IsTurnTaken}
 use Rattle.view_lives.proofs.Retraced.{parted}
 
 -- the run of the first entries
@@ -15,7 +15,7 @@ begun setup h i = record { setup = setup; entries = take i h }
 
 -- the next entry is the step of its processor, which has the turn
 pub next_taken : (setup : Setup) (h : List Entry) (i : ℕ) (e : Entry) → IsRunSoFar setup h → i < length h → get_or h i e ≡ e
-    → IsTaken (begun setup h i) e.cpu e
+    → IsTurnTaken (begun setup h i) e.cpu e
 next_taken setup h i e sound less is =
     let parts = parted h i e less is in
     let next : GoesOn setup.scenario setup.order (take i h) e =

@@ -1,7 +1,7 @@
 //! What comes of what a core has recorded, and of a scenario with the entries of a journal.
 ghost use Rattle.std.specs.Prelude.{◌≡◌, ℕ, ◌<◌, ◌≤◌, List, [], Option, option_map, string_bytes, IfOk};
 ghost use Rattle.aps_check.specs.Verdict.{IsRunSoFar};
-ghost use Rattle.aps_core.specs.Turn.{IsTaken, with_entry};
+ghost use Rattle.aps_core.specs.Turn.{IsTurnTaken, with_entry};
 ghost use Rattle.view_top.specs.declared.status.Status.TheVariants.{Done};
 ghost use Rattle.view_top.specs.Cause.{told_by};
 ghost use Rattle.view_top.specs.Due.{IsDueOfEntries, IsReported, judging, reported};
@@ -110,7 +110,7 @@ fn retrace(core: &mut Core, entries: &[Entry])
 /// The core makes the step of which this is the entry.
 fn step(core: &mut Core, entry: &Entry)
     requires exists { entry.now.cpu < core.old.setup.scenario.shape.cpus }
-    requires taken { IsTaken core.old entry.now.cpu entry.now }
+    requires taken { IsTurnTaken core.old entry.now.cpu entry.now }
     ensures { core.new ≡ with_entry core.old entry.now }
 {
     let _turn = core.step(entry.cpu);

@@ -9,7 +9,7 @@ use Rattle.view_marks.specs.declared.arrow.Arrow.{Arrow}
 use Rattle.view_marks.specs.declared.arrow.Carried.{Carried}
 use Rattle.view_marks.specs.declared.arrow.Carried.TheVariants.{Message, Reply}
 use Rattle.view_marks.specs.Arrow.{arrow_of}
-use Rattle.view_trace_events.specs.Place.{place_text}
+use Rattle.view_trace_events.specs.Place.{track_place_text}
 use Rattle.view_trace_events.specs.Track.{of_thread}
 
 abbrev pub carried_word : Carried → List ℕ
@@ -21,7 +21,7 @@ abbrev pub end_text : List ThreadRow → List ℕ → Carried → ℕ → ℕ �
 end_text threads phase carried number x moment =
     (codes ",\n{\"ph\":\""
     ++ (phase ++ (codes "\",\"name\":\"" ++ (carried_word carried ++ (codes "\",\"cat\":\"message\",\"id\":" ++ decimal number)))))
-    ++ place_text (of_thread threads x) moment
+    ++ track_place_text (of_thread threads x) moment
 
 -- an arrow begins a nanosecond before it ends
 abbrev pub arrow_events : List ThreadRow → ℕ → Arrow → ℕ → List ℕ
@@ -29,21 +29,21 @@ arrow_events threads number arrow moment =
     end_text threads (codes "s") arrow.carried number arrow.source (moment - 1)
     ++ (codes "}" ++ (end_text threads (codes "f") arrow.carried number arrow.target moment ++ codes ",\"bp\":\"e\"}"))
 
-abbrev pub events_of : List ThreadRow → ℕ → ℕ → Option Arrow → List ℕ
-events_of threads number moment None = []
-events_of threads number moment (Some arrow) = arrow_events threads number arrow moment
+abbrev pub events_of_arrow : List ThreadRow → ℕ → ℕ → Option Arrow → List ℕ
+events_of_arrow threads number moment None = []
+events_of_arrow threads number moment (Some arrow) = arrow_events threads number arrow moment
 
 -- the events of the entry's arrow, which gets this number
 abbrev pub entry_events : List ThreadRow → ℕ → Entry → List ℕ
-entry_events threads number e = events_of threads number e.to (arrow_of e)
+entry_events threads number e = events_of_arrow threads number e.to (arrow_of e)
 
 -- the number of the next arrow
 abbrev pub number_with : ℕ → Option Arrow → ℕ
 number_with number None = number
 number_with number (Some arrow) = number + 1
 
-abbrev pub number_after : ℕ → Entry → ℕ
-number_after number e = number_with number (arrow_of e)
+abbrev pub arrow_number_after : ℕ → Entry → ℕ
+arrow_number_after number e = number_with number (arrow_of e)
 
 -- the events of the arrows of entries, and the number of the next one
 pub record Arrows : Type 0 where
@@ -51,7 +51,7 @@ pub record Arrows : Type 0 where
   pub next : ℕ
 
 abbrev pub arrows_with : List ThreadRow → Arrows → Entry → Arrows
-arrows_with threads arrows e = record { text = arrows.text ++ entry_events threads arrows.next e; next = number_after arrows.next e }
+arrows_with threads arrows e = record { text = arrows.text ++ entry_events threads arrows.next e; next = arrow_number_after arrows.next e }
 
 -- arrows are numbered from 0, in the order of their entries
 abbrev pub arrows_in : List ThreadRow → List Entry → Arrows

@@ -23,8 +23,8 @@ values_events moment sample p =
     ++ (value_event (codes "critical used") moment p (slice_index sample.usage.critical p)
     ++ value_event (codes "allowance") moment p (slice_index sample.allowance p))
 
-abbrev pub is_same : Sample → Sample → ℕ → Bool
-is_same before sample p =
+abbrev pub is_same_usage : Sample → Sample → ℕ → Bool
+is_same_usage before sample p =
     nat_eq (slice_index before.usage.used p) (slice_index sample.usage.used p)
     && (nat_eq (slice_index before.usage.critical p) (slice_index sample.usage.critical p)
     && nat_eq (slice_index before.allowance p) (slice_index sample.allowance p))
@@ -32,14 +32,14 @@ is_same before sample p =
 -- the sample before has the same values
 abbrev pub is_told : Option Sample → Sample → ℕ → Bool
 is_told None sample p = false
-is_told (Some before) sample p = is_same before sample p
+is_told (Some before) sample p = is_same_usage before sample p
 
-abbrev pub partition_values : ℕ → Option Sample → Sample → ℕ → List ℕ
-partition_values moment before sample p = if is_told before sample p then [] else values_events moment sample p
+abbrev pub partition_counters : ℕ → Option Sample → Sample → ℕ → List ℕ
+partition_counters moment before sample p = if is_told before sample p then [] else values_events moment sample p
 
 -- at the end of its tick, of so many partitions, where a value differs from that in the sample before
 abbrev pub sample_events : ℕ → ℕ → Option Sample → Sample → List ℕ
-sample_events tick rows before sample = flat_map (partition_values ((sample.tick + 1) * tick) before sample) (range_with_len 0 rows)
+sample_events tick rows before sample = flat_map (partition_counters ((sample.tick + 1) * tick) before sample) (range_with_len 0 rows)
 
 -- the sample before that of tick j
 abbrev pub before_tick : Scenario → List Entry → ℕ → Option Sample

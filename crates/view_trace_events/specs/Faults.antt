@@ -5,6 +5,6 @@ use Rattle.view_trace_events.specs.declared.fault.TraceFault.{TraceFault}
 use Rattle.view_trace_events.specs.declared.fault.TraceFault.TheVariants.{WriteFault, NoMemory}
 
 -- what a refused write means for a trace
-abbrev pub fault_of : WriteRefusal → TraceFault
-fault_of refusal.WriteFault = WriteFault
-fault_of refusal.NoMemory = NoMemory
+abbrev pub trace_fault_of : WriteRefusal → TraceFault
+trace_fault_of refusal.WriteFault = WriteFault
+trace_fault_of refusal.NoMemory = NoMemory

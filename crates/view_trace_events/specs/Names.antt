@@ -10,8 +10,8 @@ use Rattle.view_trace_events.specs.Place.{track_text}
 use Rattle.view_trace_events.specs.Track.{of_partition, of_processor, of_processors, of_thread}
 
 -- the event of this kind that names a track, up to the name
-abbrev pub head_text : List ℕ → Track → List ℕ
-head_text kind track =
+abbrev pub track_head_text : List ℕ → Track → List ℕ
+track_head_text kind track =
     (codes ",\n{\"ph\":\"M\",\"name\":\"" ++ (kind ++ codes "\"")) ++ (track_text track ++ codes ",\"args\":{\"name\":\"")
 
 -- the event that gives a track its place
@@ -27,7 +27,7 @@ first_text =
 
 abbrev pub processor_names : ℕ → List ℕ
 processor_names c =
-    head_text (codes "thread_name") (of_processor c)
+    track_head_text (codes "thread_name") (of_processor c)
     ++ ((codes "cpu " ++ (decimal c ++ codes "\"}}")) ++ index_event (codes "thread") (of_processor c) c)
 
 abbrev pub processors_text : ℕ → List ℕ
@@ -35,7 +35,7 @@ processors_text cpus = first_text ++ flat_map processor_names (range_with_len 0 
 
 abbrev pub named_partition : ℕ → List ℕ → List ℕ
 named_partition p name =
-    head_text (codes "process_name") (of_partition p)
+    track_head_text (codes "process_name") (of_partition p)
     ++ ((codes "partition " ++ (name ++ codes "\"}}")) ++ index_event (codes "process") (of_partition p) (p + 1))
 
 abbrev pub partition_names : ℕ × PartitionRow → List ℕ
@@ -43,7 +43,7 @@ partition_names (p, row) = named_partition p row.name
 
 abbrev pub named_thread : Track → ℕ → List ℕ → List ℕ
 named_thread track place name =
-    head_text (codes "thread_name") track ++ ((name ++ codes "\"}}") ++ index_event (codes "thread") track place)
+    track_head_text (codes "thread_name") track ++ ((name ++ codes "\"}}") ++ index_event (codes "thread") track place)
 
 abbrev pub thread_names : List ThreadRow → ℕ × ThreadRow → List ℕ
 thread_names threads (x, row) = named_thread (of_thread threads x) x row.name

@@ -7,13 +7,13 @@ use Rattle.aps_model.specs.declared.partition.PartitionRow.{PartitionRow}
 use Rattle.aps_model.specs.declared.scenario.ThreadRow.{ThreadRow}
 use Rattle.aps_model.specs.Scenario.{Scenario}
 use Rattle.view_marks.specs.declared.bar.Bar.{Bar}
-use Rattle.view_marks.specs.Text.{row_name, thread_name}
+use Rattle.view_marks.specs.Text.{partition_row_name, thread_name}
 use Rattle.view_lives.specs.declared.doing.Doing.{Doing}
 use Rattle.view_lives.specs.declared.doing.Doing.TheVariants.{Ready, Running, Sleeping, Sending, Receiving, Replying, Gone}
 use Rattle.view_lives.specs.declared.life.Segment.{Segment}
 use Rattle.view_samples.specs.Csv.{bit}
 use Rattle.view_trace_events.specs.declared.tracks.Track.{Track}
-use Rattle.view_trace_events.specs.Place.{place_text}
+use Rattle.view_trace_events.specs.Place.{track_place_text}
 use Rattle.view_trace_events.specs.Time.{us_text}
 use Rattle.view_trace_events.specs.Track.{of_processor, of_thread}
 use Rattle.view_trace_events.specs.Words.{channel_name}
@@ -24,12 +24,12 @@ start_text word name = codes ",\n{\"ph\":\"X\",\"name\":\"" ++ (word ++ (name ++
 
 -- where it stands, when, and how long it lasts
 abbrev pub span_text : Track → ℕ → ℕ → List ℕ
-span_text track from to = place_text track from ++ (codes ",\"dur\":" ++ (us_text (to - from) ++ codes ",\"args\":"))
+span_text track from to = track_place_text track from ++ (codes ",\"dur\":" ++ (us_text (to - from) ++ codes ",\"args\":"))
 
 -- the end of an event: which partition is billed, and whether for critical time
 abbrev pub bill_end : List PartitionRow → ℕ → Bool → List ℕ
 bill_end rows p critical =
-    codes "\"billed\":\"" ++ (row_name rows p ++ (codes "\",\"critical\":" ++ (decimal (bit critical) ++ codes "}}")))
+    codes "\"billed\":\"" ++ (partition_row_name rows p ++ (codes "\",\"critical\":" ++ (decimal (bit critical) ++ codes "}}")))
 
 -- ---- what a processor ran
 

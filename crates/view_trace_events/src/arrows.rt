@@ -44,7 +44,7 @@ fn add_entry(
 ) -> Result<u64, NoMemory>
     requires { number ≤ most_entries }
     ensures text { OnOk result (string_bytes out.new ≡ string_bytes out.old ++ spec.entry_events threads.now number e.now) }
-    ensures next { IfOk result (λ next. next ≡ spec.number_after number e.now) }
+    ensures next { IfOk result (λ next. next ≡ spec.arrow_number_after number e.now) }
 {
     match arrow_of(e) {
         Some(arrow) => {

@@ -3,7 +3,7 @@ ghost use Rattle.std.specs.Prelude.{◌≡◌, ◌≤◌, ◌++◌, length, stri
 ghost use Rattle.aps_io.specs.Causes.{Rose};
 ghost use Rattle.aps_model.specs.Legal.{IsLegal};
 ghost use Rattle.aps_model.specs.Loaded.{finished_ticks};
-ghost use Rattle.view_samples.specs.Pass.{IsAt, scenario_of};
+ghost use Rattle.view_samples.specs.Pass.{IsAtTickBegin, scenario_of_cursor};
 ghost use Rattle.view_trace_events.specs.Counters as spec;
 ghost use Rattle.view_trace_events.specs.Piece.{IsTold};
 ghost use Rattle.aps_model.specs.Limits.{last_partition, last_tick, longest_tick, most_entries, most_partitions};
@@ -49,8 +49,8 @@ fn write_ticks<K: Sink>(
     samples: &mut Samples,
 ) -> Result<(), TraceFault>
     requires few_rows { rows ≤ most_partitions }
-    requires at { IsAt history.now.entries samples.old }
-    requires of { scenario_of samples.old.cursor ≡ history.now.scenario }
+    requires at { IsAtTickBegin history.now.entries samples.old }
+    requires of { scenario_of_cursor samples.old.cursor ≡ history.now.scenario }
     requires first { samples.old.tick ≡ 0 }
     ensures told { OnOk result (IsTold (K.written sink.old) (K.written sink.new) (string_bytes out.old) (string_bytes out.new)
         (spec.counters_text history.now.scenario history.now.entries rows)) }
@@ -97,7 +97,7 @@ fn add_partition(
     sample: &Sample,
     p: PartitionId,
 ) -> Result<(), NoMemory>
-    ensures { OnOk result (string_bytes out.new ≡ string_bytes out.old ++ spec.partition_values moment before.now sample.now p) }
+    ensures { OnOk result (string_bytes out.new ≡ string_bytes out.old ++ spec.partition_counters moment before.now sample.now p) }
 {
     if is_told(before, sample, p) {
         return Ok(());
@@ -117,7 +117,7 @@ fn is_told(before: &Option<Sample>, sample: &Sample, p: PartitionId) -> bool
 
 fn is_same(before: &Sample, sample: &Sample, p: usize) -> bool
     requires { p ≤ last_partition }
-    ensures { result ≡ spec.is_same before.now sample.now p }
+    ensures { result ≡ spec.is_same_usage before.now sample.now p }
 {
     before.usage.used[p] == sample.usage.used[p]
         && before.usage.critical[p] == sample.usage.critical[p]

@@ -22,9 +22,9 @@ impl From<NoMemory> for TraceFault {
 }
 
 impl From<WriteRefusal> for TraceFault {
-    ghost use Rattle.view_trace_events.specs.Faults.{fault_of};
+    ghost use Rattle.view_trace_events.specs.Faults.{trace_fault_of};
 
-    ghost from_gives = { λ refusal e. e ≡ fault_of refusal };
+    ghost from_gives = { λ refusal e. e ≡ trace_fault_of refusal };
 
     fn from(refusal: WriteRefusal) -> TraceFault {
         match refusal {

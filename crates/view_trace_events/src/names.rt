@@ -116,7 +116,7 @@ fn add_thread(out: &mut String, track: Track, place: usize, name: &Name) -> Resu
 
 /// The event of this kind that names a process or a thread, up to that name.
 fn add_head(out: &mut String, kind: &str, track: Track) -> Result<(), NoMemory>
-    ensures { OnOk result (string_bytes out.new ≡ string_bytes out.old ++ spec.head_text kind.now track) }
+    ensures { OnOk result (string_bytes out.new ≡ string_bytes out.old ++ spec.track_head_text kind.now track) }
 {
     write!(out, ",\n{{\"ph\":\"M\",\"name\":\"{kind}\"")?;
     add_track(out, track)?;

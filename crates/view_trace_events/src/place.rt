@@ -9,7 +9,7 @@ use std::fmt::Write;
 
 /// On which track and when an event stands.
 pub fn add_place(out: &mut String, track: Track, moment: Nanos) -> Result<(), NoMemory>
-    ensures { OnOk result (string_bytes out.new ≡ string_bytes out.old ++ spec.place_text track moment) }
+    ensures { OnOk result (string_bytes out.new ≡ string_bytes out.old ++ spec.track_place_text track moment) }
 {
     add_track(out, track)?;
     out.push_str(",\"ts\":")?;

@@ -12,7 +12,7 @@ use Rattle.view_value_changes.specs.declared.kind.Kind.{Kind as State}
 use Rattle.view_value_changes.specs.declared.kind.Kind.TheVariants.{Ready, Running, Sleeping, Sending, Receiving, Replying, Gone}
 use Rattle.view_value_changes.specs.declared.value.Value.{Value}
 use Rattle.view_value_changes.specs.declared.value.Value.TheVariants.{Thread, Partition, Kind, Number, Bit}
-use Rattle.view_value_changes.specs.Changes.{changes, is_same, number, sort, value_at}
+use Rattle.view_value_changes.specs.Changes.{changes, is_same, number_of_value, sort, value_at}
 
 -- ---- a value from its sort and number
 
@@ -40,7 +40,7 @@ value_from (suc (suc zero)) n = Kind (state_from n)
 value_from (suc (suc (suc zero))) n = Number n
 value_from (suc (suc (suc (suc s)))) n = Bit (bit_from n)
 
-same_state : (kind : State) → value_from 2 (number (Kind kind)) ≡ Kind kind
+same_state : (kind : State) → value_from 2 (number_of_value (Kind kind)) ≡ Kind kind
 unfolding value_from state_from
 same_state Ready = refl
 same_state Running = refl
@@ -50,7 +50,7 @@ same_state Receiving = refl
 same_state Replying = refl
 same_state Gone = refl
 
-same_value : (v : Value) → value_from (sort v) (number v) ≡ v
+same_value : (v : Value) → value_from (sort v) (number_of_value v) ≡ v
 unfolding value_from id_from bit_from
 same_value (Thread None) = refl
 same_value (Thread (Some x)) = refl
@@ -80,11 +80,11 @@ second_true false b e = absurd cc
 pub same_is : (a b : Value) → is_same a b ≡ true → a ≡ b
 same_is a b e =
     let sorts : sort a ≡ sort b = from_test _ _ (first_true (nat_eq (sort a) (sort b)) _ e) in
-    let numbers : number a ≡ number b = from_test _ _ (second_true (nat_eq (sort a) (sort b)) _ e) in
-    sym (same_value a) ∙ ap (λ s. value_from s (number a)) sorts ∙ ap (value_from (sort b)) numbers ∙ same_value b
+    let numbers : number_of_value a ≡ number_of_value b = from_test _ _ (second_true (nat_eq (sort a) (sort b)) _ e) in
+    sym (same_value a) ∙ ap (λ s. value_from s (number_of_value a)) sorts ∙ ap (value_from (sort b)) numbers ∙ same_value b
 
 same_self : (v : Value) → is_same v v ≡ true
-same_self v = rw (test_eq (sort v) (sort v) refl, test_eq (number v) (number v) refl) refl
+same_self v = rw (test_eq (sort v) (sort v) refl, test_eq (number_of_value v) (number_of_value v) refl) refl
 
 is_same_by : (a b : Value) → a ≡ b → is_same a b ≡ true
 is_same_by a b e = subst (λ v. is_same a v ≡ true) e (same_self a)

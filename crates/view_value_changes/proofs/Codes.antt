@@ -1,7 +1,7 @@
 -- Different signals have different codes.
 use Rattle.std.proofs.Common.{◌≡◌, ℕ, ◌+◌, ◌-◌, ◌/◌, ◌%◌, ◌<◌, List, [], ◌∷◌, get_or, Bool, true, false, cond, nat_lt, min, refl, sym, ap, ◌∙◌, arith}
 use Rattle.std.proofs.lemmas.Bool.Decides.{nat_tests}
-use Rattle.view_value_changes.specs.Code.{code, code_count, digit}
+use Rattle.view_value_changes.specs.Code.{signal_code, code_count, digit}
 
 first_by : (t : Bool) (a b : ℕ) → get_or (cond t (a ∷ []) (a ∷ b ∷ [])) 0 0 ≡ a
 first_by true a b = refl
@@ -19,7 +19,7 @@ same_place i j true false small other short long units places = absurd (omega (a
 same_place i j false true small other short long units places = absurd (omega (arith, places))
 same_place i j false false small other short long units places = grind (arith, nat_tests)
 
-pub codes_differ : (i j : ℕ) → i < code_count → j < code_count → code i ≡ code j → i ≡ j
+pub codes_differ : (i j : ℕ) → i < code_count → j < code_count → signal_code i ≡ signal_code j → i ≡ j
 codes_differ i j small other same =
     let units : 33 + i % 94 ≡ 33 + j % 94 =
     sym (first_by (nat_lt i 94) (digit (i % 94)) (digit (min (i / 94 - 1) 93))) ∙ ap (λ (l : List ℕ). get_or l 0 0) same ∙ first_by (nat_lt j 94) (digit (j % 94)) (digit (min (j / 94 - 1) 93)) in

@@ -21,23 +21,23 @@ use Rattle.aps_window.specs.StandsFor.{StandsFor}
 use Rattle.aps_window.specs.Window.{Window, advanced, opened, resized}
 use Rattle.aps_window.proofs.Entries.{critical_same, used_same}
 use Rattle.aps_core.specs.Counts.{Counts}
-use Rattle.aps_core.specs.Run.{Run, state_of}
-use Rattle.aps_core.specs.Turn.{IsTaken}
+use Rattle.aps_core.specs.Run.{Run, state_of_run}
+use Rattle.aps_core.specs.Turn.{IsTurnTaken}
 use Rattle.aps_core.proofs.Counting.{counts_later, counts_none, counts_resized}
 use Rattle.view_shares.specs.CriticalTime.{shape_with}
 use Rattle.view_value_changes.specs.declared.usages.Usages.{Usages}
-use Rattle.view_value_changes.specs.Retraced.{IsAt}
-use Rattle.view_value_changes.specs.Usages.{IsCounted, IsUpTo}
+use Rattle.view_value_changes.specs.Retraced.{RetracedFollowsCore}
+use Rattle.view_value_changes.specs.Usages.{AreUsagesCounted, AreUsagesUpTo}
 
 no_ticks : (t : ℕ) → 0 / t ≡ 0
 no_ticks t = search (arith)
 
 -- at the start
 pub at_begin : (core start : Run) (usages : Usages) (window : ℕ) → core ≡ start → IsScenario start.setup.scenario → start.entries ≡ [] → usages ≡ record { window = opened window; span = window } → window ≡ start.setup.scenario.shape.window
-    → IsAt (record { core = core; moment = 0; usages = usages })
+    → RetracedFollowsCore (record { core = core; moment = 0; usages = usages })
 at_begin core start usages window is valid begins new wide =
     let scenario = start.setup.scenario in
-    let At : Run → Usages → Type 0 = λ r u. IsAt (record { core = r; moment = 0; usages = u }) in
+    let At : Run → Usages → Type 0 = λ r u. RetracedFollowsCore (record { core = r; moment = 0; usages = u }) in
     let none : Run = record { setup = start.setup; entries = [] } in
     let short : window ≤ longest_window = let s = valid.shape.window_short in omega (arith, s, wide) in
     let counts : Counts (shape_with scenario window) [] 0 (opened window) = counts_none (shape_with scenario window) short in
@@ -54,18 +54,18 @@ at_begin core start usages window is valid begins new wide =
     subst (At core) (sym new) (subst (λ r. At r (record { window = opened window; span = window })) (sym (is ∙ whole)) at_none)
 
 -- where the window has gone on to its tick
-pub gone_on : (scenario : Scenario) (h : List Entry) (j : ℕ) (usages : Usages) (after : Window) → IsCounted scenario h usages → moment h / scenario.shape.tick ≤ j → after ≡ advanced (j - usages.window.tick) usages.window
+pub gone_on : (scenario : Scenario) (h : List Entry) (j : ℕ) (usages : Usages) (after : Window) → AreUsagesCounted scenario h usages → moment h / scenario.shape.tick ≤ j → after ≡ advanced (j - usages.window.tick) usages.window
     → Counts (shape_with scenario usages.span) h j after
 gone_on scenario h j usages after counted forward is =
     subst (Counts (shape_with scenario usages.span) h j) (sym is) (counts_later (shape_with scenario usages.span) h (moment h / scenario.shape.tick) j usages.window counted forward)
 
 -- where as many ticks count as the shape says
-pub fitted : (run : Run) (usages after : Usages) (window : ℕ) → IsScenario run.setup.scenario → IsLegal run.setup.scenario run.setup.order run.entries → IsCounted run.setup.scenario run.entries usages
-    → window ≡ (state_of run).shape.window → window ≤ longest_window → after ≡ record { window = resized window usages.window; span = window } → IsUpTo run after
+pub fitted : (run : Run) (usages after : Usages) (window : ℕ) → IsScenario run.setup.scenario → IsLegal run.setup.scenario run.setup.order run.entries → AreUsagesCounted run.setup.scenario run.entries usages
+    → window ≡ (state_of_run run).shape.window → window ≤ longest_window → after ≡ record { window = resized window usages.window; span = window } → AreUsagesUpTo run after
 fitted run usages after window valid legal counted wide short is =
     let scenario = run.setup.scenario in
     let sizes = (sound scenario run.setup.order valid run.entries legal).grounded.sizes in
-    subst (IsUpTo run) (sym is)
+    subst (AreUsagesUpTo run) (sym is)
     (record {
       counted = counts_resized (shape_with scenario usages.span) (shape_with scenario window) run.entries (moment run.entries / scenario.shape.tick) usages.window counted refl short;
       span = wide;
@@ -80,9 +80,9 @@ same_used s t h p tick window = λ i. used (tick i) h p (moment h / tick i + 1 -
 same_critical : (s t : Shape) (h : List Entry) (p : ℕ) → s.tick ≡ t.tick → s.window ≡ t.window → window_critical s h (moment h / s.tick) p ≡ window_critical t h (moment h / t.tick) p
 same_critical s t h p tick window = λ i. critical_used (tick i) h p (moment h / tick i + 1 - window i) (moment h / tick i + 1)
 
-pub read_used : (run : Run) (usages : Usages) (p u : ℕ) → IsUpTo run usages
+pub read_used : (run : Run) (usages : Usages) (p u : ℕ) → AreUsagesUpTo run usages
     → ((bills : List Bill) → StandsFor usages.window bills → u ≡ bills_used bills p (usages.window.tick + 1 - usages.window.span) (usages.window.tick + 1))
-    → u ≡ window_used (state_of run).shape run.entries (moment run.entries / (state_of run).shape.tick) p
+    → u ≡ window_used (state_of_run run).shape run.entries (moment run.entries / (state_of_run run).shape.tick) p
 read_used run usages p u up stands =
     let shape = shape_with run.setup.scenario usages.span in
     let c : Counts shape run.entries (moment run.entries / run.setup.scenario.shape.tick) usages.window = up.counted in
@@ -91,11 +91,11 @@ read_used run usages p u up stands =
     stands bills c.stands
     ∙ (λ i. bills_used bills p (c.tick i + 1 - c.span i) (c.tick i + 1))
     ∙ used_same shape.tick run.entries p (j + 1 - shape.window) (j + 1) c.each
-    ∙ sym (same_used (state_of run).shape shape run.entries p up.tick (sym up.span))
+    ∙ sym (same_used (state_of_run run).shape shape run.entries p up.tick (sym up.span))
 
-pub read_critical : (run : Run) (usages : Usages) (p u : ℕ) → IsUpTo run usages
+pub read_critical : (run : Run) (usages : Usages) (p u : ℕ) → AreUsagesUpTo run usages
     → ((bills : List Bill) → StandsFor usages.window bills → u ≡ bills_critical bills p (usages.window.tick + 1 - usages.window.span) (usages.window.tick + 1))
-    → u ≡ window_critical (state_of run).shape run.entries (moment run.entries / (state_of run).shape.tick) p
+    → u ≡ window_critical (state_of_run run).shape run.entries (moment run.entries / (state_of_run run).shape.tick) p
 read_critical run usages p u up stands =
     let shape = shape_with run.setup.scenario usages.span in
     let c : Counts shape run.entries (moment run.entries / run.setup.scenario.shape.tick) usages.window = up.counted in
@@ -104,12 +104,12 @@ read_critical run usages p u up stands =
     stands bills c.stands
     ∙ (λ i. bills_critical bills p (c.tick i + 1 - c.span i) (c.tick i + 1))
     ∙ critical_same shape.tick run.entries p (j + 1 - shape.window) (j + 1) c.each
-    ∙ sym (same_critical (state_of run).shape shape run.entries p up.tick (sym up.span))
+    ∙ sym (same_critical (state_of_run run).shape shape run.entries p up.tick (sym up.span))
 
 -- ---- the next entry
 
 -- it is the step of its processor, which has the turn
-pub taken : (run : Run) (e : Entry) → IsLegal run.setup.scenario run.setup.order (run.entries ++ e ∷ []) → length run.entries < run.setup.limit → IsTaken run e.cpu e
+pub taken : (run : Run) (e : Entry) → IsLegal run.setup.scenario run.setup.order (run.entries ++ e ∷ []) → length run.entries < run.setup.limit → IsTurnTaken run e.cpu e
 taken run e legal less =
     let next : GoesOn run.setup.scenario run.setup.order run.entries e = goes_on run.setup.scenario run.setup.order run.entries [] e legal in
     record {

@@ -33,15 +33,15 @@ state_number Receiving = 4
 state_number Replying = 5
 state_number Gone = 6
 
-abbrev pub number : Value → ℕ
-number (Thread x) = id_number x
-number (Partition p) = id_number p
-number (Kind kind) = state_number kind
-number (Number n) = n
-number (Bit is_set) = if is_set then 1 else 0
+abbrev pub number_of_value : Value → ℕ
+number_of_value (Thread x) = id_number x
+number_of_value (Partition p) = id_number p
+number_of_value (Kind kind) = state_number kind
+number_of_value (Number n) = n
+number_of_value (Bit is_set) = if is_set then 1 else 0
 
 abbrev pub is_same : Value → Value → Bool
-is_same before now = nat_eq (sort before) (sort now) && nat_eq (number before) (number now)
+is_same before now = nat_eq (sort before) (sort now) && nat_eq (number_of_value before) (number_of_value now)
 
 -- ---- the first moment
 

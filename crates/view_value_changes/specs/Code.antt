@@ -10,5 +10,5 @@ abbrev pub code_count : ℕ
 code_count = 8930
 
 -- one digit, or two, of which the second counts more
-abbrev pub code : ℕ → List ℕ
-code signal = if nat_lt signal 94 then digit (signal % 94) ∷ [] else digit (signal % 94) ∷ digit (min (signal / 94 - 1) 93) ∷ []
+abbrev pub signal_code : ℕ → List ℕ
+signal_code signal = if nat_lt signal 94 then digit (signal % 94) ∷ [] else digit (signal % 94) ∷ digit (min (signal / 94 - 1) 93) ∷ []

@@ -45,25 +45,25 @@ is_billed_to None p = false
 is_billed_to (Some q) p = nat_eq q p
 
 -- this entry made its partition bankrupt
-abbrev pub is_of : Entry → Overspent → Bool
-is_of e overspent = nat_eq overspent.moment e.to && is_billed_to e.billed overspent.partition
+abbrev pub made_bankrupt : Entry → Overspent → Bool
+made_bankrupt e overspent = nat_eq overspent.moment e.to && is_billed_to e.billed overspent.partition
 
 abbrev pub told_with : Entry → List Overspent → Told → Told
 told_with e [] told = told
-told_with e (next ∷ later) told = if is_of e next then overspent_noted next.partition told else told
+told_with e (next ∷ later) told = if made_bankrupt e next then overspent_noted next.partition told else told
 
 abbrev pub left_with : Entry → List Overspent → List Overspent
 left_with e [] = []
-left_with e (next ∷ later) = if is_of e next then later else next ∷ later
+left_with e (next ∷ later) = if made_bankrupt e next then later else next ∷ later
 
-abbrev pub run_at : Setup → List Entry → Run
-run_at setup h = record { setup = setup; entries = h }
+abbrev pub run_of_entries : Setup → List Entry → Run
+run_of_entries setup h = record { setup = setup; entries = h }
 
 -- its step was made, and what it tells is noted
 abbrev pub noted : Setup → Telling → Entry → Telling
 noted setup t e = record {
   entries = t.entries ++ e ∷ [];
-  told = told_with e t.left (pick_noted (run_at setup (t.entries ++ e ∷ [])) e t.told);
+  told = told_with e t.left (pick_noted (run_of_entries setup (t.entries ++ e ∷ [])) e t.told);
   before = t.before;
   left = left_with e t.left;
 }
@@ -71,7 +71,7 @@ noted setup t e = record {
 -- ---- a moment, with so many partitions
 
 abbrev pub values_of : Setup → ℕ → Telling → List Value
-values_of setup count t = moment_values (run_at setup t.entries) t.told count
+values_of setup count t = moment_values (run_of_entries setup t.entries) t.told count
 
 -- its values were told, and another moment begins
 abbrev pub moment_told : Setup → ℕ → Telling → Telling

@@ -11,11 +11,11 @@ use Rattle.aps_model.specs.SchedulerState.{SchedulerState, cpu_at, thread_at}
 use Rattle.aps_model.specs.Shape.{whole}
 use Rattle.aps_model.specs.Usage.{window_critical, window_used}
 use Rattle.laws_runs.specs.Moments.{moment}
-use Rattle.aps_core.specs.Run.{Run, state_of}
+use Rattle.aps_core.specs.Run.{Run, state_of_run}
 use Rattle.view_value_changes.specs.declared.told.Told.{Told}
 use Rattle.view_value_changes.specs.declared.value.Value.{Value}
 use Rattle.view_value_changes.specs.declared.value.Value.TheVariants.{Thread, Partition, Kind, Number, Bit}
-use Rattle.view_value_changes.specs.Kind.{kind_of}
+use Rattle.view_value_changes.specs.Kind.{kind_of_state}
 
 -- whom a processor keeps, on whose bill, and whether that is critical time
 abbrev pub pick_values : Option Pick → List Value
@@ -43,17 +43,17 @@ part_values s h j p =
     else no_values
 
 -- partition p after the entries of a run, and what these told of it
-abbrev pub partition_values : Run → Told → ℕ → List Value
-partition_values run told p =
-    part_values (state_of run) run.entries (moment run.entries / (state_of run).shape.tick) p
+abbrev pub values_of_partition : Run → Told → ℕ → List Value
+values_of_partition run told p =
+    part_values (state_of_run run) run.entries (moment run.entries / (state_of_run run).shape.tick) p
     ++ (Bit (slice_index_or told.demand p false) ∷ Bit (slice_index_or told.overspent p false) ∷ [])
 
-abbrev pub thread_values : SchedulerState → ℕ → List Value
-thread_values s x = Kind (kind_of (thread_at s x).state) ∷ []
+abbrev pub values_of_thread : SchedulerState → ℕ → List Value
+values_of_thread s x = Kind (kind_of_state (thread_at s x).state) ∷ []
 
 -- all processors, so many partitions, all threads
 abbrev pub moment_values : Run → Told → ℕ → List Value
 moment_values run told count =
-    flat_map (cpu_values (state_of run)) (range_with_len 0 run.setup.scenario.shape.cpus)
-    ++ (flat_map (partition_values run told) (range_with_len 0 count)
-    ++ flat_map (thread_values (state_of run)) (range_with_len 0 (length run.setup.scenario.threads)))
+    flat_map (cpu_values (state_of_run run)) (range_with_len 0 run.setup.scenario.shape.cpus)
+    ++ (flat_map (values_of_partition run told) (range_with_len 0 count)
+    ++ flat_map (values_of_thread (state_of_run run)) (range_with_len 0 (length run.setup.scenario.threads)))

@@ -5,17 +5,17 @@ use Rattle.aps_model.specs.Scenario.{Scenario}
 use Rattle.aps_model.specs.Valid.{IsScenario}
 use Rattle.laws_runs.specs.Moments.{moment}
 use Rattle.view_value_changes.specs.declared.retracing.Retraced.{Retraced}
-use Rattle.view_value_changes.specs.Usages.{IsUpTo}
+use Rattle.view_value_changes.specs.Usages.{AreUsagesUpTo}
 
 -- the scenario and the order of the steps
-abbrev pub scenario_of : Retraced → Scenario
-scenario_of retraced = retraced.core.setup.scenario
+abbrev pub scenario_of_retraced : Retraced → Scenario
+scenario_of_retraced retraced = retraced.core.setup.scenario
 
-abbrev pub order_of : Retraced → Order
-order_of retraced = retraced.core.setup.order
+abbrev pub order_of_retraced : Retraced → Order
+order_of_retraced retraced = retraced.core.setup.order
 
 -- the entries of its core are done: the moment is that of the last one's end, and their time is counted
-pub record IsAt (retraced : Retraced) : Type 0 where
-  pub valid : IsScenario (scenario_of retraced)
+pub record RetracedFollowsCore (retraced : Retraced) : Type 0 where
+  pub valid : IsScenario (scenario_of_retraced retraced)
   pub moment : retraced.moment ≡ moment retraced.core.entries
-  pub up : IsUpTo retraced.core retraced.usages
+  pub up : AreUsagesUpTo retraced.core retraced.usages

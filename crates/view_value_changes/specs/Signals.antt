@@ -6,7 +6,7 @@ use Rattle.std.specs.Fmt.{decimal}
 use Rattle.aps_model.specs.declared.partition.PartitionRow.{PartitionRow}
 use Rattle.aps_model.specs.declared.scenario.ThreadRow.{ThreadRow}
 use Rattle.aps_model.specs.Limits.{most_cpus, most_partitions, most_threads}
-use Rattle.view_value_changes.specs.Code.{code}
+use Rattle.view_value_changes.specs.Code.{signal_code}
 
 -- how many signals a processor has, and a partition
 abbrev pub signals_of_cpu : ℕ
@@ -21,13 +21,13 @@ most_signals = signals_of_cpu * most_cpus + (signals_of_partition * most_partiti
 
 -- the signal of this number, by its kind and width
 abbrev pub signal_line : ℕ → List ℕ → List ℕ → List ℕ
-signal_line signal kind name = (codes "$var " ++ (kind ++ codes " ")) ++ (code signal ++ (codes " " ++ (name ++ codes " $end\n")))
+signal_line signal kind name = (codes "$var " ++ (kind ++ codes " ")) ++ (signal_code signal ++ (codes " " ++ (name ++ codes " $end\n")))
 
 abbrev pub module_line : List ℕ → List ℕ
 module_line name = codes "$scope module " ++ (name ++ codes " $end\n")
 
-abbrev pub end_line : List ℕ
-end_line = codes "$upscope $end\n"
+abbrev pub scope_end_line : List ℕ
+scope_end_line = codes "$upscope $end\n"
 
 abbrev pub amount_line : ℕ → List ℕ → List ℕ
 amount_line signal name = signal_line signal (codes "wire 40") name
@@ -45,10 +45,10 @@ cpu_signals first =
     word_signal first (codes "thread") ++ (word_signal (first + 1) (codes "billed") ++ bit_signal (first + 2) (codes "critical"))
 
 abbrev pub cpu_scope : ℕ → List ℕ
-cpu_scope c = (codes "$scope module cpu" ++ (decimal c ++ codes " $end\n")) ++ (cpu_signals (signals_of_cpu * c) ++ end_line)
+cpu_scope c = (codes "$scope module cpu" ++ (decimal c ++ codes " $end\n")) ++ (cpu_signals (signals_of_cpu * c) ++ scope_end_line)
 
 abbrev pub cpus_text : ℕ → List ℕ
-cpus_text cpus = module_line (codes "cpus") ++ (flat_map cpu_scope (range_with_len 0 cpus) ++ end_line)
+cpus_text cpus = module_line (codes "cpus") ++ (flat_map cpu_scope (range_with_len 0 cpus) ++ scope_end_line)
 
 -- ---- partitions, from this number on
 
@@ -63,13 +63,13 @@ bit_signals first =
     ++ (bit_signal (first + 2) (codes "demand") ++ bit_signal (first + 3) (codes "overspent")))
 
 abbrev pub partition_scope : ℕ → List ℕ → List ℕ
-partition_scope first name = module_line name ++ (amount_signals first ++ (bit_signals (first + 3) ++ end_line))
+partition_scope first name = module_line name ++ (amount_signals first ++ (bit_signals (first + 3) ++ scope_end_line))
 
 abbrev pub row_scope : ℕ → ℕ × PartitionRow → List ℕ
 row_scope first (p, row) = partition_scope (first + signals_of_partition * p) row.name
 
 abbrev pub partitions_text : ℕ → List PartitionRow → List ℕ
-partitions_text first rows = module_line (codes "partitions") ++ (flat_map (row_scope first) (enumerate_from 0 rows) ++ end_line)
+partitions_text first rows = module_line (codes "partitions") ++ (flat_map (row_scope first) (enumerate_from 0 rows) ++ scope_end_line)
 
 -- ---- threads, from this number on
 
@@ -80,7 +80,7 @@ thread_signal first (x, row) = word_signal (first + x) row.name
 abbrev pub threads_text : ℕ → List ThreadRow → List ℕ
 threads_text first [] = []
 threads_text first (row ∷ rows) =
-    module_line (codes "threads") ++ (flat_map (thread_signal first) (enumerate_from 0 (row ∷ rows)) ++ end_line)
+    module_line (codes "threads") ++ (flat_map (thread_signal first) (enumerate_from 0 (row ∷ rows)) ++ scope_end_line)
 
 -- ---- all of them
 

@@ -5,7 +5,7 @@ use Rattle.aps_model.specs.declared.entry.End.{End}
 use Rattle.aps_model.specs.declared.entry.End.TheVariants.{Horizon, Limit, Reboot}
 use Rattle.aps_model.specs.declared.entry.Entry.{Entry}
 use Rattle.aps_model.specs.Shape.{horizon}
-use Rattle.aps_core.specs.Run.{Run, end_of_run, state_of}
+use Rattle.aps_core.specs.Run.{Run, end_of_run, state_of_run}
 use Rattle.view_samples.specs.Picks.{had_candidate}
 use Rattle.view_samples.specs.Sample.{of_each}
 use Rattle.view_value_changes.specs.declared.told.Told.{Told}
@@ -18,11 +18,11 @@ is_reboot (Some (Reboot p)) = true
 
 -- the step of the entry, which came last, went on to a pick
 abbrev pub has_pick : Run → Entry → Bool
-has_pick run e = nat_lt e.to (horizon (state_of run).shape) && not (is_reboot (end_of_run run))
+has_pick run e = nat_lt e.to (horizon (state_of_run run).shape) && not (is_reboot (end_of_run run))
 
 -- of each partition whether it had a candidate at the last pick: that of the entry, which came last, if it made one, and else one before
 abbrev pub demand_after : Run → Entry → List Bool → List Bool
-demand_after run e before = if has_pick run e then of_each (had_candidate (state_of run) run.entries e.cpu) else before
+demand_after run e before = if has_pick run e then of_each (had_candidate (state_of_run run) run.entries e.cpu) else before
 
 -- nothing was told yet
 abbrev pub nothing_told : Told

@@ -12,7 +12,7 @@ const FIRST_DIGIT: usize = 33;
 
 /// The code of a signal: one digit, or two, of which the second counts more. 8,930 signals have codes of their own.
 pub fn add_code(out: &mut String, signal: usize) -> Result<(), NoMemory>
-    ensures { OnOk result (string_bytes out.new ≡ string_bytes out.old ++ spec.code signal) }
+    ensures { OnOk result (string_bytes out.new ≡ string_bytes out.old ++ spec.signal_code signal) }
 {
     out.push(digit(signal % DIGITS))?;
     if signal >= DIGITS {

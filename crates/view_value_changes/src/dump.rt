@@ -10,7 +10,7 @@ ghost use Rattle.view_trace_events.specs.Piece.{IsTold};
 ghost use Rattle.view_value_changes.specs.Dump as spec;
 ghost use Rattle.view_value_changes.specs.Dump.{telling_of};
 ghost use Rattle.view_value_changes.specs.Moment.{moment_values};
-ghost use Rattle.view_value_changes.specs.Retraced.{IsAt, order_of, scenario_of};
+ghost use Rattle.view_value_changes.specs.Retraced.{RetracedFollowsCore, order_of_retraced, scenario_of_retraced};
 
 use crate::changes::add_moment;
 use crate::moments::add_values;
@@ -39,7 +39,7 @@ impl Dump {
     /// A dump that has told nothing. `NoMemory` comes where memory runs out.
     pub fn begin(alloc: Global, history: &History, order: Order) -> Result<Dump, NoMemory>
         requires { length history.now.entries ≤ most_entries }
-        ensures at { IfOk result (λ dump. IsAt dump.at) }
+        ensures at { IfOk result (λ dump. RetracedFollowsCore dump.at) }
         ensures core { IfOk result (λ dump. dump.at.core ≡ start_of history.now order) }
         ensures starts { IfOk result (λ dump. (overspent : List Overspent) → telling_of overspent dump ≡ spec.start_telling overspent) }
     {
@@ -64,12 +64,12 @@ impl Dump {
         overspent: &[Overspent],
         entries: &[Entry],
     ) -> Result<(), TraceFault>
-        requires at { IsAt self.old.at }
+        requires at { RetracedFollowsCore self.old.at }
         requires begins { self.old.at.core.entries ≡ [] }
-        requires legal { IsLegal (scenario_of self.old.at) (order_of self.old.at) entries.now }
+        requires legal { IsLegal (scenario_of_retraced self.old.at) (order_of_retraced self.old.at) entries.now }
         requires few { length entries.now ≤ self.old.at.core.setup.limit }
         requires few_rows { length rows.now ≤ most_partitions }
-        ensures at { OnOk result (IsAt self.new.at) }
+        ensures at { OnOk result (RetracedFollowsCore self.new.at) }
         ensures setup { OnOk result (self.new.at.core.setup ≡ self.old.at.core.setup) }
         ensures told { OnOk result (IsTold (K.written sink.old) (K.written sink.new) (string_bytes out.old) (string_bytes out.new)
             (spec.dumped self.old.at.core.setup threads.now rows.now (telling_of overspent.now self.old) entries.now).text) }
@@ -94,7 +94,7 @@ impl Dump {
         rows: &[PartitionRow],
         moment: Nanos,
     ) -> Result<(), TraceFault>
-        requires at { IsAt self.old.at }
+        requires at { RetracedFollowsCore self.old.at }
         requires few_rows { length rows.now ≤ most_partitions }
         ensures at { OnOk result (self.new.at ≡ self.old.at) }
         ensures told { OnOk result (IsTold (K.written sink.old) (K.written sink.new) (string_bytes out.old) (string_bytes out.new)
@@ -113,10 +113,10 @@ impl Dump {
 
     /// Makes the step of the next entry, and notes what it tells.
     fn go_on(&mut self, overspent: &[Overspent], e: &Entry)
-        requires at { IsAt self.old.at }
-        requires legal { IsLegal (scenario_of self.old.at) (order_of self.old.at) (self.old.at.core.entries ++ e.now ∷ []) }
+        requires at { RetracedFollowsCore self.old.at }
+        requires legal { IsLegal (scenario_of_retraced self.old.at) (order_of_retraced self.old.at) (self.old.at.core.entries ++ e.now ∷ []) }
         requires room { length self.old.at.core.entries < self.old.at.core.setup.limit }
-        ensures at { IsAt self.new.at }
+        ensures at { RetracedFollowsCore self.new.at }
         ensures core { self.new.at.core ≡ with_entry self.old.at.core e.now }
         ensures telling { telling_of overspent.now self.new
             ≡ spec.noted self.old.at.core.setup (telling_of overspent.now self.old) e.now }
@@ -151,7 +151,7 @@ impl Dump {
         rows: &[PartitionRow],
         is_last: bool,
     ) -> Result<(), NoMemory>
-        requires at { IsAt self.old.at }
+        requires at { RetracedFollowsCore self.old.at }
         requires few_rows { length rows.now ≤ most_partitions }
         ensures at { OnOk result (self.new.at ≡ self.old.at) }
         ensures text { OnOk result (string_bytes out.new
@@ -176,7 +176,7 @@ impl Dump {
 
     /// The values that stand now, for so many partitions.
     fn stand(&mut self, count: usize) -> Result<(), NoMemory>
-        requires at { IsAt self.old.at }
+        requires at { RetracedFollowsCore self.old.at }
         requires few { count ≤ most_partitions }
         ensures at { OnOk result (self.new.at ≡ self.old.at) }
         ensures now { OnOk result (self.new.now.items ≡ moment_values self.old.at.core self.old.told count) }
@@ -197,7 +197,7 @@ impl Dump {
 
 /// Whether this entry made its partition bankrupt.
 fn is_of(e: &Entry, overspent: &Overspent) -> bool
-    ensures { result ≡ spec.is_of e.now overspent.now }
+    ensures { result ≡ spec.made_bankrupt e.now overspent.now }
 {
     overspent.moment == e.to && is_billed_to(e, overspent.partition)
 }

@@ -5,7 +5,7 @@ ghost use Rattle.view_marks.specs.declared.overspent.Overspent.{Overspent};
 ghost use Rattle.aps_io.specs.Causes.{Rose};
 ghost use Rattle.aps_model.specs.Legal.{IsLegal};
 ghost use Rattle.view_value_changes.specs.Dump as spec;
-ghost use Rattle.view_value_changes.specs.Retraced.{IsAt, order_of, scenario_of};
+ghost use Rattle.view_value_changes.specs.Retraced.{RetracedFollowsCore, order_of_retraced, scenario_of_retraced};
 ghost use Rattle.view_value_changes.specs.Signals.{head_text};
 ghost use Rattle.aps_model.specs.Limits.{most_entries, most_partitions};
 
@@ -60,9 +60,9 @@ fn write_dump<K: Sink>(
     rows: &[PartitionRow],
     overspent: &[Overspent],
 ) -> Result<(), TraceFault>
-    requires at { IsAt dump.old.at }
+    requires at { RetracedFollowsCore dump.old.at }
     requires begins { dump.old.at.core.entries ≡ [] }
-    requires legal { IsLegal (scenario_of dump.old.at) (order_of dump.old.at) history.now.entries }
+    requires legal { IsLegal (scenario_of_retraced dump.old.at) (order_of_retraced dump.old.at) history.now.entries }
     requires few { length history.now.entries ≤ dump.old.at.core.setup.limit }
     requires few_rows { length rows.now ≤ most_partitions }
     requires empty { string_bytes out.old ≡ [] }

@@ -19,7 +19,7 @@ pub enum Kind {
 impl Kind {
     /// What is told of a state.
     pub fn of(state: State) -> Kind
-        ensures { result ≡ spec.kind_of state }
+        ensures { result ≡ spec.kind_of_state state }
     {
         match state {
             State::Ready => Kind::Ready,
@@ -34,7 +34,7 @@ impl Kind {
 
     /// Its word.
     pub fn word(self) -> &'static str
-        ensures { result.now ≡ spec.word self }
+        ensures { result.now ≡ spec.state_kind_word self }
     {
         match self {
             Kind::Ready => "ready",

@@ -4,9 +4,9 @@ ghost use Rattle.std.specs.List.{flat_map, range_with_len};
 ghost use Rattle.aps_model.specs.Partition.{IsRow};
 ghost use Rattle.aps_model.specs.Shape.{IsShape};
 ghost use Rattle.laws_runs.specs.Moments.{moment};
-ghost use Rattle.aps_core.specs.Run.{state_of};
+ghost use Rattle.aps_core.specs.Run.{state_of_run};
 ghost use Rattle.view_value_changes.specs.Moment as spec;
-ghost use Rattle.view_value_changes.specs.Usages.{IsUpTo};
+ghost use Rattle.view_value_changes.specs.Usages.{AreUsagesUpTo};
 ghost use Rattle.aps_model.specs.Limits.{most_cpus, most_critical, most_partitions, most_threads};
 
 use crate::kind::Kind;
@@ -26,7 +26,7 @@ pub fn add_values(
     told: &Told,
     count: usize,
 ) -> Result<(), NoMemory>
-    requires up { IsUpTo core.now usages.now }
+    requires up { AreUsagesUpTo core.now usages.now }
     requires few { count ≤ most_partitions }
     ensures { OnOk result (values.new.items ≡ values.old.items ++ spec.moment_values core.now told.now count) }
 {
@@ -54,7 +54,7 @@ fn threads_of(core: &Core) -> usize
 /// The values of so many processors.
 fn add_processors(values: &mut Vec<Value>, core: &Core, count: usize) -> Result<(), NoMemory>
     requires { count ≤ most_cpus }
-    ensures { OnOk result (values.new.items ≡ values.old.items ++ flat_map (spec.cpu_values (state_of core.now)) (range_with_len 0 count)) }
+    ensures { OnOk result (values.new.items ≡ values.old.items ++ flat_map (spec.cpu_values (state_of_run core.now)) (range_with_len 0 count)) }
 {
     for c in 0..count {
         add_processor(values, core, c)?;
@@ -64,7 +64,7 @@ fn add_processors(values: &mut Vec<Value>, core: &Core, count: usize) -> Result<
 
 fn add_processor(values: &mut Vec<Value>, core: &Core, c: usize) -> Result<(), NoMemory>
     requires { c < most_cpus }
-    ensures { OnOk result (values.new.items ≡ values.old.items ++ spec.cpu_values (state_of core.now) c) }
+    ensures { OnOk result (values.new.items ≡ values.old.items ++ spec.cpu_values (state_of_run core.now) c) }
 {
     let cpu = core.cpu(CpuId::at(c));
     add_pick(values, &cpu.running)
@@ -113,10 +113,10 @@ fn add_partitions(
     told: &Told,
     count: usize,
 ) -> Result<(), NoMemory>
-    requires up { IsUpTo core.now usages.now }
+    requires up { AreUsagesUpTo core.now usages.now }
     requires few { count ≤ most_partitions }
     ensures { OnOk result (values.new.items
-        ≡ values.old.items ++ flat_map (spec.partition_values core.now told.now) (range_with_len 0 count)) }
+        ≡ values.old.items ++ flat_map (spec.values_of_partition core.now told.now) (range_with_len 0 count)) }
 {
     for p in 0..count {
         add_told(values, core, usages, told, p)?;
@@ -132,9 +132,9 @@ fn add_told(
     told: &Told,
     p: usize,
 ) -> Result<(), NoMemory>
-    requires up { IsUpTo core.now usages.now }
+    requires up { AreUsagesUpTo core.now usages.now }
     requires small { p < most_partitions }
-    ensures { OnOk result (values.new.items ≡ values.old.items ++ spec.partition_values core.now told.now p) }
+    ensures { OnOk result (values.new.items ≡ values.old.items ++ spec.values_of_partition core.now told.now p) }
 {
     add_part(values, core, usages, PartitionId::at(p))?;
     add_two(
@@ -151,10 +151,10 @@ fn add_part(
     usages: &Usages,
     p: PartitionId,
 ) -> Result<(), NoMemory>
-    requires { IsUpTo core.now usages.now }
+    requires { AreUsagesUpTo core.now usages.now }
     ensures { OnOk result (values.new.items
-        ≡ values.old.items ++ spec.part_values (state_of core.now) core.now.entries
-        (moment core.now.entries / (state_of core.now).shape.tick) p) }
+        ≡ values.old.items ++ spec.part_values (state_of_run core.now) core.now.entries
+        (moment core.now.entries / (state_of_run core.now).shape.tick) p) }
 {
     let history = core.history();
     match history.rows().get(p.index()) {
@@ -204,7 +204,7 @@ fn add_none(values: &mut Vec<Value>) -> Result<(), NoMemory>
 fn add_threads(values: &mut Vec<Value>, core: &Core, count: usize) -> Result<(), NoMemory>
     requires { count ≤ most_threads }
     ensures { OnOk result (values.new.items
-        ≡ values.old.items ++ flat_map (spec.thread_values (state_of core.now)) (range_with_len 0 count)) }
+        ≡ values.old.items ++ flat_map (spec.values_of_thread (state_of_run core.now)) (range_with_len 0 count)) }
 {
     for x in 0..count {
         add_thread(values, core, x)?;
@@ -214,7 +214,7 @@ fn add_threads(values: &mut Vec<Value>, core: &Core, count: usize) -> Result<(),
 
 fn add_thread(values: &mut Vec<Value>, core: &Core, x: usize) -> Result<(), NoMemory>
     requires { x < most_threads }
-    ensures { OnOk result (values.new.items ≡ values.old.items ++ spec.thread_values (state_of core.now) x) }
+    ensures { OnOk result (values.new.items ≡ values.old.items ++ spec.values_of_thread (state_of_run core.now) x) }
 {
     let thread = core.thread(ThreadId::at(x));
     add_one(values, Value::Kind(Kind::of(thread.state)))

@@ -3,7 +3,7 @@ ghost use Rattle.std.specs.Prelude.{◌≡◌, ◌<◌, ◌≤◌, ◌++◌, [],
 ghost use Rattle.aps_model.specs.Legal.{IsLegal};
 ghost use Rattle.aps_core.specs.Turn.{with_entry};
 ghost use Rattle.view_samples.specs.Retraced.{start_of};
-ghost use Rattle.view_value_changes.specs.Retraced.{IsAt, order_of, scenario_of};
+ghost use Rattle.view_value_changes.specs.Retraced.{RetracedFollowsCore, order_of_retraced, scenario_of_retraced};
 ghost use Rattle.aps_model.specs.Limits.{most_entries};
 
 use crate::usages::Usages;
@@ -25,7 +25,7 @@ impl Retraced {
     /// No step was made yet. `NoMemory` comes where memory runs out.
     pub fn begin(alloc: Global, history: &History, order: Order) -> Result<Retraced, NoMemory>
         requires { length history.now.entries ≤ most_entries }
-        ensures at { IfOk result IsAt }
+        ensures at { IfOk result RetracedFollowsCore }
         ensures core { IfOk result (λ retraced. retraced.core ≡ start_of history.now order) }
     {
         let window = history.scenario().shape().window;
@@ -40,10 +40,10 @@ impl Retraced {
 
     /// Makes the step of the next entry.
     pub fn go_on(&mut self, e: &Entry)
-        requires at { IsAt self.old }
-        requires legal { IsLegal (scenario_of self.old) (order_of self.old) (self.old.core.entries ++ e.now ∷ []) }
+        requires at { RetracedFollowsCore self.old }
+        requires legal { IsLegal (scenario_of_retraced self.old) (order_of_retraced self.old) (self.old.core.entries ++ e.now ∷ []) }
         requires room { length self.old.core.entries < self.old.core.setup.limit }
-        ensures at { IsAt self.new }
+        ensures at { RetracedFollowsCore self.new }
         ensures core { self.new.core ≡ with_entry self.old.core e.now }
     {
         self.usages.add(&self.core, e);

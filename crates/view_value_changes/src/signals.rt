@@ -42,7 +42,7 @@ fn add_module(out: &mut String, name: &str) -> Result<(), NoMemory>
 }
 
 fn add_end(out: &mut String) -> Result<(), NoMemory>
-    ensures { OnOk result (string_bytes out.new ≡ string_bytes out.old ++ spec.end_line) }
+    ensures { OnOk result (string_bytes out.new ≡ string_bytes out.old ++ spec.scope_end_line) }
 {
     out.push_str("$upscope $end\n")
 }

@@ -2,7 +2,7 @@
 ghost use Rattle.std.specs.Prelude.{◌≡◌, ℕ, ◌<◌, ◌||◌, length, slice_index_or, false};
 ghost use Rattle.aps_model.specs.Budget.{no_part};
 ghost use Rattle.aps_model.specs.Limits.{most_partitions};
-ghost use Rattle.aps_core.specs.Run.{state_of};
+ghost use Rattle.aps_core.specs.Run.{state_of_run};
 ghost use Rattle.view_samples.specs.Picks.{bills, had_candidate};
 ghost use Rattle.view_samples.specs.Sample.{of_each};
 ghost use Rattle.view_value_changes.specs.Told as spec;
@@ -68,7 +68,7 @@ fn has_pick(core: &Core, e: &Entry) -> bool
 /// those that still have one.
 fn demand(core: &Core, c: CpuId) -> [bool; 32]
     requires { 0 < length core.now.entries }
-    ensures { result ≡ of_each (had_candidate (state_of core.now) core.now.entries c) }
+    ensures { result ≡ of_each (had_candidate (state_of_run core.now) core.now.entries c) }
 {
     // proved from what each place of it has
     demand_by_place(core, c)
@@ -78,7 +78,7 @@ fn demand(core: &Core, c: CpuId) -> [bool; 32]
 fn demand_by_place(core: &Core, c: CpuId) -> [bool; 32]
     requires { 0 < length core.now.entries }
     ensures places { length result ≡ most_partitions }
-    ensures each { (p : ℕ) → p < most_partitions → slice_index_or result p false ≡ had_candidate (state_of core.now) core.now.entries c p }
+    ensures each { (p : ℕ) → p < most_partitions → slice_index_or result p false ≡ had_candidate (state_of_run core.now) core.now.entries c p }
 {
     let count = core.history().rows().len();
     let mut parts = [no_part(); MOST_PARTITIONS];

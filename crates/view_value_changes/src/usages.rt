@@ -5,9 +5,9 @@ ghost use Rattle.aps_model.specs.Legal.{IsLegal};
 ghost use Rattle.aps_model.specs.Usage.{window_critical, window_used};
 ghost use Rattle.laws_runs.specs.Moments.{moment};
 ghost use Rattle.aps_window.specs.Window.{advanced, opened, resized};
-ghost use Rattle.aps_core.specs.Run.{state_of};
-ghost use Rattle.view_shares.specs.CriticalTime.{GoesOnBy, HasRoom};
-ghost use Rattle.view_value_changes.specs.Usages.{IsCounted, IsUpTo};
+ghost use Rattle.aps_core.specs.Run.{state_of_run};
+ghost use Rattle.view_shares.specs.CriticalTime.{GoesOnBy, HasRoomInWindow};
+ghost use Rattle.view_value_changes.specs.Usages.{AreUsagesCounted, AreUsagesUpTo};
 ghost use Rattle.aps_model.specs.Limits.{last_tick, longest_window, most_critical, shortest_window};
 
 use aps_core::Core;
@@ -35,9 +35,9 @@ impl Usages {
 
     /// Adds the time of an entry, which comes next after those of the core.
     pub fn add(&mut self, core: &Core, e: &Entry)
-        requires counted { IsCounted core.now.setup.scenario core.now.entries self.old }
+        requires counted { AreUsagesCounted core.now.setup.scenario core.now.entries self.old }
         requires legal { IsLegal core.now.setup.scenario core.now.setup.order (core.now.entries ++ e.now ∷ []) }
-        ensures { IsCounted core.now.setup.scenario (core.now.entries ++ e.now ∷ []) self.new }
+        ensures { AreUsagesCounted core.now.setup.scenario (core.now.entries ++ e.now ∷ []) self.new }
     {
         let tick = core.history().scenario().shape().tick;
         go_on(&mut self.window, (e.to / tick) as u32);
@@ -46,8 +46,8 @@ impl Usages {
 
     /// As many ticks count as the shape of the core says, which has made the steps of the entries that are counted.
     pub fn resize(&mut self, core: &Core)
-        requires { IsCounted core.now.setup.scenario core.now.entries self.old }
-        ensures { IsUpTo core.now self.new }
+        requires { AreUsagesCounted core.now.setup.scenario core.now.entries self.old }
+        ensures { AreUsagesUpTo core.now self.new }
     {
         let span = core.history().shape().window;
         fit(&mut self.window, self.span, span);
@@ -56,19 +56,19 @@ impl Usages {
 
     /// What the partition used in the window that ends with the tick of the core's last entry, in ns.
     pub fn used(&self, core: &Core, p: PartitionId) -> Nanos
-        requires { IsUpTo core.now self.now }
+        requires { AreUsagesUpTo core.now self.now }
         ensures few { result ≤ most_critical }
-        ensures same { result ≡ window_used (state_of core.now).shape core.now.entries
-            (moment core.now.entries / (state_of core.now).shape.tick) p }
+        ensures same { result ≡ window_used (state_of_run core.now).shape core.now.entries
+            (moment core.now.entries / (state_of_run core.now).shape.tick) p }
     {
         self.window.used(p)
     }
 
     /// What of it was critical.
     pub fn critical(&self, core: &Core, p: PartitionId) -> Nanos
-        requires { IsUpTo core.now self.now }
-        ensures { result ≡ window_critical (state_of core.now).shape core.now.entries
-            (moment core.now.entries / (state_of core.now).shape.tick) p }
+        requires { AreUsagesUpTo core.now self.now }
+        ensures { result ≡ window_critical (state_of_run core.now).shape core.now.entries
+            (moment core.now.entries / (state_of_run core.now).shape.tick) p }
     {
         self.window.critical_used(p)
     }
@@ -102,7 +102,7 @@ fn go_on(window: &mut Window, tick: u32)
 fn add_time(window: &mut Window, tick: Nanos, e: &Entry)
     requires some { 0 < tick }
     requires entry { IsEntry e.now }
-    requires room { HasRoom tick window.old e.now }
+    requires room { HasRoomInWindow tick window.old e.now }
     ensures { GoesOnBy tick window.old e.now window.new }
 {
     if let Some(p) = e.billed {

@@ -13,7 +13,7 @@ use Rattle.view_words.specs.declared.asked.Report.TheVariants.{Cycles, Csv, Shar
 use Rattle.view_words.specs.declared.asked.Ticks.{Ticks}
 use Rattle.view_words.specs.declared.asked.Trace.{Trace as TraceAsked}
 use Rattle.view_words.specs.declared.asked.Trace.TheVariants.{Vcd, Gtkw, Events}
-use Rattle.view_words.specs.Values.{AreTicks, thread_of, ticks_of}
+use Rattle.view_words.specs.Values.{AreTicks, thread_asked, ticks_of}
 use Rattle.aps_model.specs.Limits.{last_moment, most_entries}
 
 -- a report with its limit, by the values of its options
@@ -45,7 +45,7 @@ traced which = Trace which
 -- `explain`, by the values of its options
 abbrev pub explain : (Text → Option Text) → Option Asked
 explain value = do
-  thread ← thread_of (value (codes "thread"))
+  thread ← thread_asked (value (codes "thread"))
   moment ← required_in 0 last_moment (value (codes "at"))
   limited (Explain thread moment) value
 
@@ -85,7 +85,7 @@ ReportHasRanges (Picture picture ticks) = AreTicks ticks
 ReportHasRanges (Trace trace) = ⊤
 
 -- and so have those of what is asked for
-pub record HasRanges (asked : Asked) : Type 0 where
+pub record AskedHasRanges (asked : Asked) : Type 0 where
   pub some : 1 ≤ asked.limit
   pub few : asked.limit ≤ most_entries
   pub report : ReportHasRanges asked.report

@@ -43,6 +43,6 @@ abbrev pub name_in : Text → Option Text
 name_in text = if is_name text then Some text else None
 
 -- the name of a thread, whose option has to be there; a text that is no name is that of no thread
-abbrev pub thread_of : Option Text → Option (Option Text)
-thread_of None = None
-thread_of (Some value) = Some (name_in value)
+abbrev pub thread_asked : Option Text → Option (Option Text)
+thread_asked None = None
+thread_asked (Some value) = Some (name_in value)

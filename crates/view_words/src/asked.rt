@@ -1,7 +1,7 @@
 //! The report that a list of words asks for.
 ghost use Rattle.std.specs.Prelude.{◌≡◌, [], ◌∷◌, drop, map, string_bytes, true, IfOk, IfSome};
 ghost use Rattle.clap.specs.Words.{first_value, found_of};
-ghost use Rattle.aps_words.specs.Command.{Says};
+ghost use Rattle.aps_words.specs.Command.{WordsMean};
 ghost use Rattle.aps_words.specs.Plain.{is_plain};
 ghost use Rattle.aps_words.specs.Unhyphened.{with_unhyphened};
 ghost use Rattle.view_words.specs.Asked as spec;
@@ -81,8 +81,8 @@ pub struct Asked {
 /// without a value, a value that is none of the option's, ticks that end before they begin, any further word, and words
 /// that ask for help or for the version. `NoMemory` comes where memory runs out, and tells nothing of the words.
 pub fn asked_of(alloc: Global, words: &[String]) -> Result<Asked, WordsRefusal>
-    ensures same { Says result (spec.asked (map string_bytes words.now)) }
-    ensures ranges { IfOk result spec.HasRanges }
+    ensures same { WordsMean result (spec.asked (map string_bytes words.now)) }
+    ensures ranges { IfOk result spec.AskedHasRanges }
 {
     let [word, options @ ..] = words else {
         return Err(WordsRefusal::Words);
@@ -96,8 +96,8 @@ pub fn asked_of(alloc: Global, words: &[String]) -> Result<Asked, WordsRefusal>
 /// What this word asks for, which is the first of the words, with the options behind it.
 fn plainly_asked(alloc: Global, word: &str, words: &[String]) -> Result<Asked, WordsRefusal>
     requires plain { is_plain [] (drop 1 (map string_bytes words.now)) ≡ true }
-    ensures same { Says result (spec.asked (word.now ∷ drop 1 (map string_bytes words.now))) }
-    ensures ranges { IfOk result spec.HasRanges }
+    ensures same { WordsMean result (spec.asked (word.now ∷ drop 1 (map string_bytes words.now))) }
+    ensures ranges { IfOk result spec.AskedHasRanges }
 {
     match word {
         "cycles" => limited(alloc, words, Report::Cycles),
@@ -119,8 +119,8 @@ fn plainly_asked(alloc: Global, word: &str, words: &[String]) -> Result<Asked, W
 fn limited(alloc: Global, words: &[String], report: Report) -> Result<Asked, WordsRefusal>
     requires plain { is_plain [] (drop 1 (map string_bytes words.now)) ≡ true }
     requires ranges { spec.ReportHasRanges report }
-    ensures same { Says result (with_unhyphened spec.limit_options (spec.limited report) (drop 1 (map string_bytes words.now))) }
-    ensures ranges { IfOk result spec.HasRanges }
+    ensures same { WordsMean result (with_unhyphened spec.limit_options (spec.limited report) (drop 1 (map string_bytes words.now))) }
+    ensures ranges { IfOk result spec.AskedHasRanges }
 {
     match matches_in(limit_options(alloc)?, words) {
         Ok(matches) => said(limited_from(&matches, report)),
@@ -131,8 +131,8 @@ fn limited(alloc: Global, words: &[String], report: Report) -> Result<Asked, Wor
 /// `csv`, by the words behind the first.
 fn csv_of(alloc: Global, words: &[String]) -> Result<Asked, WordsRefusal>
     requires plain { is_plain [] (drop 1 (map string_bytes words.now)) ≡ true }
-    ensures same { Says result (with_unhyphened spec.ticks_options spec.csv (drop 1 (map string_bytes words.now))) }
-    ensures ranges { IfOk result spec.HasRanges }
+    ensures same { WordsMean result (with_unhyphened spec.ticks_options spec.csv (drop 1 (map string_bytes words.now))) }
+    ensures ranges { IfOk result spec.AskedHasRanges }
 {
     match matches_in(ticks_options(alloc)?, words) {
         Ok(matches) => said(csv_from(&matches)),
@@ -143,8 +143,8 @@ fn csv_of(alloc: Global, words: &[String]) -> Result<Asked, WordsRefusal>
 /// A picture, by the words behind the first.
 fn picture_of(alloc: Global, words: &[String], picture: Picture) -> Result<Asked, WordsRefusal>
     requires plain { is_plain [] (drop 1 (map string_bytes words.now)) ≡ true }
-    ensures same { Says result (with_unhyphened spec.ticks_options (spec.picture picture) (drop 1 (map string_bytes words.now))) }
-    ensures ranges { IfOk result spec.HasRanges }
+    ensures same { WordsMean result (with_unhyphened spec.ticks_options (spec.picture picture) (drop 1 (map string_bytes words.now))) }
+    ensures ranges { IfOk result spec.AskedHasRanges }
 {
     match matches_in(ticks_options(alloc)?, words) {
         Ok(matches) => said(picture_from(&matches, picture)),
@@ -162,8 +162,8 @@ fn traced(trace: Trace) -> Report
 /// `explain`, by the words behind the first.
 fn explain_of(alloc: Global, words: &[String]) -> Result<Asked, WordsRefusal>
     requires plain { is_plain [] (drop 1 (map string_bytes words.now)) ≡ true }
-    ensures same { Says result (with_unhyphened spec.thread_options spec.explain (drop 1 (map string_bytes words.now))) }
-    ensures ranges { IfOk result spec.HasRanges }
+    ensures same { WordsMean result (with_unhyphened spec.thread_options spec.explain (drop 1 (map string_bytes words.now))) }
+    ensures ranges { IfOk result spec.AskedHasRanges }
 {
     match matches_in(thread_options(alloc)?, words) {
         Ok(matches) => said(explain_from(&matches)),
@@ -173,9 +173,9 @@ fn explain_of(alloc: Global, words: &[String]) -> Result<Asked, WordsRefusal>
 
 /// What the options ask for, where they ask for something.
 fn said(asked: Option<Asked>) -> Result<Asked, WordsRefusal>
-    requires { IfSome asked spec.HasRanges }
-    ensures same { Says result asked }
-    ensures ranges { IfOk result spec.HasRanges }
+    requires { IfSome asked spec.AskedHasRanges }
+    ensures same { WordsMean result asked }
+    ensures ranges { IfOk result spec.AskedHasRanges }
 {
     match asked {
         Some(asked) => Ok(asked),
@@ -186,7 +186,7 @@ fn said(asked: Option<Asked>) -> Result<Asked, WordsRefusal>
 fn limited_from(matches: &ArgMatches<'_>, report: Report) -> Option<Asked>
     requires ranges { spec.ReportHasRanges report }
     ensures same { result ≡ spec.limited report (first_value (found_of matches.now)) }
-    ensures ranges { IfSome result spec.HasRanges }
+    ensures ranges { IfSome result spec.AskedHasRanges }
 {
     let limit = limit_of(matches.get_str("limit"))?;
     Some(Asked { report, limit })
@@ -202,7 +202,7 @@ fn ticks_from(matches: &ArgMatches<'_>) -> Option<Ticks>
 
 fn csv_from(matches: &ArgMatches<'_>) -> Option<Asked>
     ensures same { result ≡ spec.csv (first_value (found_of matches.now)) }
-    ensures ranges { IfSome result spec.HasRanges }
+    ensures ranges { IfSome result spec.AskedHasRanges }
 {
     let ticks = ticks_from(matches)?;
     limited_from(matches, Report::Csv { ticks })
@@ -210,7 +210,7 @@ fn csv_from(matches: &ArgMatches<'_>) -> Option<Asked>
 
 fn picture_from(matches: &ArgMatches<'_>, picture: Picture) -> Option<Asked>
     ensures same { result ≡ spec.picture picture (first_value (found_of matches.now)) }
-    ensures ranges { IfSome result spec.HasRanges }
+    ensures ranges { IfSome result spec.AskedHasRanges }
 {
     let ticks = ticks_from(matches)?;
     limited_from(matches, Report::Picture { picture, ticks })
@@ -218,7 +218,7 @@ fn picture_from(matches: &ArgMatches<'_>, picture: Picture) -> Option<Asked>
 
 fn explain_from(matches: &ArgMatches<'_>) -> Option<Asked>
     ensures same { result ≡ spec.explain (first_value (found_of matches.now)) }
-    ensures ranges { IfSome result spec.HasRanges }
+    ensures ranges { IfSome result spec.AskedHasRanges }
 {
     let thread = thread_of(matches.get_str("thread"))?;
     let at = required_in(0, LAST_MOMENT, matches.get_str("at"))?;

@@ -59,7 +59,7 @@ fn between(from: u32, to: Option<u32>) -> Option<Ticks>
 
 /// The thread that the value names, which has to be there.
 pub fn thread_of(value: Option<&str>) -> Option<Option<Name>>
-    ensures { result ≡ spec.thread_of (option_map (λ text. text.now) value.entry) }
+    ensures { result ≡ spec.thread_asked (option_map (λ text. text.now) value.entry) }
 {
     Some(name_in(value?))
 }

@@ -4,7 +4,7 @@ ghost use Rattle.std.specs.Option.{option_map};
 ghost use Rattle.aps_model.specs.Limits.{most_commands, most_ticks};
 ghost use Rattle.aps_model.specs.TickWork.{do_command, thread_named, thread_view, view_of, with_mark};
 ghost use Rattle.aps_ctl.specs.Pending.{all_at};
-ghost use Rattle.aps_core.specs.Calls.{AreInRange, IsInRange, all_done, command_at};
+ghost use Rattle.aps_core.specs.Calls.{AreInRange, IsCallInRange, all_done, command_at};
 ghost use Rattle.aps_core.specs.Counts.{Counts, critical_in, used_in};
 ghost use Rattle.aps_core.specs.Room.{changes_of_a_run};
 
@@ -90,7 +90,7 @@ impl Machine {
     )
         requires counts { Counts self.old.shape entries.now tick window.old }
         requires tick { tick ≤ most_ticks }
-        requires call { IsInRange call.now }
+        requires call { IsCallInRange call.now }
         requires replies { length self.old.replies < most_commands }
         requires changes { length (do_command entries.now tick self.old (command_at tick place call.now)).changes ≤ changes_of_a_run }
         ensures same { self.new ≡ do_command entries.now tick self.old (command_at tick place call.now) }

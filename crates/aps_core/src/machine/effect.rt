@@ -5,7 +5,7 @@ ghost use Rattle.aps_model.specs.Limits.{last_moment};
 ghost use Rattle.aps_model.specs.Operation.{with_stamped};
 ghost use Rattle.aps_model.specs.Partition.{partition_named};
 ghost use Rattle.aps_model.specs.SchedulerState.{thread_at};
-ghost use Rattle.aps_core.specs.Room.{HasRoom, NamesIn};
+ghost use Rattle.aps_core.specs.Room.{HasRoomForOperation, NamesIn};
 
 use super::Machine;
 use aps_model::{Done, Name, Nanos, Op, Scenario, State, ThreadId};
@@ -43,7 +43,7 @@ impl Machine {
     /// The effect of the thread's operation, which is over. The answer says what it did.
     pub fn effect(&mut self, scenario: &Scenario, x: ThreadId, now: Nanos, op: &Op) -> Done
         requires now { now ≤ last_moment }
-        requires room { HasRoom self.old x }
+        requires room { HasRoomForOperation self.old x }
         requires named { NamesIn (length self.old.channels) op.now }
         ensures { effect scenario.now self.old x now op.now ≡ record { state = self.new; done = result } }
     {

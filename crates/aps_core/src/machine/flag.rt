@@ -6,7 +6,7 @@ ghost use Rattle.aps_model.specs.Limits.{greatest_priority, most_cpus};
 ghost use Rattle.aps_model.specs.Pick.{contenders, greatest, merit_among};
 ghost use Rattle.aps_ready.specs.Gates.{AreGates, is_first};
 ghost use Rattle.aps_core.specs.Classes.{AreClasses};
-ghost use Rattle.aps_core.specs.Lowest.{CanLook, IsKey, IsLeast, IsLeastOf, IsNoLess, IsRank, IsTold, height_of, height_past_all, key_past_all, limit, lowest, ranked_at};
+ghost use Rattle.aps_core.specs.Lowest.{CanLook, IsKey, IsLeastKey, IsLeastOf, IsNoLess, IsRank, IsFoundLowest, height_of, height_past_all, key_past_all, limit, lowest, ranked_at};
 ghost use Rattle.aps_core.specs.Seats.{seats_of};
 
 use super::Machine;
@@ -99,7 +99,7 @@ impl Machine {
         now: Nanos,
     ) -> u16
         requires look { CanLook self.now entries.now parts.now c now posts.now classes dues.now }
-        ensures least { IsLeast (lowest self.now entries.now parts.now c now self.now.shape.cpus) self.now.shape.cpus result }
+        ensures least { IsLeastKey (lowest self.now entries.now parts.now c now self.now.shape.cpus) self.now.shape.cpus result }
         ensures few { self.now.shape.cpus ≤ most_cpus }
         ensures count { length self.now.cpus ≡ self.now.shape.cpus }
     {
@@ -128,7 +128,7 @@ impl Machine {
         now: Nanos,
     ) -> Lowest
         requires look { CanLook self.now entries.now parts.now c now posts.now classes dues.now }
-        ensures same { IsTold (lowest self.now entries.now parts.now c now self.now.shape.cpus) result.cpu result.height }
+        ensures same { IsFoundLowest (lowest self.now entries.now parts.now c now self.now.shape.cpus) result.cpu result.height }
         ensures within { result.height < height_past_all → result.cpu < length self.now.cpus }
     {
         let least = self.least_key(entries, dues, parts, posts, classes, c, now);

@@ -5,7 +5,7 @@ ghost use Rattle.aps_model.specs.Limits.{last_moment};
 ghost use Rattle.aps_model.specs.Messages.{received, replied, sent};
 ghost use Rattle.aps_model.specs.SchedulerState.{channel_at};
 ghost use Rattle.aps_core.specs.Conversation.{received_in, replied_in, sent_in, with_channels};
-ghost use Rattle.aps_core.specs.Room.{HasRoom};
+ghost use Rattle.aps_core.specs.Room.{HasRoomForOperation};
 
 use super::Machine;
 use aps_channel::{Received, Replied, Sent};
@@ -16,7 +16,7 @@ impl Machine {
     /// follows: from the thread where it is served at once, else from what waits at the channel.
     fn send_message(&mut self, x: ThreadId, c: ChannelId) -> Sent
         requires channel { c < length self.old.channels }
-        requires room { HasRoom self.old x }
+        requires room { HasRoomForOperation self.old x }
         ensures answer { result ≡ (sent_in self.old x c).answer }
         ensures state { self.new ≡ with_channels self.old (sent_in self.old x c).state }
     {
@@ -36,7 +36,7 @@ impl Machine {
     /// it got, and all from what is left at the channel.
     fn receive_message(&mut self, x: ThreadId, c: ChannelId) -> Received
         requires channel { c < length self.old.channels }
-        requires room { HasRoom self.old x }
+        requires room { HasRoomForOperation self.old x }
         ensures answer { result ≡ (received_in self.old x c).answer }
         ensures state { self.new ≡ with_channels self.old (received_in self.old x c).state }
     {
@@ -51,7 +51,7 @@ impl Machine {
 
     /// The thread replies, and inherits nothing then.
     fn make_reply(&mut self, x: ThreadId) -> Replied
-        requires room { HasRoom self.old x }
+        requires room { HasRoomForOperation self.old x }
         ensures answer { result ≡ (replied_in self.old x).answer }
         ensures state { self.new ≡ with_channels self.old (replied_in self.old x).state }
     {
@@ -68,7 +68,7 @@ impl Machine {
     pub fn send(&mut self, scenario: &Scenario, x: ThreadId, c: ChannelId, now: Nanos) -> Done
         requires now { now ≤ last_moment }
         requires channel { c < length self.old.channels }
-        requires room { HasRoom self.old x }
+        requires room { HasRoomForOperation self.old x }
         ensures { sent scenario.now self.old x c now (channel_at self.old c).receivers ≡ record { state = self.new; done = result } }
     {
         match self.send_message(x, c) {
@@ -89,7 +89,7 @@ impl Machine {
     #[inline(never)]
     pub fn receive(&mut self, x: ThreadId, c: ChannelId) -> Done
         requires channel { c < length self.old.channels }
-        requires room { HasRoom self.old x }
+        requires room { HasRoomForOperation self.old x }
         ensures { received self.old x c (client_of self.old.triples x) ≡ record { state = self.new; done = result } }
     {
         match self.receive_message(x, c) {
@@ -109,7 +109,7 @@ impl Machine {
     #[inline(never)]
     pub fn reply(&mut self, scenario: &Scenario, x: ThreadId, now: Nanos) -> Done
         requires now { now ≤ last_moment }
-        requires room { HasRoom self.old x }
+        requires room { HasRoomForOperation self.old x }
         ensures { replied scenario.now self.old x now (client_of self.old.triples x) ≡ record { state = self.new; done = result } }
     {
         match self.make_reply(x) {

@@ -3,7 +3,7 @@ ghost use Rattle.std.specs.Prelude.{◌≡◌, ◌<◌, ◌≤◌, ◌^◌, leng
 ghost use Rattle.aps_model.specs.Limits.{last_moment};
 ghost use Rattle.aps_model.specs.SchedulerState.{thread_at};
 ghost use Rattle.aps_model.specs.Step.{do_op, enter_next, finish_op, give_back, settled};
-ghost use Rattle.aps_core.specs.Room.{CanFinish, HasRoom, NamesIn};
+ghost use Rattle.aps_core.specs.Room.{CanFinish, HasRoomForOperation, NamesIn};
 
 use super::Machine;
 use aps_model::{Done, Nanos, Op, Pick, Scenario, State, ThreadId};
@@ -28,7 +28,7 @@ impl Machine {
     /// The thread does the operation, which is over, and goes on.
     fn do_op(&mut self, scenario: &Scenario, x: ThreadId, now: Nanos, op: &Op) -> Done
         requires now { now ≤ last_moment }
-        requires room { HasRoom self.old x }
+        requires room { HasRoomForOperation self.old x }
         requires named { NamesIn (length self.old.channels) op.now }
         ensures { do_op scenario.now self.old x now op.now ≡ record { state = self.new; done = result } }
     {

@@ -3,7 +3,7 @@ ghost use Rattle.std.specs.Prelude.{◌≡◌, ◌<◌, ◌≤◌, ◌/◌, ◌+
 ghost use Rattle.std.specs.Option.{option_map};
 ghost use Rattle.aps_model.specs.Budget.{all_parts};
 ghost use Rattle.aps_model.specs.Step.{pick};
-ghost use Rattle.aps_core.specs.Kept.{IsKept};
+ghost use Rattle.aps_core.specs.Kept.{KeepsFrame};
 ghost use Rattle.aps_core.specs.NextDues.{AreOthersDues, AreSpare};
 ghost use Rattle.aps_core.specs.Posts.{AreOthersPosts, ArePosts};
 ghost use Rattle.aps_core.specs.Seats.{seats_of};
@@ -24,7 +24,7 @@ impl Scheduler {
         requires posts { AreOthersPosts self.old.machine cpu self.old.posts }
         ensures same { pick self.old.machine entries.now cpu e.old.to e.old
             ≡ record { entry = e.new; state = self.new.machine; reboot = None } }
-        ensures kept { IsKept self.old.machine self.new.machine }
+        ensures kept { KeepsFrame self.old.machine self.new.machine }
         ensures seats { self.new.ready ≡ seats_of self.new.machine }
         ensures posts { ArePosts self.new.machine self.new.posts }
         ensures flagged { IfSome e.new.flagged (λ d. d < length self.new.machine.cpus) }

@@ -4,7 +4,7 @@ ghost use Rattle.aps_model.specs.declared.entry.Entry.{Entry as EntryOf};
 ghost use Rattle.aps_model.specs.Inherit.{facts_of};
 ghost use Rattle.aps_model.specs.TickWork.{has_tick_work, tick_work};
 ghost use Rattle.aps_core.specs.Counts.{Counts};
-ghost use Rattle.aps_core.specs.Kept.{IsKept};
+ghost use Rattle.aps_core.specs.Kept.{KeepsFrame};
 ghost use Rattle.aps_core.specs.Pending.{IsPending};
 ghost use Rattle.aps_core.specs.Scheduler.{CanBeginTick, IsTickOf};
 ghost use Rattle.aps_core.specs.Seats.{seat_at};
@@ -31,7 +31,7 @@ impl Scheduler {
         ensures same { self.new.machine ≡ tick_work scenario.now self.old.machine entries.now now }
         ensures timed { self.new.timer ≡ sleepers_of self.new.machine }
         ensures idle { result ≡ false → (x : ℕ) → woke self.new.woken x ≡ false → seat_at self.new.machine x ≡ seat_at self.old.machine x }
-        ensures kept { result ≡ false → IsKept self.old.machine self.new.machine }
+        ensures kept { result ≡ false → KeepsFrame self.old.machine self.new.machine }
         ensures facts { result ≡ false → (x : ℕ) → facts_of self.new.machine x ≡ facts_of self.old.machine x }
         ensures window { result ≡ false → self.new.window ≡ self.old.window }
         ensures counts { Counts self.new.machine.shape entries.now (now / self.old.machine.shape.tick) self.new.window }
@@ -54,7 +54,7 @@ impl Scheduler {
         ensures same { self.new.machine ≡ tick_work scenario.now self.old.machine entries.now now }
         ensures timed { self.new.timer ≡ sleepers_of self.new.machine }
         ensures idle { result ≡ false → (x : ℕ) → woke self.new.woken x ≡ false → seat_at self.new.machine x ≡ seat_at self.old.machine x }
-        ensures kept { result ≡ false → IsKept self.old.machine self.new.machine }
+        ensures kept { result ≡ false → KeepsFrame self.old.machine self.new.machine }
         ensures facts { result ≡ false → (x : ℕ) → facts_of self.new.machine x ≡ facts_of self.old.machine x }
         ensures window { result ≡ false → self.new.window ≡ self.old.window }
         ensures counts { Counts self.new.machine.shape entries.now (now / self.old.machine.shape.tick) self.new.window }

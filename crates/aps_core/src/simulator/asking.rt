@@ -4,7 +4,7 @@ ghost use Rattle.aps_model.specs.Budget.{all_parts};
 ghost use Rattle.aps_model.specs.Limits.{most_partitions};
 ghost use Rattle.aps_model.specs.Pick.{contenders};
 ghost use Rattle.laws_runs.specs.Moments.{moment};
-ghost use Rattle.aps_core.specs.Run.{state_of};
+ghost use Rattle.aps_core.specs.Run.{state_of_run};
 ghost use Rattle.aps_core.specs.Scan.{has_candidate};
 
 use super::Core;
@@ -15,9 +15,9 @@ impl Core {
     /// that stands after it.
     pub fn stand(&self, parts: &mut [PartFacts])
         requires some { 0 < length self.now.entries }
-        requires one_each { length parts.old ≡ length (state_of self.now).rows }
-        ensures { parts.new ≡ all_parts (state_of self.now).shape (state_of self.now).rows self.now.entries
-            (moment self.now.entries / (state_of self.now).shape.tick) }
+        requires one_each { length parts.old ≡ length (state_of_run self.now).rows }
+        ensures { parts.new ≡ all_parts (state_of_run self.now).shape (state_of_run self.now).rows self.now.entries
+            (moment self.now.entries / (state_of_run self.now).shape.tick) }
     {
         self.scheduler.machine.stand(&self.scheduler.window, parts);
     }
@@ -26,7 +26,7 @@ impl Core {
     /// stand so.
     pub fn candidates(&self, parts: &[PartFacts]) -> [bool; 32]
         ensures { (p : ℕ) → p < most_partitions
-            → slice_index_or result p false ≡ has_candidate parts.now p (contenders (state_of self.now)) }
+            → slice_index_or result p false ≡ has_candidate parts.now p (contenders (state_of_run self.now)) }
     {
         self.scheduler.machine.candidates(parts)
     }

@@ -1,6 +1,6 @@
 //! A thread that becomes ready, or ceases to be.
 ghost use Rattle.std.specs.Prelude.{◌≡◌, ◌<◌, All, length, slice_index_or, slice_set, true, false};
-ghost use Rattle.aps_ready.specs.Ready.{IsFree};
+ghost use Rattle.aps_ready.specs.Ready.{IsStampFree};
 ghost use Rattle.aps_live.specs.LiveState.{no_live_thread};
 ghost use Rattle.aps_live.specs.LiveStep.{is_waking};
 ghost use Rattle.aps_live.specs.Machine.{row_of};
@@ -15,7 +15,7 @@ pub fn seat(threads: &mut Vec<LiveThread>, ready: &mut Ready, x: ThreadId, threa
     requires inside { x < length threads.old.items }
     requires out { is_waking (slice_index_or threads.old.items x no_live_thread).doing ≡ false }
     requires number { thread.contender.thread ≡ x }
-    requires stamp { All (IsFree thread.contender.stamp) ready.old }
+    requires stamp { All (IsStampFree thread.contender.stamp) ready.old }
     ensures threads { threads.new.items ≡ slice_set threads.old.items x thread }
     ensures row { ready.new ≡ row_of threads.new.items }
 {

@@ -29,7 +29,7 @@ fn put_some_number(
     number: Option<u64>,
 ) -> Result<(), NoMemory>
     requires { IfSome number (λ n. n ≤ most_critical) }
-    ensures { OnOk result (table_view table.new ≡ put_some key spec.number number (table_view table.old)) }
+    ensures { OnOk result (table_view table.new ≡ put_some key spec.number_data number (table_view table.old)) }
 {
     match number {
         Some(number) => put_number(alloc, table, key, number),
@@ -43,7 +43,7 @@ fn put_some_parts(
     key: Key,
     parts: Option<u16>,
 ) -> Result<(), NoMemory>
-    ensures { OnOk result (table_view table.new ≡ put_some key spec.number parts (table_view table.old)) }
+    ensures { OnOk result (table_view table.new ≡ put_some key spec.number_data parts (table_view table.old)) }
 {
     match parts {
         Some(parts) => put_number(alloc, table, key, u64::from(parts)),

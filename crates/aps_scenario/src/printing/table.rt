@@ -21,7 +21,7 @@ pub fn put(alloc: Global, table: &mut Table, key: Key, value: Value) -> Result<(
 /// Puts an integer at a key.
 pub fn put_number(alloc: Global, table: &mut Table, key: Key, number: u64) -> Result<(), NoMemory>
     requires { number < 2 ^ 63 }
-    ensures { OnOk result (table_view table.new ≡ spec.put key (spec.number number) (table_view table.old)) }
+    ensures { OnOk result (table_view table.new ≡ spec.put key (spec.number_data number) (table_view table.old)) }
 {
     put(alloc, table, key, Value::Integer(number as i64))
 }

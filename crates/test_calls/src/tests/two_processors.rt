@@ -1,5 +1,5 @@
 //! The run of two processors, and its dispatcher.
-ghost use Rattle.aps_cpu.specs.Row.{IsReady};
+ghost use Rattle.aps_cpu.specs.Row.{IsDrivable};
 ghost use Rattle.aps_lock.specs.Seats.{HasAllCpus};
 
 use super::TWO_PROCESSORS;
@@ -18,7 +18,7 @@ fn booted(rt: &impl Abort, alloc: Global, text: &str, order: Order) -> Core {
 
 /// The dispatcher of a run, and the seat of all its processors.
 fn dispatched(rt: &impl Abort, alloc: Global, core: Core) -> (Dispatch, CpuSeat)
-    ensures { IsReady result.0 result.1 × HasAllCpus result.1 }
+    ensures { IsDrivable result.0 result.1 × HasAllCpus result.1 }
 {
     match Dispatch::open(alloc, core) {
         Ok(opened) => opened,
@@ -28,7 +28,7 @@ fn dispatched(rt: &impl Abort, alloc: Global, core: Core) -> (Dispatch, CpuSeat)
 
 /// The dispatcher of the run of two processors at its start, and the seat of both processors.
 pub fn opened(rt: &impl Abort, alloc: Global, order: Order) -> (Dispatch, CpuSeat)
-    ensures { IsReady result.0 result.1 × HasAllCpus result.1 }
+    ensures { IsDrivable result.0 result.1 × HasAllCpus result.1 }
 {
     dispatched(rt, alloc, booted(rt, alloc, TWO_PROCESSORS, order))
 }

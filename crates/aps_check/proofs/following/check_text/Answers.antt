@@ -1,13 +1,13 @@
 use Rattle.std.proofs.Common.{◌≡◌, ◌-◌, List, drop, length, sym, ap, subst, ◌∙◌, arith}
 use Rattle.aps_model.specs.declared.entry.Entry.{Entry}
 use Rattle.aps_model.specs.History.{History}
-use Rattle.aps_core.specs.Run.{Run, Setup, history_of}
-use Rattle.aps_check.specs.Following.{IsOtherAt, IsUpTo, TellsDifference}
+use Rattle.aps_core.specs.Run.{Run, Setup, history_of_run}
+use Rattle.aps_check.specs.Following.{IsOtherAt, HasReadUpTo, TellsDifference}
 use Rattle.aps_check.proofs.FollowedLines.{front_inside, rest_judged, found_differing, other_at, differing_judged}
 use Rattle.aps_check.proofs.following.check_text.Goals as goal
 
 -- the run has as many entries as its history
-entries_of : (h : History) (run : Run) (read : List Entry) → h ≡ history_of run → read ≡ h.entries → length read ≡ length run.entries
+entries_of : (h : History) (run : Run) (read : List Entry) → h ≡ history_of_run run → read ≡ h.entries → length read ≡ length run.entries
 entries_of h run read kept same = ap (λ (l : List Entry). length l) (same ∙ ap (λ (h : History). h.entries) kept)
 
 pub behind-requires : goal.behind-requires
@@ -17,7 +17,7 @@ behind-requires c =
     let stop = c.in-Waits.ensures in
     let place = length c.entries-place.result.now in
     let n = entries_of c.history.result.now later c.entries-place.result.now c.history.ensures.same c.entries-place.ensures.same in
-    let up = subst (λ (r : Run). IsUpTo r later c.args.text.now stop.0) c.in_ok-core.ensures stop.1 in
+    let up = subst (λ (r : Run). HasReadUpTo r later c.args.text.now stop.0) c.in_ok-core.ensures stop.1 in
     let entries = c.in_ok-entries-in-Waits in
     omega (
       arith,
@@ -32,7 +32,7 @@ returns-in-Waits-clause-verdict c =
     let stop = c.in-Waits.ensures in
     let place = length c.entries-place.result.now in
     let n = entries_of c.history.result.now later c.entries-place.result.now c.history.ensures.same c.entries-place.ensures.same in
-    let up = subst (λ (r : Run). IsUpTo r later c.args.text.now stop.0) c.in_ok-core.ensures stop.1 in
+    let up = subst (λ (r : Run). HasReadUpTo r later c.args.text.now stop.0) c.in_ok-core.ensures stop.1 in
     let entries = c.in_ok-entries-in-Waits in
     rest_judged setup c.args.text.now entries.entries.items entries.ensures.journal later stop.0 place c.behind.result.now c.judge.result up n
     (c.behind.ensures ∙ ap (drop place) c.deref.ensures.value) c.judge.ensures

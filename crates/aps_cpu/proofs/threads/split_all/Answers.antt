@@ -1,7 +1,7 @@
 use Rattle.std.proofs.Common.{rules, ◌≡◌, ℕ, ◌+◌, ◌-◌, ◌<◌, List, sym, ap, refl, ◌∙◌, subst, arith}
 use Rattle.aps_core.specs.Run.{Run}
 use Rattle.aps_lock.specs.Seats.{DispatchData, IsSeatOf, SeatData}
-use Rattle.aps_cpu.specs.Row.{IsFresh, IsReady, IsRow}
+use Rattle.aps_cpu.specs.Row.{IsFresh, IsDrivable, AreSeatsInRow}
 use Rattle.aps_cpu.proofs.Rows.{fresh, row_more}
 use Rattle.aps_cpu.proofs.threads.split_all.Goals as goal
 
@@ -22,10 +22,10 @@ loop-seat-preserved c =
     (subst (IsSeatOf d) (sym given) i.ready.0)
     (subst (IsFresh run) (sym given) (fresh run (record s { first = last; waited = 0 }) i.seen refl))
     (ap (λ x. x.last + 1) given) in record {
-      ready = subst (IsReady d) (sym kept) (i.ready.0, refl);
+      ready = subst (IsDrivable d) (sym kept) (i.ready.0, refl);
       first = ap (λ x. x.first) kept ∙ i.first;
       seen = ap (λ x. x.seen) kept ∙ i.seen;
-      row = subst (λ (x : List SeatData × ℕ). IsRow d (IsFresh run) x.0 (c.args.seat.last + 1) x.1) (λ k. (sym c.push_reserved.ensures.items k, edge k)) row;
+      row = subst (λ (x : List SeatData × ℕ). AreSeatsInRow d (IsFresh run) x.0 (c.args.seat.last + 1) x.1) (λ k. (sym c.push_reserved.ensures.items k, edge k)) row;
       room = omega (arith, i.room, low, is_last, ap (λ x. x.first) kept, ap (λ x. x.last) kept, c.push_reserved.ensures.len, c.push_reserved.ensures.capacity);
     }
 
@@ -36,4 +36,4 @@ returns-clause-row c =
     let i = c.loop-seat.invariant in
     let s : SeatData = c.loop-seat.seat in
     let row = row_more d (IsFresh run) c.loop-seat.seats.items (c.args.seat.last + 1) (s.last + 1) s i.row i.ready.0 (fresh run s i.seen i.ready.1) refl in
-    subst (λ (x : List SeatData × ℕ). IsRow d (IsFresh run) x.0 (c.args.seat.last + 1) x.1) (λ k. (sym c.push_reserved-2.ensures.items k, i.first k)) row
+    subst (λ (x : List SeatData × ℕ). AreSeatsInRow d (IsFresh run) x.0 (c.args.seat.last + 1) x.1) (λ k. (sym c.push_reserved-2.ensures.items k, i.first k)) row

@@ -1,7 +1,7 @@
 use Rattle.std.proofs.Common.{◌≡◌, ◌-◌, ◌∷◌, ◌++◌}
-use Rattle.aps_gen.specs.Generated.{server, threads_from}
+use Rattle.aps_gen.specs.Generated.{server, generated_threads}
 use Rattle.aps_gen.proofs.threads.thread_rows.Given as goal
 
 abbrev pub invariant-loop-i : goal.invariant-loop-i
 invariant-loop-i l =
-    l.threads.items ++ threads_from l.cpus l.i (l.partitions - l.i) l.draws.state ≡ server ∷ threads_from l.cpus 0 l.partitions l.seed
+    l.threads.items ++ generated_threads l.cpus l.i (l.partitions - l.i) l.draws.state ≡ server ∷ generated_threads l.cpus 0 l.partitions l.seed

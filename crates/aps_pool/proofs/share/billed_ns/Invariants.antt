@@ -1,7 +1,7 @@
 use Rattle.std.proofs.Common.{◌≡◌, take, min}
 use Rattle.aps_model.specs.Limits.{greatest_u64}
-use Rattle.aps_pool.specs.Share.{billed}
+use Rattle.aps_pool.specs.Share.{time_billed}
 use Rattle.aps_pool.proofs.share.billed_ns.Given as goal
 
 abbrev pub invariant-loop-e : goal.invariant-loop-e
-invariant-loop-e l = l.sum ≡ min (billed l.partition (take l.e-index l.entries)) greatest_u64
+invariant-loop-e l = l.sum ≡ min (time_billed l.partition (take l.e-index l.entries)) greatest_u64

@@ -1,5 +1,5 @@
 use Rattle.std.proofs.Common.{◌<◌, sym, subst, arith}
-use Rattle.aps_levels.specs.Bits.{has}
+use Rattle.aps_levels.specs.Bits.{set_has}
 use Rattle.aps_levels.specs.Levels.{level_count}
 use Rattle.aps_ready.specs.Best.{IsBest}
 use Rattle.aps_ready.specs.Firsts.{firsts_of, level_of}
@@ -13,6 +13,6 @@ returns-in-Some c =
     let is = c.in-Some.ensures in
     let group = c.in-Some.group in
     let level : level_of (firsts_of row) group < level_count = omega (arith, c.requires.level.same group is.below is.here, c.requires.level.below) in
-    subst (IsBest c.args.parts.now row (has c.args.groups)) (sym c.first.ensures)
-    (best_of_one c.args.parts.now row (firsts_of row) (has c.args.groups) group (kept row c.requires.queued)
+    subst (IsBest c.args.parts.now row (set_has c.args.groups)) (sym c.first.ensures)
+    (best_of_one c.args.parts.now row (firsts_of row) (set_has c.args.groups) group (kept row c.requires.queued)
     is.below level is.here (λ g _ h. is.one g h))

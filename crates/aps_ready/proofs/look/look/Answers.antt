@@ -1,5 +1,5 @@
 use Rattle.std.proofs.Common.{inl, inr}
-use Rattle.aps_levels.specs.Bits.{has}
+use Rattle.aps_levels.specs.Bits.{set_has}
 use Rattle.aps_ready.specs.Firsts.{firsts_of}
 use Rattle.aps_ready.proofs.Known.{first_known, second_known}
 use Rattle.aps_ready.proofs.Tops.{kept}
@@ -24,7 +24,7 @@ returns-in-None c =
 
 pub best_at_level-requires-clause-known : goal.best_at_level-requires-clause-known
 best_at_level-requires-clause-known c =
-    first_known c.args.parts.now (firsts_of c.args.lists.now) c.args.gates (has c.in-Some.found.groups) c.requires.gates c.in-Some.ensures.some
+    first_known c.args.parts.now (firsts_of c.args.lists.now) c.args.gates (set_has c.in-Some.found.groups) c.requires.gates c.in-Some.ensures.some
 
 pub highest_leader-requires-clause-known : goal.highest_leader-requires-clause-known
 highest_leader-requires-clause-known c =

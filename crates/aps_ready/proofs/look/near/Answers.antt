@@ -1,5 +1,5 @@
 use Rattle.std.proofs.Common.{◌≡◌, ◌<◌, true, sym, subst}
-use Rattle.aps_levels.specs.Bits.{has}
+use Rattle.aps_levels.specs.Bits.{set_has}
 use Rattle.aps_ready.specs.declared.entrant.Entrant.{Entrant}
 use Rattle.aps_ready.specs.Firsts.{firsts_of}
 use Rattle.aps_ready.specs.Gates.{open_first}
@@ -22,4 +22,4 @@ returns-then-are_known c free there =
     subst (IsWinner free parts row) (sym same)
     (near_wins free parts row (firsts_of row) c.occupied.result found.groups best
     (kept row c.requires.queued) c.occupied.ensures c.in-Some.ensures.some
-    (best_of_open parts row (has found.groups) best opened c.best_at_level.ensures) best_there)
+    (best_of_open parts row (set_has found.groups) best opened c.best_at_level.ensures) best_there)

@@ -1,12 +1,12 @@
 use Rattle.std.proofs.Common.{rules}
-use Rattle.aps_levels.specs.Bits.{has}
+use Rattle.aps_levels.specs.Bits.{set_has}
 use Rattle.aps_ready.proofs.Fewer.{is_one}
 use Rattle.aps_ready.proofs.look.only.Goals as goal
 
 pub returns-then-is_empty : goal.returns-then-is_empty
 returns-then-is_empty c =
-    let set = has c.args.set in
-    let rest = has c.without_least.result in
+    let set = set_has c.args.set in
+    let rest = set_has c.without_least.result in
     let least = c.in-Some.ensures.some in
     record {
       below = least.below;

@@ -1,5 +1,5 @@
 use Rattle.std.proofs.Common.{sym, ◌∙◌, rules}
-use Rattle.aps_levels.specs.Bits.{has}
+use Rattle.aps_levels.specs.Bits.{set_has}
 use Rattle.aps_ready.proofs.Fewer.{fewer}
 use Rattle.aps_ready.proofs.TableLaws.{first_found, none_searched, one_searched}
 use Rattle.aps_ready.proofs.table.least_among.Goals as goal
@@ -17,7 +17,7 @@ levels-preserved c =
 pub levels-smaller : goal.levels-smaller
 levels-smaller c =
     let level = c.in-Some.ensures.some in
-    fewer (has c.levels.left) (has c.without_least-left.result) c.in-Some.place 64 (c.without_least-left.ensures c.in-Some.place level) level.here level.below
+    fewer (set_has c.levels.left) (set_has c.without_least-left.result) c.in-Some.place 64 (c.without_least-left.ensures c.in-Some.place level) level.here level.below
 
 pub returns-then-not-is_empty-clause-some : goal.returns-then-not-is_empty-clause-some
 returns-then-not-is_empty-clause-some c =

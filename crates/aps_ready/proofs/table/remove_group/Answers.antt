@@ -1,5 +1,5 @@
 use Rattle.std.proofs.Common.{rules, ◌≡◌, Bool, true, false, ap, ◌∙◌, arith, get_or-set_same}
-use Rattle.aps_levels.specs.Bits.{has}
+use Rattle.aps_levels.specs.Bits.{set_has}
 use Rattle.aps_levels.specs.Levels.{has_level}
 use Rattle.aps_levels.specs.declared.bits.Bits64.{Bits64}
 use Rattle.aps_ready.specs.Table.{no_bits}
@@ -27,6 +27,6 @@ returns-else-is_empty-clause-own c _ =
     let some = c.if-is_empty.ensures.some (search rules) in (
       some.0,
       some.1,
-      ap (λ (b : Bits64). has b some.0)
+      ap (λ (b : Bits64). set_has b some.0)
           (get_or-set_same c.args.at_level.now.items c.args.level c.without-rest.result no_bits (omega (arith, c.requires.level, c.requires.count))) ∙ some.2,
     )

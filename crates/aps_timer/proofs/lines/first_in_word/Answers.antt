@@ -1,6 +1,6 @@
 use Rattle.std.proofs.Common.{◌≡◌, ◌+◌, ◌*◌, ap, sym, subst, ◌∙◌, get_or, None}
 use Rattle.aps_timer.specs.Lines.{sleeper_of}
-use Rattle.aps_timer.specs.Order.{first_of}
+use Rattle.aps_timer.specs.Order.{earlier_sleeper}
 use Rattle.aps_timer.proofs.Firsts.{IsDone, ended_in_word, more_done}
 use Rattle.aps_timer.proofs.lines.first_in_word.Goals.{After-without-left}
 use Rattle.aps_timer.proofs.lines.first_in_word.Goals as goal
@@ -16,7 +16,7 @@ more c =
     let found : c.sleeper_of.result ≡ sleeper_of x c.moment_of.result =
     c.sleeper_of.ensures ∙ ap (λ y. sleeper_of y c.moment_of.result) c.at-x.ensures in
     subst (IsDone row c.args.bits c.without-left.result c.args.word (bit + 1))
-    (sym (c.first_of-first.ensures ∙ ap (first_of first) found))
+    (sym (c.first_of-first.ensures ∙ ap (earlier_sleeper first) found))
     (more_done row c.args.bits c.loop-from.left c.without-left.result c.args.word c.loop-from.from bit first c.moment_of.result
     c.loop-from.invariant c.in-Some.ensures.some c.without-left.ensures read)
 

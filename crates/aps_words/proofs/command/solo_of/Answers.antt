@@ -1,6 +1,6 @@
 use Rattle.std.proofs.Common.{codes, Option, Ok, Err, subst, sym, ◌∙◌}
 use Rattle.aps_words.specs.declared.command.Command.{Command}
-use Rattle.aps_words.specs.Command.{solo, solo_options, Says}
+use Rattle.aps_words.specs.Command.{solo, solo_options, WordsMean}
 use Rattle.aps_words.proofs.Meaning.{solo_is_read}
 use Rattle.aps_words.proofs.Reading.{meant, refusal_says}
 use Rattle.aps_words.proofs.command.solo_of.Goals as goal
@@ -10,7 +10,7 @@ returns-in-Ok-clause-same c =
     let e = c.in-Ok.ensures in
     let read = meant (codes "solo") solo_options solo solo_is_read _ c.args.words.now (Ok c.in-Ok.matches)
     c.in_ok-solo_options.ensures c.requires.plain e.taken e.rows e.refused in
-    subst (λ (said : Option Command). Says c.said.result said) (c.solo_from.ensures.same ∙ sym read) c.said.ensures.same
+    subst (λ (said : Option Command). WordsMean c.said.result said) (c.solo_from.ensures.same ∙ sym read) c.said.ensures.same
 
 pub returns-in-Err-clause-same : goal.returns-in-Err-clause-same
 returns-in-Err-clause-same c =

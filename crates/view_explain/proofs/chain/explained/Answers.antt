@@ -1,6 +1,6 @@
 use Rattle.std.proofs.Common.{◌≡◌, ◌∙◌, [], ap, sym, arith, Some}
 use Rattle.aps_model.specs.Limits.{most_threads}
-use Rattle.view_explain.specs.Chain.{Chain, chain_from, gone_on}
+use Rattle.view_explain.specs.Chain.{Chain, chain_from, chain_gone_on}
 use Rattle.view_explain.proofs.Ranges.{fold_range}
 use Rattle.view_explain.proofs.chain.explained.Goals as goal
 
@@ -9,8 +9,8 @@ loop-preserved c =
     let past = c.args.scene.now in
     let start : Chain = record { told = []; next = Some c.args.x } in
     record {
-      same = c.in_ok-go_on.ensures.same ∙ ap (λ (chain : Chain). gone_on past chain.told chain.next) c.loop.invariant.same
-          ∙ sym (fold_range (λ (chain : Chain) _. gone_on past chain.told chain.next) start c.loop.counter);
+      same = c.in_ok-go_on.ensures.same ∙ ap (λ (chain : Chain). chain_gone_on past chain.told chain.next) c.loop.invariant.same
+          ∙ sym (fold_range (λ (chain : Chain) _. chain_gone_on past chain.told chain.next) start c.loop.counter);
       known = c.in_ok-go_on.ensures.known;
     }
 

@@ -3,7 +3,7 @@ use Rattle.aps_model.specs.declared.merit.PartFacts.{PartFacts}
 use Rattle.aps_model.specs.Audit.{allowance}
 use Rattle.aps_model.specs.SchedulerState.{row_at}
 use Rattle.aps_model.specs.Usage.{window_critical}
-use Rattle.view_explain.specs.Past.{state_in, tick_in}
+use Rattle.view_explain.specs.Past.{state_of_past, tick_in}
 use Rattle.view_explain.specs.Text.{allowed_words, critical_words, limits_line, used_words}
 use Rattle.view_explain.proofs.Wording.{added_last, added_more}
 use Rattle.view_explain.proofs.lines.add_part.Goals as goal
@@ -11,7 +11,7 @@ use Rattle.view_explain.proofs.lines.add_part.Goals as goal
 pub returns : goal.returns
 returns c =
     let past = c.args.scene.now in
-    let s = state_in past in
+    let s = state_of_past past in
     let p = c.args.p in
     let start = string_bytes c.args.out.now in
     let facts = c.part-part.result in

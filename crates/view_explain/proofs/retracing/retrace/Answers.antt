@@ -7,8 +7,8 @@ use Rattle.aps_model.specs.After.{state_after}
 use Rattle.aps_model.specs.Legal.{IsLegal}
 use Rattle.laws_runs.specs.Moments.{moment}
 use Rattle.laws_runs.proofs.Words.{prefix_legal}
-use Rattle.aps_core.specs.Run.{Run, state_of}
-use Rattle.aps_core.specs.Turn.{IsTaken}
+use Rattle.aps_core.specs.Run.{Run, state_of_run}
+use Rattle.aps_core.specs.Turn.{IsTurnTaken}
 use Rattle.view_lives.proofs.Longer.{moment_more}
 use Rattle.view_lives.proofs.Retraced.{front_more, next_exists, next_taken, one_more}
 use Rattle.view_explain.specs.Ties.{Ties, after_ran, ties_of}
@@ -29,7 +29,7 @@ step-requires-clause-exists c =
 pub step-requires-clause-taken : goal.step-requires-clause-taken
 step-requires-clause-taken c =
     let setup = c.args.core.now.setup in
-    subst (λ (run : Run). IsTaken run c.e-item.result.cpu c.e-item.result) (sym c.loop-e.invariant.core)
+    subst (λ (run : Run). IsTurnTaken run c.e-item.result.cpu c.e-item.result) (sym c.loop-e.invariant.core)
     (next_taken setup.scenario setup.order setup.limit c.args.entries.now c.loop-e.e-index c.e-item.result c.requires.legal c.loop-e-test.true (sym c.e-item.is) c.requires.few)
 
 pub loop-e-preserved : goal.loop-e-preserved
@@ -47,12 +47,12 @@ loop-e-preserved c =
     prefix_legal scenario setup.order (take (i + 1) h) (drop (i + 1) h) (subst (IsLegal scenario setup.order) (sym (take-append-drop (i + 1) h)) c.requires.legal) in
     let more = ties_more scenario setup.order before e c.requires.valid (subst (IsLegal scenario setup.order) next legal) in
     let tied : c.go_on.new.self ≡ ties_of (state_after scenario (before ++ e ∷ [])) =
-    c.in_ok-go_on.ensures ∙ ap (λ (run : Run). after_ran run.setup.scenario (state_of run) c.loop-e.ties e.ran e.done) c.loop-e.invariant.core
-    ∙ ap (λ (ties : Ties). after_ran scenario (state_after scenario before) ties e.ran e.done) (c.loop-e.invariant.tied ∙ ap (λ (run : Run). ties_of (state_of run)) c.loop-e.invariant.core)
+    c.in_ok-go_on.ensures ∙ ap (λ (run : Run). after_ran run.setup.scenario (state_of_run run) c.loop-e.ties e.ran e.done) c.loop-e.invariant.core
+    ∙ ap (λ (ties : Ties). after_ran scenario (state_after scenario before) ties e.ran e.done) (c.loop-e.invariant.tied ∙ ap (λ (run : Run). ties_of (state_of_run run)) c.loop-e.invariant.core)
     ∙ sym more in
     record {
       core = core;
-      tied = tied ∙ ap (λ g. ties_of (state_after scenario g)) (sym next) ∙ ap (λ (run : Run). ties_of (state_of run)) (sym core);
+      tied = tied ∙ ap (λ g. ties_of (state_after scenario g)) (sym next) ∙ ap (λ (run : Run). ties_of (state_of_run run)) (sym core);
       last = sym (ap moment next ∙ moment_more before e);
       early = let each = All-get_or IsEntry h i e c.loop-e-test.true c.requires.entries in
           let own : IsEntry e = subst IsEntry is each in omega (arith, own.to);

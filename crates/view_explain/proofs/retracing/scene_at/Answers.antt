@@ -7,7 +7,7 @@ use Rattle.aps_model.specs.History.{IsEntry}
 use Rattle.aps_model.specs.Legal.{IsLegal}
 use Rattle.aps_model.specs.Scenario.{Scenario}
 use Rattle.laws_runs.proofs.Words.{prefix_legal}
-use Rattle.aps_core.specs.Run.{Run, state_of}
+use Rattle.aps_core.specs.Run.{Run, state_of_run}
 use Rattle.view_lives.specs.Whole.{until}
 use Rattle.view_explain.specs.Past.{Past}
 use Rattle.view_explain.specs.Ties.{Ties, ties_of}
@@ -24,7 +24,7 @@ scene_of-requires-clause-tied c =
     let scenario = c.scenario-scenario.result.now in
     let made : ℕ → Ties = λ n. record { messages = replicate n []; triples = [] } in
     c.in_ok-ties.ensures ∙ ap made (ap (λ (l : List (List ℕ)). length l) c.channels.ensures.same) ∙ sym (ties_none scenario)
-    ∙ ap (λ (s : Scenario). ties_of (state_after s [])) (sym c.in_ok-copy.ensures) ∙ ap (λ (run : Run). ties_of (state_of run)) (sym c.in_ok-core.ensures)
+    ∙ ap (λ (s : Scenario). ties_of (state_after s [])) (sym c.in_ok-copy.ensures) ∙ ap (λ (run : Run). ties_of (state_of_run run)) (sym c.in_ok-core.ensures)
 
 pub scene_of-requires-clause-entries : goal.scene_of-requires-clause-entries
 scene_of-requires-clause-entries c =

@@ -6,8 +6,8 @@ use Rattle.aps_model.specs.SchedulerState.{thread_at}
 use lib.Chars.{codes}
 use Rattle.view_explain.specs.declared.because.Because.{Because}
 use Rattle.view_explain.specs.Because.{because}
-use Rattle.view_explain.specs.Past.{state_in}
-use Rattle.view_explain.specs.Text.{again_line, because_line, head_by, part_line, since, since_last, state_text, values_line}
+use Rattle.view_explain.specs.Past.{state_of_past}
+use Rattle.view_explain.specs.Text.{again_line, because_line, head_by, part_line, since, since_last, class_and_rivals, facts_line}
 use Rattle.view_explain.proofs.Wording.{added_last, added_more}
 use Rattle.view_explain.proofs.text.add_thread.Goals as goal
 
@@ -30,11 +30,11 @@ returns c =
     let t5 = string_bytes c.add_again.new.out in
     let t6 = string_bytes c.add_state.new.out in
     let head = head_by past thread.state moment x in
-    let own = values_line past (codes "own") thread.own in
-    let counts = values_line past (codes "counts_as") facts in
+    let own = facts_line past (codes "own") thread.own in
+    let counts = facts_line past (codes "counts_as") facts in
     let part = part_line past facts.partition in
     let again = again_line past facts.partition in
-    let does = state_text past x thread.state in
+    let does = class_and_rivals past x thread.state in
     let two = added_more start t1 t2 head own c.in_ok-add_head.ensures c.in_ok-add_values.ensures in
     let three = added_more start t2 t3 (head ++ own) counts two c.in_ok-add_values-2.ensures in
     let four = added_more start t3 t4 (head ++ own ++ counts) part three c.in_ok-add_part.ensures in
@@ -42,10 +42,10 @@ returns c =
     let six = added_more start t5 t6 (head ++ own ++ counts ++ part ++ again) does five c.in_ok-add_state.ensures in
     let told : ThreadNow → Facts → Because → ℕ → List ℕ = λ thread facts cause moment.
     start
-    ++ (head_by past thread.state moment x ++ values_line past (codes "own") thread.own ++ values_line past (codes "counts_as") facts
-    ++ part_line past facts.partition ++ again_line past facts.partition ++ state_text past x thread.state ++ because_line past cause) in
-    let now = thread_at (state_in past) x in
-    let counted = facts_of (state_in past) x in
+    ++ (head_by past thread.state moment x ++ facts_line past (codes "own") thread.own ++ facts_line past (codes "counts_as") facts
+    ++ part_line past facts.partition ++ again_line past facts.partition ++ class_and_rivals past x thread.state ++ because_line past cause) in
+    let now = thread_at (state_of_past past) x in
+    let counted = facts_of (state_of_past past) x in
     let same =
     added_last start t6 (head ++ own ++ counts ++ part ++ again ++ does) (because_line past cause) six
     ∙ ap (λ t. told t facts cause moment) c.thread-thread.ensures.same ∙ ap (λ f. told now f cause moment) c.facts_of-facts.ensures

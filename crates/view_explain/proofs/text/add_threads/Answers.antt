@@ -1,7 +1,7 @@
 use Rattle.std.proofs.Common.{◌≡◌, ◌<◌, ◌++◌, ◌∙◌, [], List, length, get_or, string_bytes, ap, sym, subst}
 use Rattle.std.proofs.lemmas.List.{get_or_read}
 use Rattle.view_lives.specs.declared.life.Segment.{Segment}
-use Rattle.view_explain.specs.Text.{thread_text, thread_with}
+use Rattle.view_explain.specs.Text.{explained_thread, thread_by_lives}
 use Rattle.view_explain.proofs.Telling.{lines_more}
 use Rattle.view_explain.proofs.text.add_threads.Goals as goal
 
@@ -18,5 +18,5 @@ loop-x-preserved c =
     let read : c.index-in-loop-x.result.now ≡ get_or lives c.index.result [] =
     get_or_read lives c.index.result c.index-in-loop-x.result.now less c.index-in-loop-x.ensures [] in
     let life : c.index-in-loop-x.result.now ≡ get_or lives x [] = read ∙ ap (λ k. get_or lives k []) c.index.ensures.same in
-    lines_more (thread_with past at lives) _ _ _ told i x c.loop-x-test.true c.x-item.is c.loop-x.invariant
-    (c.in_ok-add_thread.ensures ∙ ap (λ (l : List Segment). string_bytes c.loop-x.out ++ thread_text past at l x) life)
+    lines_more (thread_by_lives past at lives) _ _ _ told i x c.loop-x-test.true c.x-item.is c.loop-x.invariant
+    (c.in_ok-add_thread.ensures ∙ ap (λ (l : List Segment). string_bytes c.loop-x.out ++ explained_thread past at l x) life)

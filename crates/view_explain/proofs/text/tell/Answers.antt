@@ -1,7 +1,7 @@
 use Rattle.std.proofs.Common.{◌<◌, ◌++◌, ◌∙◌, ℕ, List, length, ap, subst}
 use Rattle.std.specs.Prelude.{All}
 use Rattle.std.specs.List.{flat_map}
-use Rattle.view_explain.specs.Text.{thread_with, title_text}
+use Rattle.view_explain.specs.Text.{thread_by_lives, title_text}
 use Rattle.view_explain.proofs.text.tell.Goals as goal
 
 pub returns-clause-text : goal.returns-clause-text
@@ -10,7 +10,7 @@ returns-clause-text c =
     let at = c.args.at in
     let end = c.args.end in
     let lives = c.args.lives.now.items in
-    let threads : List ℕ → List ℕ = λ told. flat_map (thread_with past at lives) told in
+    let threads : List ℕ → List ℕ = λ told. flat_map (thread_by_lives past at lives) told in
     c.in_ok-add_threads.ensures ∙ ap (λ (t : List ℕ). t ++ threads c.as_slice.result.now) (c.in_ok-add_title.ensures ∙ ap (λ (t : List ℕ). t ++ title_text at end) c.new-out.ensures.bytes)
     ∙ ap (λ (told : List ℕ). title_text at end ++ threads told) (c.as_slice.ensures.value ∙ c.in_ok-told.ensures.same)
 

@@ -5,12 +5,12 @@ use Rattle.std.proofs.lemmas.List.{get_or_read, get_or-set_other, get_or-set_sam
 use Rattle.aps_model.specs.History.{History}
 use Rattle.aps_model.specs.Scenario.{Scenario}
 use Rattle.aps_model.specs.SchedulerState.{SchedulerState, thread_at}
-use Rattle.aps_core.specs.Run.{state_of}
+use Rattle.aps_core.specs.Run.{state_of_run}
 use Rattle.view_latency.specs.declared.news.News.{News}
 use Rattle.view_latency.specs.declared.seen.Seen.{Seen}
 use Rattle.view_latency.specs.declared.seen.Seen.TheVariants.{Other}
 use Rattle.view_latency.specs.Callers.{caller_at}
-use Rattle.view_latency.specs.Calls.{Calls, HasRoom, no_calls, with_news, with_next}
+use Rattle.view_latency.specs.Calls.{Calls, HasRoomInCall, no_calls, with_news, calls_with_entry}
 use Rattle.view_latency.specs.News.{news_of}
 use Rattle.view_latency.specs.Seen.{AreSeen, news_by, seen_of}
 use Rattle.view_latency.proofs.Quiet.{all_longer, apart, done_more, others_more}
@@ -31,7 +31,7 @@ add-requires-clause-room c =
     let there : x < length c.loop-k.calls.items = omega (arith, inside, count) in
     let read = get_or_read c.loop-k.calls.items x c.index_mut.result.now there c.index_mut.ensures.value no_calls in
     let same = c.loop-k.invariant.others x (λ j order. apart scenario (length scenario.threads) callers k j c.requires.callers less order) in
-    subst (λ (a : Calls). HasRoom a.current) (sym (read ∙ same)) (c.requires.room x inside)
+    subst (λ (a : Calls). HasRoomInCall a.current) (sym (read ∙ same)) (c.requires.room x inside)
 
 pub loop-k-preserved : goal.loop-k-preserved
 loop-k-preserved c =
@@ -59,7 +59,7 @@ loop-k-preserved c =
     ∙ ap (λ y. news_by scenario y c.index.result.now e) c.at-thread.ensures
     ∙ ap (λ (w : Seen). news_by scenario x w e) (get_or_read seen k c.index.result.now place c.index.ensures Other ∙ c.loop-k.invariant.before k (omega arith) ∙ are.each k less)
     ∙ news_seen scenario x (thread_at s x).place (thread_at s x).state e in
-    let new : (s : SchedulerState) → AreSeen s callers c.args.seen.now.items → c.add.new.self ≡ with_next scenario s x (get_or now x no_calls) e =
+    let new : (s : SchedulerState) → AreSeen s callers c.args.seen.now.items → c.add.new.self ≡ calls_with_entry scenario s x (get_or now x no_calls) e =
     λ s are.
     c.in_ok-add.ensures
     ∙ ap (λ (a : Calls). with_news a e.to c.news_by-news.result) read
@@ -71,10 +71,10 @@ loop-k-preserved c =
         | inl before ↦ get_or-set_other seen k j v Other (λ same. omega (arith, same, before)) ∙ c.loop-k.invariant.anew j before
         | inr past ↦
             let last : j ≡ k = omega (arith, order, past) in
-            ap (λ i. get_or (set seen k v) i Other) last ∙ get_or-set_same seen k v Other place ∙ c.seen_of.ensures ∙ ap (seen_of (state_of c.args.core.now)) c.at-thread.ensures ∙ sym (ap (λ i. seen_of (state_of c.args.core.now) (caller_at callers i)) last)
+            ap (λ i. get_or (set seen k v) i Other) last ∙ get_or-set_same seen k v Other place ∙ c.seen_of.ensures ∙ ap (seen_of (state_of_run c.args.core.now)) c.at-thread.ensures ∙ sym (ap (λ i. seen_of (state_of_run c.args.core.now) (caller_at callers i)) last)
       ];
       before = λ j order. get_or-set_other seen k j v Other (λ same. omega (arith, same, order)) ∙ c.loop-k.invariant.before j (omega (arith, order));
-      done = λ s are. done_more (λ y a. with_next scenario s y a e) callers k x c.add.new.self no_calls start now refl there unlike (c.loop-k.invariant.others x unlike) (new s are) (c.loop-k.invariant.done s are);
+      done = λ s are. done_more (λ y a. calls_with_entry scenario s y a e) callers k x c.add.new.self no_calls start now refl there unlike (c.loop-k.invariant.others x unlike) (new s are) (c.loop-k.invariant.done s are);
       others = others_more callers k x c.add.new.self no_calls start now refl c.loop-k.invariant.others;
     }
 

@@ -6,7 +6,7 @@ use Rattle.aps_model.specs.declared.usage.Usage.{Usage}
 use Rattle.view_lives.specs.declared.life.Segment.{Segment}
 use Rattle.view_latency.specs.Bills.{bill_at, no_bills}
 use Rattle.view_latency.specs.Calls.{Calls, no_calls}
-use Rattle.view_latency.specs.Text.{Known, bill_lines, channel_lines, head_line, wait_lines}
+use Rattle.view_latency.specs.Text.{Known, bill_lines, channel_lines, thread_number_line, wait_lines}
 use Rattle.view_latency.proofs.Pieces.{four_pieces}
 use Rattle.view_latency.proofs.latency.add_thread.Goals as goal
 
@@ -24,7 +24,7 @@ returns c =
     let calls : c.index-3.result.now ≡ get_or known.calls x no_calls =
     get_or_read inside.calls.items x c.index-3.result.now (subst (λ (k : Known). x < length k.calls) view c.requires.calls) c.index-3.ensures no_calls ∙ sym (ap (λ (k : Known). get_or k.calls x no_calls) view) in
     four_pieces _ (string_bytes c.add_head.new.out) (string_bytes c.add_bills.new.out) (string_bytes c.add_waits.new.out) _
-    (head_line x c.args.name.now) (bill_lines (bill_at known.bills x)) (wait_lines known.end (get_or known.lives x []))
+    (thread_number_line x c.args.name.now) (bill_lines (bill_at known.bills x)) (wait_lines known.end (get_or known.lives x []))
     (flat_map (channel_lines known.end (get_or known.calls x no_calls)) (enumerate_from 0 c.args.channels.now))
     c.in_ok-add_head.ensures
     (c.in_ok-add_bills.ensures ∙ ap (λ (u : Usage). string_bytes c.add_head.new.out ++ bill_lines (slice_index u.used)) bills)

@@ -5,7 +5,7 @@ use Rattle.aps_model.specs.declared.scenario.ThreadRow.{ThreadRow}
 use Rattle.aps_model.specs.Limits.{most_threads}
 use Rattle.aps_model.specs.Scenario.{Scenario}
 use Rattle.aps_model.specs.Valid.{IsScenario}
-use Rattle.view_latency.specs.Text.{HasPlaces, thread_with}
+use Rattle.view_latency.specs.Text.{HasPlaces, thread_by_known}
 use Rattle.view_latency.proofs.KnownLines.{lines_same, places}
 use Rattle.view_latency.proofs.latency.latency_text_of.Goals as goal
 
@@ -27,8 +27,8 @@ returns c =
     let threads : c.threads-threads.result.now ≡ scenario.threads = c.threads-threads.ensures.same ∙ ap (λ (s : Scenario). s.threads) c.scenario-scenario.ensures in
     let channels : c.channels-channels.result.now ≡ scenario.channels = c.channels-channels.ensures.same ∙ ap (λ (s : Scenario). s.channels) c.scenario-scenario.ensures in
     c.in_ok-add_threads.ensures
-    ∙ ap (λ t. t ++ flat_map (thread_with c.channels-channels.result.now known) (enumerate_from 0 c.threads-threads.result.now))
+    ∙ ap (λ t. t ++ flat_map (thread_by_known c.channels-channels.result.now known) (enumerate_from 0 c.threads-threads.result.now))
     (c.in_ok-push_str.ensures.bytes ∙ ap (λ (t : List ℕ). t ++ title) c.new-out.ensures.bytes)
-    ∙ ap (λ (rows : List ThreadRow). title ++ flat_map (thread_with c.channels-channels.result.now known) (enumerate_from 0 rows)) threads
-    ∙ ap (λ (names : List (List ℕ)). title ++ flat_map (thread_with names known) (enumerate_from 0 scenario.threads)) channels
+    ∙ ap (λ (rows : List ThreadRow). title ++ flat_map (thread_by_known c.channels-channels.result.now known) (enumerate_from 0 rows)) threads
+    ∙ ap (λ (names : List (List ℕ)). title ++ flat_map (thread_by_known names known) (enumerate_from 0 scenario.threads)) channels
     ∙ ap (λ (t : List ℕ). title ++ t) (lines_same scenario c.args.history.now.entries known c.in_ok-known.ensures few 0 scenario.threads (omega arith))

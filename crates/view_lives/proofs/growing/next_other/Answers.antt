@@ -3,14 +3,14 @@ use Rattle.std.proofs.lemmas.Bool.{cases_lt}
 use Rattle.std.proofs.lemmas.List.{get_or_read}
 use Rattle.aps_model.specs.declared.state.ThreadNow.{ThreadNow}
 use Rattle.aps_model.specs.SchedulerState.{thread_at}
-use Rattle.aps_core.specs.Run.{state_of}
+use Rattle.aps_core.specs.Run.{state_of_run}
 use Rattle.view_lives.specs.Doing.{doing_by, doing_of}
 use Rattle.view_lives.specs.Growing.{keeps_on, nothing_aside}
 use Rattle.view_lives.proofs.growing.next_other.Goals as goal
 
 pub loop-x-preserved : goal.loop-x-preserved
 loop-x-preserved c =
-    let s = state_of c.args.core.now in
+    let s = state_of_run c.args.core.now in
     let aside = c.args.aside.now.items in
     let x = c.loop-x.x in
     let read : c.index.result.now ≡ get_or aside x nothing_aside = get_or_read aside x c.index.result.now (omega arith) c.index.ensures nothing_aside in

@@ -1,7 +1,7 @@
 use Rattle.std.proofs.Common.{◌≡◌, ℕ, ◌<◌, ◌∙◌, [], take, ap, arith, sym, subst, refl}
 use Rattle.laws_runs.specs.Moments.{moment}
-use Rattle.aps_core.specs.Run.{Run, Setup, state_of}
-use Rattle.aps_core.specs.Turn.{IsTaken}
+use Rattle.aps_core.specs.Run.{Run, Setup, state_of_run}
+use Rattle.aps_core.specs.Turn.{IsTurnTaken}
 use Rattle.aps_model.specs.declared.entry.Entry.{Entry}
 use Rattle.std.proofs.Common.{List}
 use Rattle.view_lives.specs.Life.{AreLives, AreLonger}
@@ -27,7 +27,7 @@ retrace-requires-clause-exists c =
 pub retrace-requires-clause-taken : goal.retrace-requires-clause-taken
 retrace-requires-clause-taken c =
     let setup : Setup = c.args.core.now.setup in
-    subst (λ (run : Run). IsTaken run c.e-item.result.cpu c.e-item.result) (sym c.loop-e.invariant.core)
+    subst (λ (run : Run). IsTurnTaken run c.e-item.result.cpu c.e-item.result) (sym c.loop-e.invariant.core)
     (next_taken setup.scenario setup.order setup.limit c.args.entries.now c.loop-e.e-index c.e-item.result c.requires.legal c.loop-e-test.true (sym c.e-item.is) c.requires.room)
 
 pub loop-e-preserved : goal.loop-e-preserved
@@ -39,7 +39,7 @@ loop-e-preserved c =
     let before = c.loop-e.lives in
     let after = c.lengthen.new.self in
     let next = one_more h c.loop-e.e-index e c.loop-e-test.true (sym c.e-item.is) in
-    let Longer : Run → ℕ → Type 0 = λ run m. AreLonger (state_of run) m e.to before after in
+    let Longer : Run → ℕ → Type 0 = λ run m. AreLonger (state_of_run run) m e.to before after in
     let longer : Longer (front setup.scenario setup.order setup.limit h c.loop-e.e-index) (moment here) =
     subst (Longer (front setup.scenario setup.order setup.limit h c.loop-e.e-index)) c.loop-e.invariant.moment
     (subst (λ (run : Run). Longer run c.loop-e.moment) c.loop-e.invariant.core c.in_ok-lengthen.ensures) in

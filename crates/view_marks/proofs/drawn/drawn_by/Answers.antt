@@ -5,11 +5,11 @@ use Rattle.aps_model.specs.declared.entry.Entry.{Entry}
 use Rattle.aps_model.specs.declared.shape.Shape.{Shape}
 use Rattle.aps_model.specs.After.{state_after}
 use Rattle.aps_model.specs.Scenario.{Scenario}
-use Rattle.aps_core.specs.Run.{Run, state_of}
-use Rattle.aps_core.specs.Turn.{IsTaken, with_entry}
+use Rattle.aps_core.specs.Run.{Run, state_of_run}
+use Rattle.aps_core.specs.Turn.{IsTurnTaken, with_entry}
 use Rattle.view_marks.specs.declared.alteration.Alteration.{Alteration}
 use Rattle.view_marks.specs.Alteration.{alterations_of, altered_between}
-use Rattle.view_marks.specs.Bar.{AreLanes, AreLonger}
+use Rattle.view_marks.specs.Bar.{AreLanes, AreLongerLanes}
 use Rattle.view_marks.proofs.Longer.{altered_more, altered_none, lanes_more, lanes_none}
 use Rattle.view_lives.proofs.Retraced.{front, front_more, next_exists, next_taken, one_more}
 use Rattle.view_marks.proofs.drawn.drawn_by.Goals as goal
@@ -40,7 +40,7 @@ go_on-requires-clause-exists c =
 
 pub go_on-requires-clause-taken : goal.go_on-requires-clause-taken
 go_on-requires-clause-taken c =
-    subst (λ (run : Run). IsTaken run c.e-item.result.cpu c.e-item.result) (sym c.loop-e.invariant.core)
+    subst (λ (run : Run). IsTurnTaken run c.e-item.result.cpu c.e-item.result) (sym c.loop-e.invariant.core)
     (next_taken c.args.scenario.now c.args.core.now.setup.order c.args.core.now.setup.limit c.args.entries.now c.loop-e.e-index c.e-item.result c.requires.legal c.loop-e-test.true (sym c.e-item.is) c.requires.few)
 
 pub loop-e-preserved : goal.loop-e-preserved
@@ -53,13 +53,13 @@ loop-e-preserved c =
     let before = c.loop-e.lanes.items in
     let after = c.lengthen.new.lanes.items in
     let next = one_more h c.loop-e.e-index e c.loop-e-test.true (sym c.e-item.is) in
-    let longer : AreLonger (state_of (front scenario setup.order setup.limit h c.loop-e.e-index)) e before after =
-    subst (λ (run : Run). AreLonger (state_of run) e before after) c.loop-e.invariant.core c.in_ok-lengthen.ensures in
+    let longer : AreLongerLanes (state_of_run (front scenario setup.order setup.limit h c.loop-e.e-index)) e before after =
+    subst (λ (run : Run). AreLongerLanes (state_of_run run) e before after) c.loop-e.invariant.core c.in_ok-lengthen.ensures in
     let start = front scenario setup.order setup.limit h c.loop-e.e-index in
     let done = c.loop-e.alterations.items in
-    let by_run : Run → List Alteration = λ run. altered_between scenario.commands e.to (state_of run) (state_of (with_entry run e)) in
+    let by_run : Run → List Alteration = λ run. altered_between scenario.commands e.to (state_of_run run) (state_of_run (with_entry run e)) in
     let by_commands : List CommandRow → List Alteration =
-    λ commands. altered_between commands e.to (state_of c.loop-e.core) (state_of (with_entry c.loop-e.core e)) in
+    λ commands. altered_between commands e.to (state_of_run c.loop-e.core) (state_of_run (with_entry c.loop-e.core e)) in
     record {
       core = front_more scenario setup.order setup.limit h c.loop-e.e-index e c.loop-e.core c.go_on.new.core c.loop-e-test.true (sym c.e-item.is) c.loop-e.invariant.core c.in_ok-go_on.ensures.core;
       lanes = subst (λ g. AreLanes scenario g after) (sym next) (lanes_more scenario here e before after c.loop-e.invariant.lanes longer);
@@ -75,7 +75,7 @@ returns c =
     record {
       lanes = subst (λ g. AreLanes scenario g c.loop-e.lanes.items) all c.loop-e.invariant.lanes;
       alterations = c.loop-e.invariant.alterations ∙ ap (λ g. alterations_of scenario g) all;
-      rows = c.in_ok-rows.ensures.same ∙ ap (λ (run : Run). (state_of run).rows) c.loop-e.invariant.core
+      rows = c.in_ok-rows.ensures.same ∙ ap (λ (run : Run). (state_of_run run).rows) c.loop-e.invariant.core
           ∙ ap (λ g. (state_after scenario g).rows) all;
       few_rows = c.in_ok-rows.ensures.few;
     }

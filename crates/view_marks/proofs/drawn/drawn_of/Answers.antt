@@ -1,10 +1,10 @@
 use Rattle.std.proofs.Common.{IfOk, List, subst}
 use Rattle.aps_model.specs.declared.entry.Entry.{Entry}
 use Rattle.aps_model.specs.Scenario.{Scenario}
-use Rattle.view_marks.specs.Drawn.{IsDrawn}
+use Rattle.view_marks.specs.Drawn.{IsDrawnHistory}
 use Rattle.view_marks.proofs.drawn.drawn_of.Goals as goal
 
 pub returns : goal.returns
 returns c =
-    subst (λ (s : Scenario). IfOk c.drawn_by.result (IsDrawn s c.args.history.now.entries)) c.scenario-scenario.ensures
-    (subst (λ (es : List Entry). IfOk c.drawn_by.result (IsDrawn c.scenario-scenario.result.now es)) c.entries-entries.ensures.same c.drawn_by.ensures)
+    subst (λ (s : Scenario). IfOk c.drawn_by.result (IsDrawnHistory s c.args.history.now.entries)) c.scenario-scenario.ensures
+    (subst (λ (es : List Entry). IfOk c.drawn_by.result (IsDrawnHistory c.scenario-scenario.result.now es)) c.entries-entries.ensures.same c.drawn_by.ensures)

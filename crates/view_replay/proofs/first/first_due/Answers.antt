@@ -5,7 +5,7 @@ use Rattle.aps_model.specs.History.{History}
 use Rattle.aps_model.specs.Scenario.{Scenario}
 use Rattle.laws_runs.proofs.Counts.{counts_law}
 use Rattle.laws_runs.proofs.Turns.{any_turn, one_turn}
-use Rattle.aps_core.specs.Run.{state_of}
+use Rattle.aps_core.specs.Run.{state_of_run}
 use Rattle.aps_core.proofs.FirstDue.{first_sooner, first_stays}
 use Rattle.view_replay.proofs.first.first_due.Goals as goal
 use Rattle.view_replay.proofs.first.first_due.Goals.{then-due-least, else-due-least}
@@ -16,7 +16,7 @@ loop-c-init c =
     let some = c.history.ensures.valid.shape.some_cpu in
     let zero = c.at-first.ensures in
     record {
-      same = first_stays (state_of run) run.entries 0 c.at-first.result c.due-least.result c.at-first.result c.due-least.result zero c.due-least.ensures zero c.due-least.ensures (omega arith);
+      same = first_stays (state_of_run run) run.entries 0 c.at-first.result c.due-least.result c.at-first.result c.due-least.result zero c.due-least.ensures zero c.due-least.ensures (omega arith);
       within = omega (arith, zero, some);
       least = c.due-least.ensures;
     }
@@ -24,7 +24,7 @@ loop-c-init c =
 pub loop-c-preserved : goal.loop-c-preserved
 loop-c-preserved c =
     let run = c.args.core.now in
-    let s = state_of run in
+    let s = state_of_run run in
     let h = run.entries in
     let l = c.loop-c in
     let cpus = ap (λ (x : Shape). x.cpus) (c.shape.ensures.same ∙ ap (λ (x : Scenario). x.shape) (c.scenario.ensures ∙ ap (λ (k : History). k.scenario) c.history.ensures.same)) in
@@ -43,7 +43,7 @@ loop-c-preserved c =
     ]
 
 -- the lowest of all
-lowest : (c : goal.After-loop-c) → c.loop-c.first ≡ first_due (state_of c.args.core.now) c.args.core.now.entries (state_of c.args.core.now).shape.cpus
+lowest : (c : goal.After-loop-c) → c.loop-c.first ≡ first_due (state_of_run c.args.core.now) c.args.core.now.entries (state_of_run c.args.core.now).shape.cpus
 lowest c =
     let run = c.args.core.now in
     let valid = c.history.ensures.valid in
@@ -54,7 +54,7 @@ lowest c =
     let least : 1 ≤ c.from-c-end.result = omega (arith, some, cpus, end) in
     let within = c.loop-c.auto.c-end least in
     let past = c.loop-c-test.false in
-    c.loop-c.invariant.same ∙ ap (first_due (state_of run) run.entries) (omega (arith, within, past, end, cpus, sizes))
+    c.loop-c.invariant.same ∙ ap (first_due (state_of_run run) run.entries) (omega (arith, within, past, end, cpus, sizes))
 
 pub returns-clause-same : goal.returns-clause-same
 returns-clause-same c = lowest c
@@ -62,7 +62,7 @@ returns-clause-same c = lowest c
 pub returns-clause-turn : goal.returns-clause-turn
 returns-clause-turn c =
     let run = c.args.core.now in
-    let s = state_of run in
+    let s = state_of_run run in
     let valid = c.history.ensures.valid in
     let sizes = (counts_law run.setup.scenario run.setup.order run.entries valid c.history.ensures.legal).sizes.cpus in
     let some = valid.shape.some_cpu in

@@ -1,7 +1,7 @@
 use Rattle.std.proofs.Common.{◌≡◌, arith, length, ap}
 use Rattle.aps_model.specs.History.{History}
 use Rattle.laws_runs.proofs.Counts.{counts_law}
-use Rattle.aps_core.specs.Run.{history_of}
+use Rattle.aps_core.specs.Run.{history_of_run}
 use Rattle.view_replay.proofs.Limits.{below_limit}
 use Rattle.view_replay.proofs.Next.{IsNextEntry, next_entry}
 use Rattle.view_replay.proofs.turn.take_turn.Goals as goal
@@ -30,7 +30,7 @@ returns-clause-entry c = (next c).fits
 
 pub returns-clause-room : goal.returns-clause-room
 returns-clause-room c =
-    let told : c.history.result.now ≡ history_of c.args.core.now = c.history.ensures.same in
+    let told : c.history.result.now ≡ history_of_run c.args.core.now = c.history.ensures.same in
     let fits = c.entries-entries.ensures.keeps.entries_fit in
     let entries = ap (λ (h : History). length h.entries) told in
     let room = ap (λ (h : History). h.room.entries) told in

@@ -2,7 +2,7 @@ use Rattle.std.proofs.Common.{◌<◌, ◌∙◌, List, ap, sym, subst, arith}
 use Rattle.std.proofs.lemmas.List.{take_all}
 use Rattle.aps_model.specs.declared.entry.Entry.{Entry}
 use Rattle.aps_core.specs.Run.{Run}
-use Rattle.aps_core.specs.Turn.{IsTaken}
+use Rattle.aps_core.specs.Turn.{IsTurnTaken}
 use Rattle.view_samples.proofs.Retraced.{front_more, next_exists, next_taken}
 use Rattle.view_samples.proofs.retracing.retrace_all.Goals as goal
 
@@ -20,7 +20,7 @@ retrace-requires-clause-exists c =
 pub retrace-requires-clause-taken : goal.retrace-requires-clause-taken
 retrace-requires-clause-taken c =
     let setup = c.args.core.now.setup in
-    subst (λ (run : Run). IsTaken run c.e-item.result.cpu c.e-item.result) (sym c.loop-e.invariant)
+    subst (λ (run : Run). IsTurnTaken run c.e-item.result.cpu c.e-item.result) (sym c.loop-e.invariant)
     (next_taken setup.scenario setup.order setup.limit c.args.entries.now c.loop-e.e-index c.e-item.result c.requires.legal c.loop-e-test.true (sym c.e-item.is) c.requires.few)
 
 pub loop-e-preserved : goal.loop-e-preserved

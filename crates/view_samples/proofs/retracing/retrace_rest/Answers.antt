@@ -2,7 +2,7 @@ use Rattle.std.proofs.Common.{◌<◌, ◌∙◌, List, ap, sym, subst, arith}
 use Rattle.std.proofs.lemmas.List.{take_all}
 use Rattle.aps_model.specs.declared.entry.Entry.{Entry}
 use Rattle.aps_core.specs.Run.{Run}
-use Rattle.aps_core.specs.Turn.{IsTaken}
+use Rattle.aps_core.specs.Turn.{IsTurnTaken}
 use Rattle.view_samples.proofs.Retraced.{front_more, next_exists, next_taken}
 use Rattle.view_samples.proofs.retracing.retrace_rest.Goals as goal
 
@@ -20,7 +20,7 @@ retrace-requires-clause-exists c =
 pub retrace-requires-clause-taken : goal.retrace-requires-clause-taken
 retrace-requires-clause-taken c =
     let setup = c.args.core.now.setup in
-    subst (λ (run : Run). IsTaken run c.index-entries-i.result.cpu c.index-entries-i.result) (sym c.loop-i.invariant.core)
+    subst (λ (run : Run). IsTurnTaken run c.index-entries-i.result.cpu c.index-entries-i.result) (sym c.loop-i.invariant.core)
     (next_taken setup.scenario setup.order setup.limit c.args.entries.now c.loop-i.i c.index-entries-i.result c.requires.legal c.loop-i-test.true (sym c.index-entries-i.is) c.requires.few)
 
 pub loop-i-preserved : goal.loop-i-preserved

@@ -1,5 +1,5 @@
 use Rattle.std.proofs.Common.{◌≡◌, ◌∙◌, IfOk, subst}
-use Rattle.aps_core.specs.Run.{Run, state_of}
+use Rattle.aps_core.specs.Run.{Run, state_of_run}
 use Rattle.view_samples.specs.Retraced.{start_of}
 use Rattle.view_samples.proofs.retracing.rows_after.Goals as goal
 
@@ -9,4 +9,4 @@ returns-clause-same c =
     let end : Run = record { setup = (start_of h c.args.order).setup; entries = h.entries } in
     let core : c.retrace_all.new.core ≡ end =
     c.retrace_all.ensures ∙ (λ i. record { setup = (c.in_ok-core.ensures.same i).setup; entries = c.entries.ensures.same i }) in
-    subst (λ (r : Run). IfOk c.rows_of.result (λ rows. rows.items ≡ (state_of r).rows)) core c.rows_of.ensures.same
+    subst (λ (r : Run). IfOk c.rows_of.result (λ rows. rows.items ≡ (state_of_run r).rows)) core c.rows_of.ensures.same

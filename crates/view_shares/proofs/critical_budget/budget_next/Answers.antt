@@ -5,7 +5,7 @@ use Rattle.aps_model.specs.History.{History}
 use Rattle.aps_model.specs.SchedulerState.{SchedulerState, cpu_at}
 use Rattle.laws_runs.specs.Moments.{moment}
 use Rattle.laws_runs.proofs.Counts.{counts_law}
-use Rattle.aps_core.specs.Run.{history_of, state_of}
+use Rattle.aps_core.specs.Run.{history_of_run, state_of_run}
 use Rattle.view_shares.specs.CriticalBudget.{begins_tick, critical_on}
 use Rattle.view_replay.specs.Entry.{entry_of}
 use Rattle.view_replay.proofs.Next.{next_due}
@@ -22,8 +22,8 @@ returns-then-begins_tick c =
     let ran = who_ran core.setup.scenario core.setup.order core.entries e c.args.cpu c.history-history.ensures.valid now.legal now.own in
     let at : c.due-moment.result ≡ e.to = c.due-moment.ensures ∙ sym now.to in
     let to = c.due-moment.result in
-    let s : SchedulerState = state_of core in
-    let told : c.history-history.result.now ≡ history_of core = c.history-history.ensures.same in
+    let s : SchedulerState = state_of_run core in
+    let told : c.history-history.result.now ≡ history_of_run core = c.history-history.ensures.same in
     let names : critical_on (cpu_at s c.args.cpu).running ≡ Some c.in-Some.p = ap (λ (x : CpuNow). critical_on x.running) (sym c.cpu.ensures) ∙ sym c.critical_on.ensures ∙ c.in-Some.is in
     let shape : c.shape.result.now ≡ s.shape = c.shape.ensures.same ∙ ap (λ (h : History). h.shape) told in
     let other : c.shape-then-begins_tick.result.now ≡ s.shape = c.shape-then-begins_tick.ensures.same ∙ ap (λ (h : History). h.shape) told in
@@ -44,8 +44,8 @@ returns c =
     let ran = who_ran core.setup.scenario core.setup.order core.entries e c.args.cpu c.history-history.ensures.valid now.legal now.own in
     let at : c.due-moment.result ≡ e.to = c.due-moment.ensures ∙ sym now.to in
     let to = c.due-moment.result in
-    let s : SchedulerState = state_of core in
-    let told : c.history-history.result.now ≡ history_of core = c.history-history.ensures.same in
+    let s : SchedulerState = state_of_run core in
+    let told : c.history-history.result.now ≡ history_of_run core = c.history-history.ensures.same in
     let names : critical_on (cpu_at s c.args.cpu).running ≡ Some c.in-Some.p = ap (λ (x : CpuNow). critical_on x.running) (sym c.cpu.ensures) ∙ sym c.critical_on.ensures ∙ c.in-Some.is in
     let rows = c.rows.ensures.same ∙ ap (λ (h : History). h.rows) told in
     let shape = c.shape-2.ensures.same ∙ ap (λ (h : History). h.shape) told in
@@ -67,7 +67,7 @@ returns-in_default c =
     let e = entry_of core c.args.cpu in
     let now = next_due core c.args.cpu c.history-history.ensures.valid c.history-history.ensures.legal c.requires.goes_on c.requires.turn in
     let ran = who_ran core.setup.scenario core.setup.order core.entries e c.args.cpu c.history-history.ensures.valid now.legal now.own in
-    none_foretold core.setup.scenario core.entries e (cpu_at (state_of core) c.args.cpu).running ran (ap (λ (x : CpuNow). critical_on x.running) (sym c.cpu.ensures) ∙ sym c.critical_on.ensures ∙ c.in_default.is)
+    none_foretold core.setup.scenario core.entries e (cpu_at (state_of_run core) c.args.cpu).running ran (ap (λ (x : CpuNow). critical_on x.running) (sym c.cpu.ensures) ∙ sym c.critical_on.ensures ∙ c.in_default.is)
 
 pub due-moment-requires : goal.due-moment-requires
 due-moment-requires c =

@@ -1,10 +1,10 @@
 use Rattle.std.proofs.Common.{◌≡◌, ◌-◌, length}
-use Rattle.view_shares.specs.Overspending.{IsAt}
+use Rattle.view_shares.specs.Overspending.{PassFollowsCore}
 use Rattle.view_shares.proofs.running.spend_run.Given as goal
 
 abbrev pub invariant-loop-alloc : goal.invariant-loop-alloc
 invariant-loop-alloc l = record {
-  at : IsAt l.pass;
+  at : PassFollowsCore l.pass;
   setup : l.pass.core.setup ≡ l.fn.core.setup;
 }
 

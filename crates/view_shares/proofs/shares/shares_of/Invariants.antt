@@ -1,12 +1,12 @@
 use Rattle.std.proofs.Common.{◌≡◌}
-use Rattle.view_samples.specs.Pass.{IsAt, scenario_of}
+use Rattle.view_samples.specs.Pass.{IsAtTickBegin, scenario_of_cursor}
 use Rattle.view_shares.specs.Shares.{AreUpTo}
 use Rattle.view_shares.proofs.shares.shares_of.Given as goal
 
 abbrev pub invariant-loop : goal.invariant-loop
 invariant-loop l = record {
   told : AreUpTo l.history.scenario l.history.entries l.counter l.shares;
-  at : IsAt l.history.entries l.samples;
-  of : scenario_of l.samples.cursor ≡ l.history.scenario;
+  at : IsAtTickBegin l.history.entries l.samples;
+  of : scenario_of_cursor l.samples.cursor ≡ l.history.scenario;
   tick : l.samples.tick ≡ l.counter;
 }

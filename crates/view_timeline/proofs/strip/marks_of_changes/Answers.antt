@@ -2,7 +2,7 @@ use Rattle.std.proofs.Common.{◌+◌, ℕ, List, ap, arith, map, subst, sym, �
 use Rattle.std.proofs.lemmas.List.{get_or-map, length-map}
 use Rattle.view_marks.specs.declared.alteration.Alteration.{Alteration}
 use Rattle.view_timeline.specs.declared.mark.Mark.{Mark}
-use Rattle.view_timeline.specs.Strip.{Drawn, all_drawn, with_moment}
+use Rattle.view_timeline.specs.Strip.{DrawnMark, all_drawn, with_moment}
 use Rattle.view_timeline.proofs.Marked.{AreSoFar, all_so_far, more_so_far, none_so_far}
 use Rattle.view_timeline.proofs.strip.marks_of_changes.Goals as goal
 
@@ -28,7 +28,7 @@ loop-i-preserved c =
     let within = c.loop-i-test.true in
     let count = length-map c.args.alterations.now moment_of in
     let before = all_drawn c.loop-i.marks.items in
-    subst (λ (marks : List Drawn). AreSoFar from to moments (i + 1) marks)
+    subst (λ (marks : List DrawnMark). AreSoFar from to moments (i + 1) marks)
     (ap (λ moment. with_moment from to before moment i) (get_or-map moment_of c.args.alterations.now i one (moment_of one) within ∙ ap moment_of (sym c.index-alterations-i.is)) ∙ sym c.in_ok-add_moment.ensures)
     (more_so_far from to moments i (moment_of one) before (omega (arith, within, count)) c.loop-i.invariant)
 

@@ -2,7 +2,7 @@ use Rattle.std.proofs.Common.{◌<◌, ◌∙◌, List, ap, arith, subst, sym}
 use Rattle.std.proofs.lemmas.List.{take_all}
 use Rattle.aps_model.specs.declared.entry.Entry.{Entry}
 use Rattle.aps_core.specs.Run.{Run}
-use Rattle.aps_core.specs.Turn.{IsTaken}
+use Rattle.aps_core.specs.Turn.{IsTurnTaken}
 use Rattle.view_lives.proofs.Retraced.{front_more, next_exists}
 use Rattle.view_top.proofs.Retraced.{next_taken}
 use Rattle.view_top.proofs.viewing.retrace.Goals as goal
@@ -21,7 +21,7 @@ step-requires-clause-exists c =
 
 pub step-requires-clause-taken : goal.step-requires-clause-taken
 step-requires-clause-taken c =
-    subst (λ (run : Run). IsTaken run c.entry-item.result.cpu c.entry-item.result) (sym c.loop-entry.invariant)
+    subst (λ (run : Run). IsTurnTaken run c.entry-item.result.cpu c.entry-item.result) (sym c.loop-entry.invariant)
     (next_taken c.args.core.now.setup c.args.entries.now c.loop-entry.entry-index c.entry-item.result c.requires.sound c.loop-entry-test.true (sym c.entry-item.is))
 
 pub loop-entry-preserved : goal.loop-entry-preserved

@@ -4,7 +4,7 @@ use Rattle.std.proofs.Common.{◌≤◌, ◌+◌}
 use Rattle.view_trace_events.proofs.Pieces.{as_other}
 use Rattle.view_trace_events.proofs.ArrowCounts.{arrows_more, one_number_more}
 use Rattle.view_trace_events.proofs.Told.{told_both, told_item, told_same}
-use Rattle.view_trace_events.specs.Arrows.{Arrows, entry_events, number_after}
+use Rattle.view_trace_events.specs.Arrows.{Arrows, entry_events, arrow_number_after}
 use Rattle.view_trace_events.proofs.arrows.write_arrows.Goals as goal
 
 pub loop-e-preserved : goal.loop-e-preserved
@@ -17,6 +17,6 @@ loop-e-preserved g c =
           (told_both _ _ _ _ _ _ _ _ c.loop-e.invariant.told
           (told_item _ _ _ _ _ _ (as_other (λ n. entry_events threads n e) _ _ _ _ c.in_ok-count.ensures.text c.loop-e.invariant.next) c.in_ok-make_room.ensures.told));
       later = omega arith;
-      next = c.in_ok-count.ensures.next ∙ ap (λ n. number_after n e) c.loop-e.invariant.next ∙ sym (ap (λ (arrows : Arrows). arrows.next) more);
+      next = c.in_ok-count.ensures.next ∙ ap (λ n. arrow_number_after n e) c.loop-e.invariant.next ∙ sym (ap (λ (arrows : Arrows). arrows.next) more);
       few = subst (λ n. n ≤ c.loop-e.e-index + 1) (sym c.in_ok-count.ensures.next) (one_number_more c.loop-e.count c.loop-e.e-index (arrow_of e) c.loop-e.invariant.few);
     }

@@ -1,6 +1,6 @@
 use Rattle.std.proofs.Common.{◌+◌}
 use Rattle.view_trace_events.proofs.Pieces.{as_other, four, on_ok}
-use Rattle.view_value_changes.specs.Signals.{amount_signals, bit_signals, end_line, module_line}
+use Rattle.view_value_changes.specs.Signals.{amount_signals, bit_signals, scope_end_line, module_line}
 use Rattle.view_value_changes.proofs.signals.add_partition.Goals as goal
 
 pub returns : goal.returns
@@ -8,6 +8,6 @@ returns c =
     let first = c.args.first in
     on_ok c.add_end.result
     (λ last.
-    four _ _ _ _ _ (module_line c.args.name.now) (amount_signals first) (bit_signals (first + 3)) end_line
+    four _ _ _ _ _ (module_line c.args.name.now) (amount_signals first) (bit_signals (first + 3)) scope_end_line
     (as_other module_line _ _ _ _ c.in_ok-add_module.ensures c.text_of.ensures) c.in_ok-add_amounts.ensures c.in_ok-add_bits.ensures last)
     c.add_end.ensures

@@ -1,5 +1,5 @@
 use Rattle.std.proofs.Common.{codes, Option, Ok, Err, subst, sym, ◌∙◌}
-use Rattle.aps_words.specs.Command.{Says}
+use Rattle.aps_words.specs.Command.{WordsMean}
 use Rattle.aps_words.proofs.Reading.{meant_unhyphened, refusal_says}
 use Rattle.view_words.specs.declared.asked.Asked.{Asked}
 use Rattle.view_words.specs.Asked.{explain, thread_options}
@@ -11,7 +11,7 @@ returns-in-Ok-clause-same c =
     let e = c.in-Ok.ensures in
     let read = meant_unhyphened (codes "apsview") thread_options explain explain_is_clapped _ c.args.words.now (Ok c.in-Ok.matches)
     c.in_ok-thread_options.ensures c.requires.plain e.taken e.rows e.refused in
-    subst (λ (said : Option Asked). Says c.said.result said) (c.explain_from.ensures.same ∙ sym read) c.said.ensures.same
+    subst (λ (said : Option Asked). WordsMean c.said.result said) (c.explain_from.ensures.same ∙ sym read) c.said.ensures.same
 
 pub returns-in-Err-clause-same : goal.returns-in-Err-clause-same
 returns-in-Err-clause-same c =

@@ -1,6 +1,6 @@
 use Rattle.std.proofs.Common.{◌≡◌, Some, None, IsSome, refl, subst, sym, ap, ◌∙◌, arith}
 use Rattle.aps_model.specs.Inherit.{client_of}
-use Rattle.aps_channel.specs.Channels.{replied}
+use Rattle.aps_channel.specs.Channels.{after_reply}
 use Rattle.aps_channel.proofs.Joined.{below_threads, calm_seen, replied_freed, triples_here}
 use Rattle.aps_channel.proofs.channels.Channels.reply.Goals as goal
 
@@ -22,11 +22,11 @@ invariant_of-self c =
 
 pub returns-in-None-clause-answer : goal.returns-in-None-clause-answer
 returns-in-None-clause-answer c =
-    sym (ap (λ o. (replied c.args.self.now c.args.by o).answer) (ap (λ ts. client_of ts c.args.by) (triples_here c.self.inside.waiting c.self.inside.receivers c.self.inside.serving c.args.self.now c.self.view_is) ∙ sym c.in-None.ensures))
+    sym (ap (λ o. (after_reply c.args.self.now c.args.by o).answer) (ap (λ ts. client_of ts c.args.by) (triples_here c.self.inside.waiting c.self.inside.receivers c.self.inside.serving c.args.self.now c.self.view_is) ∙ sym c.in-None.ensures))
 
 pub returns-in-None-clause-state : goal.returns-in-None-clause-state
 returns-in-None-clause-state c =
-    sym (ap (λ o. (replied c.args.self.now c.args.by o).state) (ap (λ ts. client_of ts c.args.by) (triples_here c.self.inside.waiting c.self.inside.receivers c.self.inside.serving c.args.self.now c.self.view_is) ∙ sym c.in-None.ensures))
+    sym (ap (λ o. (after_reply c.args.self.now c.args.by o).state) (ap (λ ts. client_of ts c.args.by) (triples_here c.self.inside.waiting c.self.inside.receivers c.self.inside.serving c.args.self.now c.self.view_is) ∙ sym c.in-None.ensures))
 
 pub returns-in-None-clause-calm : goal.returns-in-None-clause-calm
 returns-in-None-clause-calm c =
@@ -34,11 +34,11 @@ returns-in-None-clause-calm c =
 
 pub returns-in-Some-clause-answer : goal.returns-in-Some-clause-answer
 returns-in-Some-clause-answer c =
-    sym (ap (λ o. (replied c.args.self.now c.args.by o).answer) (ap (λ ts. client_of ts c.args.by) (triples_here c.self.inside.waiting c.self.inside.receivers c.self.inside.serving c.args.self.now c.self.view_is) ∙ sym c.in-Some.ensures))
+    sym (ap (λ o. (after_reply c.args.self.now c.args.by o).answer) (ap (λ ts. client_of ts c.args.by) (triples_here c.self.inside.waiting c.self.inside.receivers c.self.inside.serving c.args.self.now c.self.view_is) ∙ sym c.in-Some.ensures))
 
 pub returns-in-Some-clause-state : goal.returns-in-Some-clause-state
 returns-in-Some-clause-state c =
-    (replied_freed c.self.inside.waiting c.self.inside.receivers c.self.inside.serving c.end.new.self c.args.self.now c.args.by c.self.invariant c.self.view_is c.end.ensures).same ∙ sym (ap (λ o. (replied c.args.self.now c.args.by o).state) (ap (λ ts. client_of ts c.args.by) (triples_here c.self.inside.waiting c.self.inside.receivers c.self.inside.serving c.args.self.now c.self.view_is) ∙ sym c.in-Some.ensures))
+    (replied_freed c.self.inside.waiting c.self.inside.receivers c.self.inside.serving c.end.new.self c.args.self.now c.args.by c.self.invariant c.self.view_is c.end.ensures).same ∙ sym (ap (λ o. (after_reply c.args.self.now c.args.by o).state) (ap (λ ts. client_of ts c.args.by) (triples_here c.self.inside.waiting c.self.inside.receivers c.self.inside.serving c.args.self.now c.self.view_is) ∙ sym c.in-Some.ensures))
 
 pub returns-in-Some-clause-calm : goal.returns-in-Some-clause-calm
 returns-in-Some-clause-calm c =

@@ -1,6 +1,6 @@
 use Rattle.std.proofs.Common.{◌≡◌, Some, None, sym, ap, ◌∙◌, arith}
 use Rattle.aps_model.specs.Inherit.{client_of}
-use Rattle.aps_channel.specs.Channels.{sent}
+use Rattle.aps_channel.specs.Channels.{after_send}
 use Rattle.aps_channel.proofs.Joined.{below_lines, below_messages, below_threads, free_messages, front_stands, receiver_unheld, sent_blocked, sent_delivered}
 use Rattle.aps_channel.proofs.channels.Channels.send.Goals as goal
 
@@ -50,11 +50,11 @@ invariant_of-self-in-Some c =
 
 pub returns-in-None-clause-answer : goal.returns-in-None-clause-answer
 returns-in-None-clause-answer c =
-    sym (ap (λ rs. (sent c.args.self.now c.args.c c.args.from c.args.priority rs).answer) (sent_blocked c.self.inside.waiting c.push.new.self c.self.inside.receivers c.self.inside.serving c.args.self.now c.args.c c.index-line.result c.args.from c.args.priority c.self.invariant c.self.view_is c.index-line.ensures.same c.requires.channel c.in-None.ensures.same c.push.ensures).1)
+    sym (ap (λ rs. (after_send c.args.self.now c.args.c c.args.from c.args.priority rs).answer) (sent_blocked c.self.inside.waiting c.push.new.self c.self.inside.receivers c.self.inside.serving c.args.self.now c.args.c c.index-line.result c.args.from c.args.priority c.self.invariant c.self.view_is c.index-line.ensures.same c.requires.channel c.in-None.ensures.same c.push.ensures).1)
 
 pub returns-in-None-clause-state : goal.returns-in-None-clause-state
 returns-in-None-clause-state c =
-    (sent_blocked c.self.inside.waiting c.push.new.self c.self.inside.receivers c.self.inside.serving c.args.self.now c.args.c c.index-line.result c.args.from c.args.priority c.self.invariant c.self.view_is c.index-line.ensures.same c.requires.channel c.in-None.ensures.same c.push.ensures).0.same ∙ sym (ap (λ rs. (sent c.args.self.now c.args.c c.args.from c.args.priority rs).state) (sent_blocked c.self.inside.waiting c.push.new.self c.self.inside.receivers c.self.inside.serving c.args.self.now c.args.c c.index-line.result c.args.from c.args.priority c.self.invariant c.self.view_is c.index-line.ensures.same c.requires.channel c.in-None.ensures.same c.push.ensures).1)
+    (sent_blocked c.self.inside.waiting c.push.new.self c.self.inside.receivers c.self.inside.serving c.args.self.now c.args.c c.index-line.result c.args.from c.args.priority c.self.invariant c.self.view_is c.index-line.ensures.same c.requires.channel c.in-None.ensures.same c.push.ensures).0.same ∙ sym (ap (λ rs. (after_send c.args.self.now c.args.c c.args.from c.args.priority rs).state) (sent_blocked c.self.inside.waiting c.push.new.self c.self.inside.receivers c.self.inside.serving c.args.self.now c.args.c c.index-line.result c.args.from c.args.priority c.self.invariant c.self.view_is c.index-line.ensures.same c.requires.channel c.in-None.ensures.same c.push.ensures).1)
 
 pub returns-in-None-clause-calm : goal.returns-in-None-clause-calm
 returns-in-None-clause-calm c =
@@ -62,11 +62,11 @@ returns-in-None-clause-calm c =
 
 pub returns-in-Some-clause-answer : goal.returns-in-Some-clause-answer
 returns-in-Some-clause-answer c =
-    sym (ap (λ rs. (sent c.args.self.now c.args.c c.args.from c.args.priority rs).answer) (sent_delivered c.self.inside.waiting c.self.inside.receivers c.remove.new.self c.self.inside.serving c.begin.new.self c.args.self.now c.args.c c.index-line.result c.args.from c.in-Some.first c.at-server.result c.self.invariant c.self.view_is c.index-line.ensures.same c.at-server.ensures c.requires.channel c.in-Some.ensures.same c.in-Some.ensures.apart c.remove.ensures c.begin.ensures).receivers)
+    sym (ap (λ rs. (after_send c.args.self.now c.args.c c.args.from c.args.priority rs).answer) (sent_delivered c.self.inside.waiting c.self.inside.receivers c.remove.new.self c.self.inside.serving c.begin.new.self c.args.self.now c.args.c c.index-line.result c.args.from c.in-Some.first c.at-server.result c.self.invariant c.self.view_is c.index-line.ensures.same c.at-server.ensures c.requires.channel c.in-Some.ensures.same c.in-Some.ensures.apart c.remove.ensures c.begin.ensures).receivers)
 
 pub returns-in-Some-clause-state : goal.returns-in-Some-clause-state
 returns-in-Some-clause-state c =
-    (sent_delivered c.self.inside.waiting c.self.inside.receivers c.remove.new.self c.self.inside.serving c.begin.new.self c.args.self.now c.args.c c.index-line.result c.args.from c.in-Some.first c.at-server.result c.self.invariant c.self.view_is c.index-line.ensures.same c.at-server.ensures c.requires.channel c.in-Some.ensures.same c.in-Some.ensures.apart c.remove.ensures c.begin.ensures).seen.same ∙ sym (ap (λ rs. (sent c.args.self.now c.args.c c.args.from c.args.priority rs).state) (sent_delivered c.self.inside.waiting c.self.inside.receivers c.remove.new.self c.self.inside.serving c.begin.new.self c.args.self.now c.args.c c.index-line.result c.args.from c.in-Some.first c.at-server.result c.self.invariant c.self.view_is c.index-line.ensures.same c.at-server.ensures c.requires.channel c.in-Some.ensures.same c.in-Some.ensures.apart c.remove.ensures c.begin.ensures).receivers)
+    (sent_delivered c.self.inside.waiting c.self.inside.receivers c.remove.new.self c.self.inside.serving c.begin.new.self c.args.self.now c.args.c c.index-line.result c.args.from c.in-Some.first c.at-server.result c.self.invariant c.self.view_is c.index-line.ensures.same c.at-server.ensures c.requires.channel c.in-Some.ensures.same c.in-Some.ensures.apart c.remove.ensures c.begin.ensures).seen.same ∙ sym (ap (λ rs. (after_send c.args.self.now c.args.c c.args.from c.args.priority rs).state) (sent_delivered c.self.inside.waiting c.self.inside.receivers c.remove.new.self c.self.inside.serving c.begin.new.self c.args.self.now c.args.c c.index-line.result c.args.from c.in-Some.first c.at-server.result c.self.invariant c.self.view_is c.index-line.ensures.same c.at-server.ensures c.requires.channel c.in-Some.ensures.same c.in-Some.ensures.apart c.remove.ensures c.begin.ensures).receivers)
 
 pub returns-in-Some-clause-calm : goal.returns-in-Some-clause-calm
 returns-in-Some-clause-calm c =

@@ -1,5 +1,5 @@
 use Rattle.std.proofs.Common.{◌++◌, ◌∷◌, [], slice_set}
-use Rattle.aps_channel.specs.Lines.{line_at, with_line}
+use Rattle.aps_channel.specs.Lines.{queue_line_at, with_line}
 use Rattle.aps_channel.proofs.Ranks.{AreSeen, last_has_link, number_below, seen_pushed}
 use Rattle.aps_channel.proofs.lines.Lines.push_back.Goals as goal
 
@@ -13,7 +13,7 @@ link_behind-requires-clause-number c =
     number_below c.self.inside.links.items c.self.inside.ends.items c.args.self.now c.args.number c.self.view_is c.requires.number
 
 left : (c : goal.After-self-1) → AreSeen c.link_behind.new.links.items (slice_set c.self.inside.ends.items c.args.line c.with_last.result)
-    (with_line c.args.self.now c.args.line (line_at c.args.self.now.lines c.args.line ++ c.args.number ∷ []))
+    (with_line c.args.self.now c.args.line (queue_line_at c.args.self.now.lines c.args.line ++ c.args.number ∷ []))
 left c =
     seen_pushed c.self.inside.links.items c.link_behind.new.links.items c.self.inside.ends.items c.index-ends.result.now c.with_last.result c.args.line c.args.number c.args.self.now
     c.self.invariant c.self.view_is c.requires.line c.requires.number c.requires.free c.index-ends.ensures c.link_behind.ensures c.with_last.ensures

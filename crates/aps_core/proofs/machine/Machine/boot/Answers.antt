@@ -5,7 +5,7 @@ use Rattle.aps_model.specs.Limits.{most_threads}
 use Rattle.aps_model.specs.SchedulerState.{no_channel}
 use Rattle.aps_channel.specs.Channels.{Channels}
 use Rattle.aps_tree.specs.Tree.{Tree}
-use Rattle.aps_core.specs.Machine.{IsMachine}
+use Rattle.aps_core.specs.Machine.{IsCoreMachine}
 use Rattle.aps_core.proofs.Boot.{all_threads, machine_opening, opening_by_parts}
 use Rattle.aps_core.proofs.machine.Machine.boot.Goals as goal
 
@@ -24,7 +24,7 @@ returns c =
 
 pub invariant_of-result : goal.invariant_of-result
 invariant_of-result c =
-    subst (λ s. IsMachine s c.in_ok-channels.channels.threads c.in_ok-inherit.inherit c.in_ok-tree.tree.parts (vec_capacity c.in_ok-with_capacity.field-0) (vec_capacity c.in_ok-with_capacity-2.field-0)) (sym (returns c))
+    subst (λ s. IsCoreMachine s c.in_ok-channels.channels.threads c.in_ok-inherit.inherit c.in_ok-tree.tree.parts (vec_capacity c.in_ok-with_capacity.field-0) (vec_capacity c.in_ok-with_capacity-2.field-0)) (sym (returns c))
     (machine_opening c.args.scenario.now _ _ _ _ _ c.partitions.ensures.valid
     (all_threads c.args.scenario.now _ c.partitions.ensures.valid
     (ap (λ (k : Channels). k.threads) c.in_ok-channels.ensures ∙ ap (λ (rows : List ThreadRow). min (length rows) most_threads) c.threads.ensures.same))

@@ -1,6 +1,6 @@
 use Rattle.std.proofs.Common.{◌<◌, ◌/◌, ◌∙◌, ℕ, arith, length, subst, sym}
 use Rattle.aps_model.specs.Limits.{most_cpus}
-use Rattle.aps_core.specs.Lowest.{IsTold, lowest}
+use Rattle.aps_core.specs.Lowest.{IsFoundLowest, lowest}
 use Rattle.aps_core.proofs.FlagAfter.{least_told, least_within}
 use Rattle.aps_core.proofs.machine.Machine.lowest.Goals as goal
 
@@ -8,7 +8,7 @@ pub returns-clause-same : goal.returns-clause-same
 returns-clause-same c =
     let s = c.args.self.now in
     let found = lowest s c.args.entries.now c.args.parts.now c.args.c c.args.now s.shape.cpus in
-    subst (λ (k : ℕ). IsTold found k (c.least_key-least.result / most_cpus)) (sym (c.at.ensures ∙ c.from.ensures))
+    subst (λ (k : ℕ). IsFoundLowest found k (c.least_key-least.result / most_cpus)) (sym (c.at.ensures ∙ c.from.ensures))
     (least_told found s.shape.cpus c.least_key-least.result c.least_key-least.ensures.few c.least_key-least.ensures.least)
 
 pub returns-clause-within : goal.returns-clause-within

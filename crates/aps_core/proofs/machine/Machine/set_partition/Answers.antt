@@ -1,17 +1,17 @@
 use Rattle.std.proofs.Common.{◌∙◌, ap}
 use Rattle.aps_model.specs.declared.state.Facts.{Facts}
 use Rattle.aps_model.specs.SchedulerState.{SchedulerState, thread_at, with_own}
-use Rattle.aps_core.specs.MachineView.{state_of}
+use Rattle.aps_core.specs.MachineView.{state_of_machine}
 use Rattle.aps_core.proofs.Tasking.{one_each, told, told_machine}
 use Rattle.aps_core.proofs.machine.Machine.set_partition.Goals as goal
 
 pub returns : goal.returns
 returns c =
     let m = c.self.inside in
-    told (state_of m) m.tasks m.inherit c.join.new.self c.args.x (λ (own : Facts). record own { partition = c.args.partition }) (one_each (state_of m) m.tasks m.inherit.own _ m.inherit _ _ _ c.self.invariant) c.join.ensures
+    told (state_of_machine m) m.tasks m.inherit c.join.new.self c.args.x (λ (own : Facts). record own { partition = c.args.partition }) (one_each (state_of_machine m) m.tasks m.inherit.own _ m.inherit _ _ _ c.self.invariant) c.join.ensures
     ∙ ap (λ (s : SchedulerState). with_own s c.args.x (record (thread_at s c.args.x).own { partition = c.args.partition })) c.self.view_is
 
 pub invariant_of-self : goal.invariant_of-self
 invariant_of-self c =
     let m = c.self.inside in
-    told_machine (state_of m) m.tasks _ m.inherit c.join.new.self c.args.x _ _ _ _ c.self.invariant c.join.ensures
+    told_machine (state_of_machine m) m.tasks _ m.inherit c.join.new.self c.args.x _ _ _ _ c.self.invariant c.join.ensures

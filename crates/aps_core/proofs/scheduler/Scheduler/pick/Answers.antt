@@ -10,7 +10,7 @@ use Rattle.aps_core.specs.Seats.{seats_of}
 use Rattle.aps_core.proofs.FlagAfter.{picked_no_less}
 use Rattle.aps_core.proofs.NextDues.{chosen_count, others_chosen}
 use Rattle.aps_core.specs.Classes.{AreClasses}
-use Rattle.aps_core.specs.Kept.{IsKept}
+use Rattle.aps_core.specs.Kept.{KeepsFrame}
 use Rattle.aps_core.proofs.PickStep.{pick_by_parts}
 use Rattle.aps_core.proofs.Frame.{chosen_kept, flagged_kept, kept_then}
 use Rattle.aps_core.proofs.PostsStay.{posts_flagged, posts_picked, posts_raised}
@@ -86,7 +86,7 @@ returns-clause-posts c =
 
 pub returns-clause-kept : goal.returns-clause-kept
 returns-clause-kept c =
-    subst (IsKept c.args.self.now.machine) (sym c.flag.ensures)
+    subst (KeepsFrame c.args.self.now.machine) (sym c.flag.ensures)
     (kept_then
-    (subst (IsKept c.args.self.now.machine) (sym c.choose.ensures) (chosen_kept c.args.self.now.machine c.parts-parts.result.now c.args.cpu c.take_greatest-best.result))
+    (subst (KeepsFrame c.args.self.now.machine) (sym c.choose.ensures) (chosen_kept c.args.self.now.machine c.parts-parts.result.now c.args.cpu c.take_greatest-best.result))
     (flagged_kept c.choose.new.self c.args.e.now.to c.flag_after-flagged.result))

@@ -19,7 +19,7 @@ use Rattle.laws_runs.specs.Stamps.{IsStamped}
 use Rattle.aps_window.specs.Window.{Window, total_of}
 use Rattle.aps_core.specs.declared.scheduler.Scheduler.{Scheduler}
 use Rattle.aps_core.specs.Counts.{CanBill, Counts, parts_in}
-use Rattle.aps_core.specs.Kept.{IsKept}
+use Rattle.aps_core.specs.Kept.{KeepsFrame}
 use Rattle.aps_core.specs.LastEnds.{AreEnds}
 use Rattle.aps_core.specs.Pending.{IsPending}
 use Rattle.aps_core.specs.Posts.{ArePosts}
@@ -331,8 +331,8 @@ returns-then-is_over-clause-kept c calm =
 pub returns-clause-kept : goal.returns-clause-kept
 returns-clause-kept c calm =
     let both = neither c.begin_tick-commanded.result (nat_lt c.change_count-changes.result c.change_count.result) calm in
-    let settled : IsKept c.test-reboot.new.self c.settle-done.new.self =
-    subst (λ (x : Effect). IsKept c.test-reboot.new.self x.state) c.settle-done.ensures (settled_kept c.args.scenario.now c.test-reboot.new.self c.of-now.result c.begin-running.result) in
+    let settled : KeepsFrame c.test-reboot.new.self c.settle-done.new.self =
+    subst (λ (x : Effect). KeepsFrame c.test-reboot.new.self x.state) c.settle-done.ensures (settled_kept c.args.scenario.now c.test-reboot.new.self c.of-now.result c.begin-running.result) in
     kept_then
     (calm_kept c.args.self.now.machine c.args.entries.now c.args.cpu c.begin-running.result c.begin-running.new.self c.begin_tick-commanded.new.self.machine c.bill.new.self c.test-reboot.new.self c.bill_of-e.result c.test-reboot.result
     c.begin-running.ensures.same (c.begin_tick-commanded.ensures.kept both.0) c.bill.ensures c.test-reboot.ensures
@@ -341,8 +341,8 @@ returns-clause-kept c calm =
 
 pub returns-clause-stands : goal.returns-clause-stands
 returns-clause-stands c =
-    let settled : IsKept c.test-reboot.new.self c.settle-done.new.self =
-    subst (λ (x : Effect). IsKept c.test-reboot.new.self x.state) c.settle-done.ensures (settled_kept c.args.scenario.now c.test-reboot.new.self c.of-now.result c.begin-running.result) in
+    let settled : KeepsFrame c.test-reboot.new.self c.settle-done.new.self =
+    subst (λ (x : Effect). KeepsFrame c.test-reboot.new.self x.state) c.settle-done.ensures (settled_kept c.args.scenario.now c.test-reboot.new.self c.of-now.result c.begin-running.result) in
     let after = kept_then settled c.pick.ensures.kept in
     subst (λ (u : Scheduler). u.standing ≡ parts_in c.pick.new.self.machine.shape c.pick.new.self.machine.rows u.window) (sym c.pick.ensures.others)
     (c.stand_by.ensures.same ∙ (λ i. parts_in (sym after.shape i) (sym after.rows i) c.add_time.new.window))
@@ -396,8 +396,8 @@ returns-then-is_over-clause-timed c =
 
 pub time_done-requires-clause-count : goal.time_done-requires-clause-count
 time_done-requires-clause-count c =
-    let settled : IsKept c.test-reboot.new.self c.settle-done.new.self =
-    subst (λ (x : Effect). IsKept c.test-reboot.new.self x.state) c.settle-done.ensures (settled_kept c.args.scenario.now c.test-reboot.new.self c.of-now.result c.begin-running.result) in
+    let settled : KeepsFrame c.test-reboot.new.self c.settle-done.new.self =
+    subst (λ (x : Effect). KeepsFrame c.test-reboot.new.self x.state) c.settle-done.ensures (settled_kept c.args.scenario.now c.test-reboot.new.self c.of-now.result c.begin-running.result) in
     let timed =
     tested_timer c.begin_tick-commanded.new.self.machine c.bill.new.self c.test-reboot.new.self c.args.entries.now c.bill_of-e.result c.begin-running.result c.test-reboot.result c.begin_tick-commanded.new.self.timer
     c.begin_tick-commanded.ensures.timed c.bill.ensures c.test-reboot.ensures in

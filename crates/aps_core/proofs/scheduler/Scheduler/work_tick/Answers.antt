@@ -3,7 +3,7 @@ use Rattle.aps_model.specs.Inherit.{facts_of}
 use Rattle.aps_model.specs.SchedulerState.{SchedulerState}
 use Rattle.aps_ctl.specs.Pending.{all_at}
 use Rattle.aps_model.specs.TickWork.{wake_all}
-use Rattle.aps_core.specs.Kept.{IsKept}
+use Rattle.aps_core.specs.Kept.{KeepsFrame}
 use Rattle.aps_core.specs.Room.{HasRoomToWake, last_place, stamps_before}
 use Rattle.aps_core.specs.Seats.{seat_at}
 use Rattle.aps_core.specs.Sleepers.{sleepers_of}
@@ -73,8 +73,8 @@ returns-then-has_tick_work-clause-counts c =
 
 pub returns-then-has_tick_work-clause-kept : goal.returns-then-has_tick_work-clause-kept
 returns-then-has_tick_work-clause-kept c quiet =
-    subst (IsKept c.args.self.now.machine) (sym c.wake_all.ensures.same)
-    (subst (λ s. IsKept s (wake_all c.args.scenario.now c.args.now c.do_commands-commanded.new.self)) (c.do_commands-commanded.ensures.idle quiet).0
+    subst (KeepsFrame c.args.self.now.machine) (sym c.wake_all.ensures.same)
+    (subst (λ s. KeepsFrame s (wake_all c.args.scenario.now c.args.now c.do_commands-commanded.new.self)) (c.do_commands-commanded.ensures.idle quiet).0
     (wake_kept c.args.scenario.now c.args.now c.do_commands-commanded.new.self))
 
 pub returns-then-has_tick_work-clause-window : goal.returns-then-has_tick_work-clause-window

@@ -8,7 +8,7 @@ use Rattle.laws_runs.specs.Moments.{moment}
 use Rattle.laws_runs.proofs.MomentLaws.{last_own, moment-append}
 use Rattle.aps_core.specs.Core.{IsCoreWith}
 use Rattle.aps_core.specs.Counts.{Counts}
-use Rattle.aps_core.specs.CoreView.{run_of}
+use Rattle.aps_core.specs.CoreView.{run_of_core}
 use Rattle.aps_core.specs.LastEnds.{AreEnds}
 use Rattle.aps_core.specs.NextDues.{AreDues, dues_after}
 use Rattle.aps_core.specs.Pending.{IsPending}
@@ -29,7 +29,7 @@ step-made-requires-clause-ready c =
     let goes_on = subst (λ run. end_of_run run ≡ None) (sym c.self.view_is) c.requires.goes_on in
     let turn = subst (λ run. HasTurnIn run c.args.cpu) (sym c.self.view_is) c.requires.turn in
     rw (c.scenario.ensures, c.entries.ensures.same)
-    (ready_in (run_of c.self.inside) c.self.inside.history c.self.inside.scheduler.machine c.args.cpu c.self.invariant.core goes_on turn)
+    (ready_in (run_of_core c.self.inside) c.self.inside.history c.self.inside.scheduler.machine c.args.cpu c.self.invariant.core goes_on turn)
 
 pub step-made-requires-clause-rising : goal.step-made-requires-clause-rising
 step-made-requires-clause-rising c =
@@ -38,21 +38,21 @@ step-made-requires-clause-rising c =
 
 pub record-requires-clause-entry : goal.record-requires-clause-entry
 record-requires-clause-entry c =
-    entry_fits (run_of c.self.inside) c.self.inside.history c.self.inside.scheduler.machine c.args.cpu c.step-made.result.entry (record { state = c.step-made.new.self.machine; reboot = c.step-made.result.reboot }) c.self.invariant.core
+    entry_fits (run_of_core c.self.inside) c.self.inside.history c.self.inside.scheduler.machine c.args.cpu c.step-made.result.entry (record { state = c.step-made.new.self.machine; reboot = c.step-made.result.reboot }) c.self.invariant.core
     (subst (λ run. end_of_run run ≡ None) (sym c.self.view_is) c.requires.goes_on)
     (subst (λ run. HasTurnIn run c.args.cpu) (sym c.self.view_is) c.requires.turn)
     (step_read _ _ c.self.inside.scheduler.machine _ _ c.args.cpu _ c.scenario.ensures c.entries.ensures.same c.step-made.ensures.same)
 
 pub record-requires-clause-machine : goal.record-requires-clause-machine
 record-requires-clause-machine c =
-    can_record_in (run_of c.self.inside) c.self.inside.history c.self.inside.scheduler.machine c.args.cpu c.step-made.result.entry (record { state = c.step-made.new.self.machine; reboot = c.step-made.result.reboot }) c.self.invariant.core
+    can_record_in (run_of_core c.self.inside) c.self.inside.history c.self.inside.scheduler.machine c.args.cpu c.step-made.result.entry (record { state = c.step-made.new.self.machine; reboot = c.step-made.result.reboot }) c.self.invariant.core
     (subst (λ run. end_of_run run ≡ None) (sym c.self.view_is) c.requires.goes_on)
     (subst (λ run. HasTurnIn run c.args.cpu) (sym c.self.view_is) c.requires.turn)
     (step_read _ _ c.self.inside.scheduler.machine _ _ c.args.cpu _ c.scenario.ensures c.entries.ensures.same c.step-made.ensures.same)
 
 pub returns-clause-own : goal.returns-clause-own
 returns-clause-own c =
-    own_entry (run_of c.self.inside) c.self.inside.history c.self.inside.scheduler.machine c.args.cpu c.step-made.result.entry (record { state = c.step-made.new.self.machine; reboot = c.step-made.result.reboot }) c.self.invariant.core
+    own_entry (run_of_core c.self.inside) c.self.inside.history c.self.inside.scheduler.machine c.args.cpu c.step-made.result.entry (record { state = c.step-made.new.self.machine; reboot = c.step-made.result.reboot }) c.self.invariant.core
     (subst (λ run. end_of_run run ≡ None) (sym c.self.view_is) c.requires.goes_on)
     (subst (λ run. HasTurnIn run c.args.cpu) (sym c.self.view_is) c.requires.turn)
     (step_read _ _ c.self.inside.scheduler.machine _ _ c.args.cpu _ c.scenario.ensures c.entries.ensures.same c.step-made.ensures.same)
@@ -60,7 +60,7 @@ returns-clause-own c =
 pub returns-clause-fed : goal.returns-clause-fed
 returns-clause-fed c =
     subst (λ run. IsFed run (Took c.step-made.result.entry)) c.self.view_is
-    (fed_in (run_of c.self.inside) c.self.inside.history c.self.inside.scheduler.machine c.args.cpu c.step-made.result.entry (record { state = c.step-made.new.self.machine; reboot = c.step-made.result.reboot }) c.self.invariant.core
+    (fed_in (run_of_core c.self.inside) c.self.inside.history c.self.inside.scheduler.machine c.args.cpu c.step-made.result.entry (record { state = c.step-made.new.self.machine; reboot = c.step-made.result.reboot }) c.self.invariant.core
     (subst (λ run. end_of_run run ≡ None) (sym c.self.view_is) c.requires.goes_on)
     (subst (λ run. HasTurnIn run c.args.cpu) (sym c.self.view_is) c.requires.turn)
     (step_read _ _ c.self.inside.scheduler.machine _ _ c.args.cpu _ c.scenario.ensures c.entries.ensures.same c.step-made.ensures.same))
@@ -91,13 +91,13 @@ set_due-requires-clause-at_hand c =
 pub record-requires-clause-cpu : goal.record-requires-clause-cpu
 record-requires-clause-cpu c =
     let own =
-    own_entry (run_of c.self.inside) c.self.inside.history c.self.inside.scheduler.machine c.args.cpu c.step-made.result.entry (record { state = c.step-made.new.self.machine; reboot = c.step-made.result.reboot })
+    own_entry (run_of_core c.self.inside) c.self.inside.history c.self.inside.scheduler.machine c.args.cpu c.step-made.result.entry (record { state = c.step-made.new.self.machine; reboot = c.step-made.result.reboot })
     c.self.invariant.core
     (subst (λ run. end_of_run run ≡ None) (sym c.self.view_is) c.requires.goes_on)
     (subst (λ run. HasTurnIn run c.args.cpu) (sym c.self.view_is) c.requires.turn)
     (step_read _ _ c.self.inside.scheduler.machine _ _ c.args.cpu _ c.scenario.ensures c.entries.ensures.same c.step-made.ensures.same) in
     let within =
-    own_within (run_of c.self.inside) c.self.inside.history c.self.inside.scheduler.machine c.args.cpu c.step-made.result.entry (record { state = c.step-made.new.self.machine; reboot = c.step-made.result.reboot })
+    own_within (run_of_core c.self.inside) c.self.inside.history c.self.inside.scheduler.machine c.args.cpu c.step-made.result.entry (record { state = c.step-made.new.self.machine; reboot = c.step-made.result.reboot })
     c.self.invariant.core
     (subst (λ run. end_of_run run ≡ None) (sym c.self.view_is) c.requires.goes_on)
     (subst (λ run. HasTurnIn run c.args.cpu) (sym c.self.view_is) c.requires.turn)
@@ -107,13 +107,13 @@ record-requires-clause-cpu c =
 pub set_due-requires-clause-cpu : goal.set_due-requires-clause-cpu
 set_due-requires-clause-cpu c =
     let own =
-    own_entry (run_of c.self.inside) c.self.inside.history c.self.inside.scheduler.machine c.args.cpu c.step-made.result.entry (record { state = c.step-made.new.self.machine; reboot = c.step-made.result.reboot })
+    own_entry (run_of_core c.self.inside) c.self.inside.history c.self.inside.scheduler.machine c.args.cpu c.step-made.result.entry (record { state = c.step-made.new.self.machine; reboot = c.step-made.result.reboot })
     c.self.invariant.core
     (subst (λ run. end_of_run run ≡ None) (sym c.self.view_is) c.requires.goes_on)
     (subst (λ run. HasTurnIn run c.args.cpu) (sym c.self.view_is) c.requires.turn)
     (step_read _ _ c.self.inside.scheduler.machine _ _ c.args.cpu _ c.scenario.ensures c.entries.ensures.same c.step-made.ensures.same) in
     let within =
-    own_within (run_of c.self.inside) c.self.inside.history c.self.inside.scheduler.machine c.args.cpu c.step-made.result.entry (record { state = c.step-made.new.self.machine; reboot = c.step-made.result.reboot })
+    own_within (run_of_core c.self.inside) c.self.inside.history c.self.inside.scheduler.machine c.args.cpu c.step-made.result.entry (record { state = c.step-made.new.self.machine; reboot = c.step-made.result.reboot })
     c.self.invariant.core
     (subst (λ run. end_of_run run ≡ None) (sym c.self.view_is) c.requires.goes_on)
     (subst (λ run. HasTurnIn run c.args.cpu) (sym c.self.view_is) c.requires.turn)
@@ -126,7 +126,7 @@ record-requires-clause-ends c =
 
 pub invariant_of-self : goal.invariant_of-self
 invariant_of-self c =
-    let run = run_of c.self.inside in
+    let run = run_of_core c.self.inside in
     let kept = c.self.inside.history in
     let h = kept.entries in
     let s = c.self.inside.scheduler in
@@ -177,4 +177,4 @@ invariant_of-self c =
     (record { core = core; after = subst (λ (k : History). IsSchedulerAfter k.scenario k.entries (record t { dues = dues_after t.dues e next })) (sym c.record.ensures) after })
 
 pub record-requires-clause-told : goal.record-requires-clause-told
-record-requires-clause-told c calm = told_in (run_of c.self.inside) c.self.inside.history c.self.inside.scheduler.machine c.step-made.new.self.machine c.self.invariant.core (c.step-made.ensures.kept calm)
+record-requires-clause-told c calm = told_in (run_of_core c.self.inside) c.self.inside.history c.self.inside.scheduler.machine c.step-made.new.self.machine c.self.invariant.core (c.step-made.ensures.kept calm)

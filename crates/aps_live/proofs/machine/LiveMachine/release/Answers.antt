@@ -1,6 +1,6 @@
 use Rattle.std.proofs.Common.{◌≡◌, ℕ, ◌<◌, ◌∙◌, ap, sym, subst, subst₂, Some, None, false, List, Option, length, slice_index_or, slice_set, arith}
 use Rattle.std.specs.Prelude.{All}
-use Rattle.aps_ready.specs.Ready.{IsFree}
+use Rattle.aps_ready.specs.Ready.{IsStampFree}
 use Rattle.aps_model.specs.declared.state.Pick.{Pick}
 use Rattle.aps_live.specs.declared.thread.LiveThread.{LiveThread}
 use Rattle.aps_live.specs.LiveState.{LiveState, no_live_thread}
@@ -26,7 +26,7 @@ seat-requires-clause-stamp c =
     let r = c.self.invariant.runs c.args.cpu c.in-Some.pick (has_pick c.self.inside.cpus.items c.index.result c.args.cpu c.index-2.result.now c.in-Some.pick there c.index.ensures.same c.index-2.ensures c.in-Some.is) in
     let seen = read_at threads c.index-in-Some-2.result c.in-Some.pick.thread c.index-in-Some-3.result.now no_live_thread r.inside c.index-in-Some-2.ensures.same c.index-in-Some-3.ensures in
     let out : is_waking (slice_index_or threads c.in-Some.pick.thread no_live_thread).doing ≡ false = ap is_waking r.running in
-    subst (All (IsFree c.index-in-Some-3.result.now.contender.stamp)) (sym c.self.invariant.row)
+    subst (All (IsStampFree c.index-in-Some-3.result.now.contender.stamp)) (sym c.self.invariant.row)
     (free_own threads c.self.inside.stamps c.in-Some.pick.thread c.index-in-Some-3.result.now.contender.stamp c.self.invariant.numbered r.inside out (ap (λ (t : LiveThread). t.contender.stamp) seen))
 
 pub invariant_of-self : goal.invariant_of-self

@@ -1,6 +1,6 @@
 use Rattle.std.proofs.Common.{◌≡◌, ℕ, ◌<◌, ◌∙◌, ◌+◌, ap, sym, refl, subst, Some, None, false, true, List, length, slice_index_or, length-set, arith, ◌^◌, lit<}
 use Rattle.std.proofs.lemmas.List.{get_or_default}
-use Rattle.aps_ready.specs.Ready.{IsFree}
+use Rattle.aps_ready.specs.Ready.{IsStampFree}
 use Rattle.std.specs.Prelude.{All}
 use Rattle.aps_live.specs.declared.thread.LiveThread.{LiveThread}
 use Rattle.aps_live.specs.declared.thread.Doing.TheVariants.{Ready}
@@ -12,7 +12,7 @@ use Rattle.aps_live.proofs.machine.LiveMachine.wake_thread.Goals as goal
 pub seat-requires-clause-stamp : goal.seat-requires-clause-stamp
 seat-requires-clause-stamp c =
     let few : c.self.inside.stamps < 2 ^ 63 = let l = c.requires.room in omega (arith, l, ap (λ (s : LiveState). s.stamps) c.self.view_is) in
-    subst (All (IsFree c.self.inside.stamps)) (sym c.self.invariant.row) (free_new c.self.inside.threads.items c.self.inside.stamps c.self.inside.stamps c.self.invariant.numbered few refl)
+    subst (All (IsStampFree c.self.inside.stamps)) (sym c.self.invariant.row) (free_new c.self.inside.threads.items c.self.inside.stamps c.self.inside.stamps c.self.invariant.numbered few refl)
 
 pub invariant_of-self : goal.invariant_of-self
 invariant_of-self c =

@@ -1,5 +1,5 @@
 use Rattle.std.proofs.Common.{inl, inr}
-use Rattle.aps_levels.specs.Bits.{has}
+use Rattle.aps_levels.specs.Bits.{set_has}
 use Rattle.aps_ready.specs.Firsts.{firsts_of}
 use Rattle.aps_ready.proofs.Fewer.{fewer}
 use Rattle.aps_ready.proofs.Earliest.{best_of_one, best_of_more, all_seen}
@@ -10,20 +10,20 @@ use Rattle.aps_ready.specs.Group.{group_count}
 pub groups-init : goal.groups-init
 groups-init c =
     let least = c.in-Some.ensures.some in
-    best_of_one (firsts_of c.args.self.now) (has c.args.set) (has c.without_least-left.result) c.in-Some.start c.first-best.result least.below least.here
+    best_of_one (firsts_of c.args.self.now) (set_has c.args.set) (set_has c.without_least-left.result) c.in-Some.start c.first-best.result least.below least.here
     c.first-best.ensures (c.without_least-left.ensures c.in-Some.start least)
 
 pub groups-smaller : goal.groups-smaller
 groups-smaller c =
     let least = c.in-Some-least.ensures.some in
-    fewer (has c.groups.left) (has c.without_least-left-in-Some-least.result) c.in-Some-least.group group_count
+    fewer (set_has c.groups.left) (set_has c.without_least-left-in-Some-least.result) c.in-Some-least.group group_count
     (c.without_least-left-in-Some-least.ensures c.in-Some-least.group least) least.here least.below
 
 pub groups-preserved : goal.groups-preserved
 groups-preserved c =
     let group = c.in-Some-least.group in
     let least = c.in-Some-least.ensures.some in
-    best_of_more (firsts_of c.args.self.now) (has c.args.set) (has c.groups.left) (has c.without_least-left-in-Some-least.result) c.groups.best group
+    best_of_more (firsts_of c.args.self.now) (set_has c.args.set) (set_has c.groups.left) (set_has c.without_least-left-in-Some-least.result) c.groups.best group
     c.first-other.result c.if-other-best.best c.groups.invariant least.below least.here c.first-other.ensures
     (c.without_least-left-in-Some-least.ensures group least)
     (elim c.if-other-best.branch [
@@ -33,4 +33,4 @@ groups-preserved c =
 
 pub returns-clause-some : goal.returns-clause-some
 returns-clause-some c g below h =
-    all_seen (firsts_of c.args.self.now) (has c.args.set) (has c.groups.left) c.groups.best c.groups.invariant c.in_default-least.ensures.none
+    all_seen (firsts_of c.args.self.now) (set_has c.args.set) (set_has c.groups.left) c.groups.best c.groups.invariant c.in_default-least.ensures.none

@@ -3,7 +3,7 @@ use Rattle.std.proofs.lemmas.List.{set-set}
 use Rattle.std.specs.Option.{option_map}
 use Rattle.aps_model.specs.declared.merit.Contender.{Contender}
 use Rattle.aps_ready.specs.declared.entrant.Entrant.{Entrant}
-use Rattle.aps_ready.specs.Ready.{seat_of, with_facts, IsFree}
+use Rattle.aps_ready.specs.Ready.{entrant_seat, with_facts, IsStampFree}
 use Rattle.aps_ready.proofs.Queued.{place_in_row, seen_at, is_in, changed_seat, free_without}
 use Rattle.aps_ready.specs.Entrant.{entrant_at}
 use Rattle.aps_ready.proofs.ready.Ready.change.Goals as goal
@@ -19,7 +19,7 @@ put-requires-clause-stamp c =
     let within : i < length row = place_in_row row c.args.self.now c.args.x i c.self.view_is c.requires.inside c.index.ensures.same in
     let seen = seen_at row c.args.self.now c.args.x i c.self.view_is c.requires.inside c.index.ensures.same in
     let present : (entrant_at row i).group < group_count = is_in (entrant_at row i) (λ none. c.requires.present (sym seen ∙ none)) in
-    subst (All (IsFree c.at-stamp.result.stamp))
+    subst (All (IsStampFree c.at-stamp.result.stamp))
     (ap (λ (l : List (Option Contender)). set l i None) c.self.view_is ∙ ap (λ (j : ℕ). set c.args.self.now j None) c.index.ensures.same ∙ sym c.take.ensures)
     (free_without row i c.at-stamp.result.stamp c.self.invariant.0 within present (ap (λ (e : Entrant). e.stamp) c.at-stamp.ensures))
 
@@ -29,7 +29,7 @@ returns c =
     let old = c.args.self.now in
     let i = c.index.result in
     let within : i < length row = place_in_row row old c.args.x i c.self.view_is c.requires.inside c.index.ensures.same in
-    let seen : seat_of (entrant_at row i) ≡ slice_index_or old c.args.x None =
+    let seen : entrant_seat (entrant_at row i) ≡ slice_index_or old c.args.x None =
     seen_at row old c.args.x i c.self.view_is c.requires.inside c.index.ensures.same in
     let present : (entrant_at row i).group < group_count = is_in (entrant_at row i) (λ none. c.requires.present (sym seen ∙ none)) in
     let thread : (entrant_at row i).thread ≡ c.args.x = c.self.invariant.0.threads i within present ∙ c.index.ensures.same in

@@ -2,7 +2,7 @@ use Rattle.std.proofs.Common.{◌≡◌, ◌<◌, ℕ, Bool, List, Option, Some,
 use Rattle.aps_model.specs.declared.merit.Contender.{Contender}
 use Rattle.aps_model.specs.Limits.{most_partitions}
 use Rattle.aps_model.specs.Pick.{missing}
-use Rattle.aps_levels.specs.Bits.{has}
+use Rattle.aps_levels.specs.Bits.{set_has}
 use Rattle.aps_ready.specs.Ready.{members}
 use Rattle.aps_ready.proofs.Starved.{groups_occupied, starved_found, none_starved, not_past}
 use Rattle.aps_ready.proofs.ready.Ready.missing_by.Goals.{in_default-via-in-Some+else-p-lt-MOST_PARTITIONS, in_default-via-in_default}
@@ -30,9 +30,9 @@ returns-in-Some c parts are few =
 
 pub returns-in_default : goal.returns-in_default
 returns-in_default c parts are few =
-    let none : (k : ℕ) → k < most_partitions → has c.minus-starved.result k ≡ false = elim c.in_default.branch [
+    let none : (k : ℕ) → k < most_partitions → set_has c.minus-starved.result k ≡ false = elim c.in_default.branch [
       | in_default-via-in-Some+else-p-lt-MOST_PARTITIONS w ↦ λ k below.
-          absurd (clash (has c.minus-starved.result w.in-Some.p) w.in-Some.ensures.some.here
+          absurd (clash (set_has c.minus-starved.result w.in-Some.p) w.in-Some.ensures.some.here
           (not_past parts c.args.gates c.join-2.result c.minus-starved.result w.in-Some.p are w.in-Some.ensures.some.below
           w.if-p-lt-MOST_PARTITIONS.false c.minus-starved.ensures))
       | in_default-via-in_default w ↦ λ k below. w.in_default.ensures.none k

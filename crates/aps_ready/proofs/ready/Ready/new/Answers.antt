@@ -1,5 +1,5 @@
 use Rattle.std.proofs.Common.{◌∙◌, map, ap, sym, subst}
-use Rattle.aps_ready.specs.Ready.{seat_of, HasThreads, IsQueued}
+use Rattle.aps_ready.specs.Ready.{entrant_seat, HasThreads, IsQueued}
 use Rattle.aps_ready.proofs.Queued.{queued_replicate, replicate_seats, threads_replicate}
 use Rattle.aps_ready.proofs.ready.Ready.new.Goals as goal
 
@@ -11,4 +11,4 @@ invariant_of-result c =
     )
 
 pub returns : goal.returns
-returns c = ap (map seat_of) c.in_ok-lists.ensures ∙ replicate_seats c.args.threads
+returns c = ap (map entrant_seat) c.in_ok-lists.ensures ∙ replicate_seats c.args.threads

@@ -1,7 +1,7 @@
 use Rattle.std.proofs.Common.{◌≡◌, ◌<◌, ◌≤◌, ◌∙◌, length, ap, sym, subst, refl, arith}
 use Rattle.aps_ready.specs.declared.entrant.Entrant.{Entrant}
 use Rattle.aps_ready.specs.Entrant.{entrant_at}
-use Rattle.aps_ready.specs.Ready.{seat_of, HasThreads, IsQueued}
+use Rattle.aps_ready.specs.Ready.{entrant_seat, HasThreads, IsQueued}
 use Rattle.aps_ready.proofs.Queued.{seats_set, seen, seen_at, queued_set, threads_set, free_stamp, place_in_row, in_group, is_out}
 use Rattle.aps_ready.proofs.Rings.{within_row}
 use Rattle.aps_ready.proofs.ready.Ready.put.Goals as goal
@@ -48,4 +48,4 @@ returns c =
     let e = c.entrant_of in
     seats_set c.self.inside.lists c.args.self.now c.enter.new.self c.args.x e.result.thread e.result _
     c.self.view_is c.enter.ensures (ap (λ (f : Entrant). f.thread) e.ensures.same)
-    (ap seat_of e.ensures.same ∙ seen c.args.x c.args.facts c.args.stamp e.ensures.partition e.ensures.priority)
+    (ap entrant_seat e.ensures.same ∙ seen c.args.x c.args.facts c.args.stamp e.ensures.partition e.ensures.priority)

@@ -1,6 +1,6 @@
 use Rattle.std.proofs.Common.{◌∙◌, ap, not, ◌&&◌, nat_eq, List}
 use Rattle.aps_levels.specs.declared.bits.Bits64.{Bits64}
-use Rattle.aps_levels.specs.Bits.{has}
+use Rattle.aps_levels.specs.Bits.{set_has}
 use Rattle.aps_ready.specs.Table.{bits_at}
 use Rattle.aps_ready.proofs.TableLaws.{left}
 use Rattle.aps_ready.proofs.table.Table.leave.Goals as goal
@@ -18,4 +18,4 @@ invariant_of-self c =
 pub returns : goal.returns
 returns c l g below =
     c.remove_group.ensures.at l g
-    ∙ ap (λ (at : List Bits64). not (nat_eq l c.args.level && nat_eq g c.args.group) && has (bits_at at l) g) c.self.view_is
+    ∙ ap (λ (at : List Bits64). not (nat_eq l c.args.level && nat_eq g c.args.group) && set_has (bits_at at l) g) c.self.view_is

@@ -1,5 +1,5 @@
 use Rattle.std.proofs.Common.{◌≡◌, ◌<◌, ℕ, List, length, get_or, set, Option, None, Some, sym, subst, ◌∙◌, ap, arith}
-use Rattle.aps_timer.specs.Buckets.{AreKept, IsPlaced}
+use Rattle.aps_timer.specs.Buckets.{AreKept, IsSleeperPlaced}
 use Rattle.aps_timer.specs.Sleepers.{all_due}
 use Rattle.aps_timer.proofs.Due.{later_asleep}
 use Rattle.aps_timer.proofs.Kept.{kept_set}
@@ -9,7 +9,7 @@ pub put-requires : goal.put-requires
 put-requires c =
     let before = c.self.inside.buckets in
     let awake : get_or c.self.inside.row.items c.args.x None ≡ None = ap (λ (r : List (Option ℕ)). get_or r c.args.x None) c.self.view_is ∙ c.requires.awake in
-    subst (IsPlaced before.lines.items before.begin before.further c.args.x) awake (c.self.invariant.each c.args.x (omega arith))
+    subst (IsSleeperPlaced before.lines.items before.begin before.further c.args.x) awake (c.self.invariant.each c.args.x (omega arith))
 
 pub invariant_of-self : goal.invariant_of-self
 invariant_of-self c =

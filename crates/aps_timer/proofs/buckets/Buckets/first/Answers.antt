@@ -2,7 +2,7 @@ use Rattle.std.proofs.Common.{◌≡◌, inl, inr, ℕ, ◌≤◌, false, List, 
 use Rattle.aps_model.specs.Limits.{last_thread}
 use Rattle.aps_levels.specs.declared.bits.Bits64.{Bits64}
 use Rattle.aps_timer.specs.Buckets.{AreNear, IsFurther, IsNear}
-use Rattle.aps_timer.specs.Order.{goes_before}
+use Rattle.aps_timer.specs.Order.{wakes_before}
 use Rattle.aps_timer.specs.Sleepers.{SleepsUntil}
 use Rattle.aps_timer.proofs.Firsts.{before_neither, before_nor}
 use Rattle.aps_timer.proofs.Kept.{kept_near, kept_still, placed}
@@ -33,7 +33,7 @@ returns-clause-others c x until asleep came =
     let p : Option (ℕ × ℕ) = Some (until, x) in
     let before = c.args.self.now in
     let few = c.requires.few x until asleep in
-    subst (λ (o : Option (ℕ × ℕ)). goes_before (Some (until, x)) o ≡ false) (sym c.first_of.ensures)
+    subst (λ (o : Option (ℕ × ℕ)). wakes_before (Some (until, x)) o ≡ false) (sym c.first_of.ensures)
     (elim (placed c.args.row.now before.lines.items before.begin before.further x until c.requires asleep) [
       | inl is ↦
           before_neither p near late

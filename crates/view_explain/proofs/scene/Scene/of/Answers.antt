@@ -1,12 +1,12 @@
 use Rattle.std.proofs.Common.{◌/◌, ◌∙◌, ap}
-use Rattle.aps_core.specs.Run.{state_of}
+use Rattle.aps_core.specs.Run.{state_of_run}
 use Rattle.view_explain.specs.Past.{past_of}
 use Rattle.view_explain.proofs.Scenes.{parts_are}
 use Rattle.view_explain.proofs.scene.Scene.of.Goals as goal
 
 pub invariant_of-result : goal.invariant_of-result
 invariant_of-result c =
-    let at = c.tick_of-tick.ensures.same ∙ ap (λ m. m / (state_of c.args.core).shape.tick) c.requires.last in
+    let at = c.tick_of-tick.ensures.same ∙ ap (λ m. m / (state_of_run c.args.core).shape.tick) c.requires.last in
     record {
       tied = c.requires.tied;
       tick = at;

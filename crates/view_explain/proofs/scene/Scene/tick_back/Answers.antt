@@ -4,7 +4,7 @@ use Rattle.aps_model.specs.declared.shape.Shape.{Shape}
 use Rattle.aps_model.specs.Budget.{in_budget}
 use Rattle.aps_model.specs.Usage.{window_used}
 use Rattle.view_explain.specs.Again.{is_back}
-use Rattle.view_explain.specs.Past.{state_in, tick_in}
+use Rattle.view_explain.specs.Past.{state_of_past, tick_in}
 use Rattle.view_explain.proofs.Finding.{found, further}
 use Rattle.view_explain.proofs.scene.Scene.tick_back.Goals as goal
 
@@ -13,7 +13,7 @@ returns-then-is_back-clause-same c =
     let past = c.args.self.now in
     let p = c.args.p in
     let k = c.loop-k.k in
-    let s = (state_in past).shape in
+    let s = (state_of_past past).shape in
     let window : c.from.result ≡ s.window = c.from.ensures ∙ ap (λ (shape : Shape). shape.window) c.shape-shape.ensures.same in
     let first = c.tick-first.ensures.same in
     let test = c.loop-k-test.true in
@@ -30,7 +30,7 @@ loop-k-preserved c =
     let past = c.args.self.now in
     let p = c.args.p in
     let k = c.loop-k.k in
-    let s = (state_in past).shape in
+    let s = (state_of_past past).shape in
     let window : c.from.result ≡ s.window = c.from.ensures ∙ ap (λ (shape : Shape). shape.window) c.shape-shape.ensures.same in
     let first = c.tick-first.ensures.same in
     let test = c.loop-k-test.true in

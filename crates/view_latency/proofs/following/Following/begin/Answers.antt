@@ -3,7 +3,7 @@ use Rattle.aps_model.specs.declared.entry.Entry.{Entry}
 use Rattle.aps_model.specs.declared.scenario.ThreadRow.{ThreadRow}
 use Rattle.aps_model.specs.History.{History}
 use Rattle.aps_model.specs.Scenario.{Scenario}
-use Rattle.aps_core.specs.Run.{Run, state_of}
+use Rattle.aps_core.specs.Run.{Run, state_of_run}
 use Rattle.view_lives.proofs.Longer.{lives_none}
 use Rattle.view_latency.specs.declared.following.Following.{Following}
 use Rattle.view_latency.specs.Callers.{AreCallers}
@@ -25,8 +25,8 @@ returns c =
       lives = lives_none run.setup.scenario c.in_ok-unborn.field-0 (c.in_ok-unborn.ensures ∙ ap (λ n. replicate n []) count);
       calls = all_none run.setup.scenario c.in_ok-uncalled.field-0.items (c.in_ok-uncalled.ensures ∙ ap (λ n. replicate n no_calls) count);
       callers = subst (λ (s : Scenario). AreCallers s c.in_ok-callers.callers.items) same c.in_ok-callers.ensures;
-      seen = subst (λ h. AreSeen (state_of (whole h)) c.in_ok-callers.callers.items c.in_ok-seen.seen.items) c.requires.begins
-          (subst (λ l. AreSeen (state_of run) l c.in_ok-seen.seen.items) c.deref.ensures.value c.in_ok-seen.ensures);
+      seen = subst (λ h. AreSeen (state_of_run (whole h)) c.in_ok-callers.callers.items c.in_ok-seen.seen.items) c.requires.begins
+          (subst (λ l. AreSeen (state_of_run run) l c.in_ok-seen.seen.items) c.deref.ensures.value c.in_ok-seen.ensures);
       moment = refl;
     } in
     subst (λ h. IsBeside (whole h) all) (sym c.requires.begins) beside

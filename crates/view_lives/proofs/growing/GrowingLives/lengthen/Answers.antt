@@ -1,5 +1,5 @@
 use Rattle.std.proofs.Common.{◌∙◌, List, length, ap, sym, subst, arith}
-use Rattle.aps_core.specs.Run.{state_of}
+use Rattle.aps_core.specs.Run.{state_of_run}
 use Rattle.view_lives.specs.declared.life.Segment.{Segment}
 use Rattle.view_lives.specs.Growing.{all_told}
 use Rattle.view_lives.specs.Life.{AreLonger}
@@ -15,7 +15,7 @@ pass-requires-clause-few c =
 
 pub returns : goal.returns
 returns c =
-    let s = state_of c.args.core.now in
+    let s = state_of_run c.args.core.now in
     let inside = c.self.inside in
     let later = c.pass.new.lives.items in
     let later_aside = c.pass.new.aside.items in

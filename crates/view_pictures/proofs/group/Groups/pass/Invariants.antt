@@ -1,10 +1,10 @@
 use Rattle.std.proofs.Common.{◌≡◌}
-use Rattle.view_samples.specs.Pass.{IsAt, scenario_of}
+use Rattle.view_samples.specs.Pass.{IsAtTickBegin, scenario_of_cursor}
 use Rattle.view_pictures.proofs.group.Groups.pass.Given as goal
 
 abbrev pub invariant-loop-j : goal.invariant-loop-j
 invariant-loop-j l = record {
-  at : IsAt l.history.entries l.samples;
-  of : scenario_of l.samples.cursor ≡ l.history.scenario;
+  at : IsAtTickBegin l.history.entries l.samples;
+  of : scenario_of_cursor l.samples.cursor ≡ l.history.scenario;
   tick : l.samples.tick ≡ l.j;
 }

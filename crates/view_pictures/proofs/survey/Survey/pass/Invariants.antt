@@ -1,21 +1,21 @@
 use Rattle.std.proofs.Common.{◌≡◌, ◌-◌}
-use Rattle.view_samples.specs.Pass.{IsAt, scenario_of}
+use Rattle.view_samples.specs.Pass.{IsAtTickBegin, scenario_of_cursor}
 use Rattle.view_pictures.specs.Survey.{IsSurvey}
 use Rattle.view_pictures.proofs.survey.Survey.pass.Given as goal
 
 -- the pass has come so far
 abbrev pub invariant-skip : goal.invariant-skip
 invariant-skip l = record {
-  at : IsAt l.history.entries l.samples;
-  of : scenario_of l.samples.cursor ≡ l.history.scenario;
+  at : IsAtTickBegin l.history.entries l.samples;
+  of : scenario_of_cursor l.samples.cursor ≡ l.history.scenario;
   tick : l.samples.tick ≡ l.j;
 }
 
 -- and the survey tells of the ticks so far that are shown
 abbrev pub invariant-take : goal.invariant-take
 invariant-take l = record {
-  at : IsAt l.history.entries l.samples;
-  of : scenario_of l.samples.cursor ≡ l.history.scenario;
+  at : IsAtTickBegin l.history.entries l.samples;
+  of : scenario_of_cursor l.samples.cursor ≡ l.history.scenario;
   tick : l.samples.tick ≡ l.j;
   told : IsSurvey l.history.scenario l.history.entries l.sizes l.fn.range.from (l.j - l.fn.range.from) l.self;
 }

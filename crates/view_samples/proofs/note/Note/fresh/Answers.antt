@@ -6,7 +6,7 @@ use Rattle.aps_model.specs.Audit.{allowance}
 use Rattle.aps_model.specs.History.{History}
 use Rattle.aps_model.specs.Limits.{most_partitions}
 use Rattle.aps_model.specs.Partition.{row_or_none}
-use Rattle.aps_core.specs.Run.{state_of}
+use Rattle.aps_core.specs.Run.{state_of_run}
 use Rattle.view_samples.proofs.note.Note.fresh.Goals as goal
 
 pub returns : goal.returns
@@ -18,7 +18,7 @@ returns c =
         window = ap (λ (s : Shape). s.window) shape;
         allowance = λ p less.
             c.allowances.ensures p less ∙ ap (λ (s : Shape). allowance s (row_or_none c.rows.result.now p).budget) shape
-            ∙ ap (λ (l : List PartitionRow). allowance (state_of c.args.core.now).shape (row_or_none l p).budget) rows;
+            ∙ ap (λ (l : List PartitionRow). allowance (state_of_run c.args.core.now).shape (row_or_none l p).budget) rows;
       };
       lacking = λ p less. get_or-replicate most_partitions p false false less;
       out = λ p less. get_or-replicate most_partitions p false false less;

@@ -1,19 +1,19 @@
 use Rattle.std.proofs.Common.{List, sym, subst}
 use Rattle.aps_model.specs.declared.entry.Entry.{Entry}
 use Rattle.view_samples.specs.declared.pass.Samples.{Samples}
-use Rattle.view_samples.specs.Pass.{IsReady, RunsIn, at_start, scenario_of}
+use Rattle.view_samples.specs.Pass.{IsPassReady, RunsIn, samples_at_start, scenario_of_cursor}
 use Rattle.view_samples.proofs.Begun.{begun, start_ready, start_runs}
 use Rattle.view_samples.proofs.pass.Samples.begin.Goals as goal
 
 pub begin_tick-requires-clause-ready : goal.begin_tick-requires-clause-ready
 begin_tick-requires-clause-ready c =
     let h = c.args.history.now in
-    subst (λ (s : Samples). IsReady c.entries.result.now s) (sym c.in_ok-samples.ensures.same)
-    (subst (λ (l : List Entry). IsReady l (at_start h c.args.order)) (sym c.entries.ensures.same) (start_ready h c.args.order c.in_ok-samples.ensures.valid c.requires.legal))
+    subst (λ (s : Samples). IsPassReady c.entries.result.now s) (sym c.in_ok-samples.ensures.same)
+    (subst (λ (l : List Entry). IsPassReady l (samples_at_start h c.args.order)) (sym c.entries.ensures.same) (start_ready h c.args.order c.in_ok-samples.ensures.valid c.requires.legal))
 
 pub begin_tick-requires-clause-runs : goal.begin_tick-requires-clause-runs
 begin_tick-requires-clause-runs c =
-    subst (λ (s : Samples). RunsIn (scenario_of s.cursor).shape.tick c.entries.result.now s.cursor.next 1 s.tick) (sym c.in_ok-samples.ensures.same)
+    subst (λ (s : Samples). RunsIn (scenario_of_cursor s.cursor).shape.tick c.entries.result.now s.cursor.next 1 s.tick) (sym c.in_ok-samples.ensures.same)
     (start_runs c.args.history.now.scenario.shape.tick c.entries.result.now)
 
 pub returns-clause-at : goal.returns-clause-at

@@ -1,8 +1,8 @@
 use Rattle.std.proofs.Common.{refl, subst, take}
 use Rattle.aps_model.specs.After.{state_after}
-use Rattle.aps_core.specs.Run.{Run, state_of}
-use Rattle.view_samples.specs.Note.{IsFresh}
-use Rattle.view_samples.specs.Pass.{scenario_of}
+use Rattle.aps_core.specs.Run.{Run, state_of_run}
+use Rattle.view_samples.specs.Note.{IsFreshNote}
+use Rattle.view_samples.specs.Pass.{scenario_of_cursor}
 use Rattle.view_samples.proofs.Steps.{ready_more}
 use Rattle.view_samples.proofs.pass.Samples.open.Goals as goal
 
@@ -10,8 +10,8 @@ pub returns : goal.returns
 returns c =
     let h = c.args.entries.now in
     let self = c.args.self.now in
-    let there : IsFresh (state_after (scenario_of self.cursor) (take c.go_on-look.new.self.next h)) c.fresh-self.result =
-    subst (λ (r : Run). IsFresh (state_of r) c.fresh-self.result) c.go_on-look.ensures.up.run c.fresh-self.ensures in
+    let there : IsFreshNote (state_after (scenario_of_cursor self.cursor) (take c.go_on-look.new.self.next h)) c.fresh-self.result =
+    subst (λ (r : Run). IsFreshNote (state_of_run r) c.fresh-self.result) c.go_on-look.ensures.up.run c.fresh-self.ensures in
     record {
       ready = ready_more h self _ c.requires.ready refl c.go_on-look.ensures.setup c.go_on-look.ensures.up;
       tick = refl;
@@ -20,7 +20,7 @@ returns c =
       next = c.go_on-look.ensures.next;
       fresh = c.fresh-self.result;
       look = c.go_on-look.result;
-      is_fresh = subst (λ n. IsFresh (state_after (scenario_of self.cursor) (take n h)) c.fresh-self.result) c.go_on-look.ensures.next there;
+      is_fresh = subst (λ n. IsFreshNote (state_after (scenario_of_cursor self.cursor) (take n h)) c.fresh-self.result) c.go_on-look.ensures.next there;
       is_look = c.go_on-look.ensures.look;
       is_added = c.add.ensures;
     }

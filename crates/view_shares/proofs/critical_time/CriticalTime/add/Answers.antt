@@ -11,7 +11,7 @@ use Rattle.aps_window.specs.Entries.{IsInOneTick}
 use Rattle.aps_window.specs.Window.{advanced}
 use Rattle.aps_core.specs.Counts.{Counts}
 use Rattle.aps_core.specs.Run.{Setup}
-use Rattle.view_shares.specs.CriticalTime.{HasRoom, shape_with}
+use Rattle.view_shares.specs.CriticalTime.{HasRoomInWindow, shape_with}
 use Rattle.view_shares.proofs.Room.{gone_on, has_room, is_later}
 use Rattle.view_shares.proofs.critical_time.CriticalTime.add.Goals as goal
 
@@ -59,7 +59,7 @@ pub add_time-requires-clause-room : goal.add_time-requires-clause-room
 add_time-requires-clause-room c =
     let core = c.args.core.now in
     let tick = ap (λ (x : Shape). x.tick) (c.shape.ensures.same ∙ ap (λ (x : Scenario). x.shape) (c.scenario.ensures ∙ ap (λ (h : History). h.scenario) c.history.ensures.same)) in
-    subst (λ t. HasRoom t c.go_on.new.window c.args.e.now) (sym tick)
+    subst (λ t. HasRoomInWindow t c.go_on.new.window c.args.e.now) (sym tick)
     (has_room core.setup.scenario core.setup.order c.requires.last.0 c.args.e.now c.args.self.now.span c.go_on.new.window c.history.ensures.valid (legal_before core.setup core.entries c.requires.last.0 c.args.e.now c.requires.last.1 c.history.ensures.legal) (gone c))
 
 pub returns : goal.returns

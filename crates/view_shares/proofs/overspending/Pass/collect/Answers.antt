@@ -6,7 +6,7 @@ use Rattle.aps_core.specs.Run.{Run}
 use Rattle.aps_core.specs.Turn.{with_entry}
 use Rattle.view_replay.specs.Entry.{entry_of}
 use Rattle.view_samples.proofs.Retraced.{one_more}
-use Rattle.view_shares.specs.Spent.{listed, overspent_by, overspent_of}
+use Rattle.view_shares.specs.Spent.{overspent_listed, overspent_by, overspent_of}
 use Rattle.view_shares.proofs.Overspent.{overspent_begins, overspent_more, taken_at}
 use Rattle.view_shares.proofs.overspending.Pass.collect.Goals as goal
 
@@ -41,8 +41,8 @@ loop-e-preserved c =
     record {
       at = c.in_ok-overspent.ensures.at;
       core = c.in_ok-overspent.ensures.core ∙ ap (λ (d : Entry). with_entry c.loop-e.self.core d) is ∙ ap (λ (r : Run). with_entry r c.e-item.result) c.loop-e.invariant.core ∙ ap whole more;
-      all = c.in_ok-add.ensures ∙ ap (λ l. l ++ listed c.in_ok-overspent.overspent) c.loop-e.invariant.all
-          ∙ ap (λ o. overspent_of scenario h ++ listed o) (c.in_ok-overspent.ensures.overspent ∙ ap (λ (d : Entry). overspent_by c.loop-e.self.core.setup.scenario c.loop-e.self.core.entries d) is ∙ ap (λ (r : Run). overspent_by r.setup.scenario r.entries c.e-item.result) c.loop-e.invariant.core)
+      all = c.in_ok-add.ensures ∙ ap (λ l. l ++ overspent_listed c.in_ok-overspent.overspent) c.loop-e.invariant.all
+          ∙ ap (λ o. overspent_of scenario h ++ overspent_listed o) (c.in_ok-overspent.ensures.overspent ∙ ap (λ (d : Entry). overspent_by c.loop-e.self.core.setup.scenario c.loop-e.self.core.entries d) is ∙ ap (λ (r : Run). overspent_by r.setup.scenario r.entries c.e-item.result) c.loop-e.invariant.core)
           ∙ sym (overspent_more scenario h c.e-item.result) ∙ ap (overspent_of scenario) more;
     }
 

@@ -9,7 +9,7 @@ use Rattle.view_samples.proofs.Retraced.{one_more, parted}
 use Rattle.view_trace_events.proofs.Told.{told_both, told_none, told_same}
 use Rattle.view_value_changes.specs.declared.retracing.Retraced.{Retraced}
 use Rattle.view_value_changes.specs.Dump.{Dumped, Telling, dumped, noted, telling_before, telling_of, text_before}
-use Rattle.view_value_changes.specs.Retraced.{IsAt}
+use Rattle.view_value_changes.specs.Retraced.{RetracedFollowsCore}
 use Rattle.view_value_changes.proofs.Dumped.{dumped_more}
 use Rattle.view_value_changes.proofs.dump.Dump.go_through.Goals as goal
 
@@ -19,7 +19,7 @@ loop-e-init g c =
     record { at = c.requires.at; core = ap whole c.requires.begins; told = told_none _ _; telling = refl; later = omega arith }
 
 pub go_on-requires-clause-at : goal.go_on-requires-clause-at
-go_on-requires-clause-at g c = subst IsAt (sym c.in_ok-tell_before.ensures.at) c.loop-e.invariant.at
+go_on-requires-clause-at g c = subst RetracedFollowsCore (sym c.in_ok-tell_before.ensures.at) c.loop-e.invariant.at
 
 pub go_on-requires-clause-legal : goal.go_on-requires-clause-legal
 go_on-requires-clause-legal g c =

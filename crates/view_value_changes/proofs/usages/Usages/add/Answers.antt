@@ -7,7 +7,7 @@ use Rattle.laws_runs.proofs.MomentLaws.{moment-append}
 use Rattle.aps_window.specs.Entries.{IsInOneTick}
 use Rattle.aps_window.specs.Window.{advanced}
 use Rattle.aps_core.specs.Counts.{Counts}
-use Rattle.view_shares.specs.CriticalTime.{HasRoom, shape_with}
+use Rattle.view_shares.specs.CriticalTime.{HasRoomInWindow, shape_with}
 use Rattle.view_shares.proofs.Room.{has_room, is_later}
 use Rattle.view_value_changes.proofs.Counted.{gone_on}
 use Rattle.view_value_changes.proofs.usages.Usages.add.Goals as goal
@@ -52,7 +52,7 @@ pub add_time-requires-clause-room : goal.add_time-requires-clause-room
 add_time-requires-clause-room c =
     let core = c.args.core.now in
     let tick = ap (λ (x : Shape). x.tick) (c.shape.ensures.same ∙ ap (λ (x : Scenario). x.shape) (c.scenario.ensures ∙ ap (λ (h : History). h.scenario) c.history.ensures.same)) in
-    subst (λ t. HasRoom t c.go_on.new.window c.args.e.now) (sym tick)
+    subst (λ t. HasRoomInWindow t c.go_on.new.window c.args.e.now) (sym tick)
     (has_room core.setup.scenario core.setup.order core.entries c.args.e.now c.args.self.now.span c.go_on.new.window c.history.ensures.valid c.requires.legal (gone c))
 
 pub returns : goal.returns
