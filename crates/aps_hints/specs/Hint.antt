@@ -1,7 +1,10 @@
 -- The line that tells of a refused text.
-use Rattle.std.specs.Prelude.{◌≡◌, ℕ, ◌⊎◌, List, ◌++◌, codes, take, ⊤}
+use Rattle.std.specs.Prelude.{◌≡◌, ℕ, ◌⊎◌, List, ◌++◌, codes, Some}
+use Rattle.toml.specs.Data.{Members}
+use Rattle.toml.specs.Parse.{parse_document}
 use Rattle.aps_scenario.specs.declared.kind.Kind.{Kind}
 use Rattle.aps_scenario.specs.declared.kind.Kind.TheVariants.{NotToml, Missing, UnknownKey, WrongKind, OutOfRange, BadName, UnknownName, Duplicate, BadOperation, BudgetOver}
+use Rattle.aps_hints.specs.Blame.{IsDoFault, IsDoPath}
 use Rattle.aps_hints.specs.Line.{shown_text, cut}
 
 -- what is wrong, behind the value
@@ -32,18 +35,13 @@ abbrev pub IsHintOf : (path : List ℕ) → Kind → (line : List ℕ) → Type 
 IsHintOf path kind line = (value : List ℕ) × (wanted : List ℕ)
     × ((line ≡ hint_text path value kind wanted) ⊎ ((place : List ℕ) × (line ≡ placed_text path place value kind wanted)))
 
--- the path of `do` in the table of this path
-abbrev pub IsDoPath : (path told : List ℕ) → Type 0
-IsDoPath path told = (n : ℕ) × (told ≡ take n path ++ codes ".do")
+-- a line of this path and this kind; where a key is unknown in a command whose `do` names no command, it may be one of that
+-- `do`, which decides what keys the command has
+abbrev pub IsTableHint : Members → (path : List ℕ) → Kind → (line : List ℕ) → Type 0
+IsTableHint top path kind line = IsHintOf path kind line
+    ⊎ ((kind ≡ UnknownKey) × (told : List ℕ) × (fault : Kind) × IsDoPath path told × IsDoFault top fault × IsHintOf told fault line)
 
--- what may be wrong with a `do`
-abbrev pub IsDoFault : Kind → Type 0
-IsDoFault WrongKind = ⊤
-IsDoFault OutOfRange = ⊤
-IsDoFault kind = ⊥
-
--- a line of this path and this kind; where a key is unknown, it may be one of `do` in the same table, which decides what
--- keys that has
-abbrev pub IsHint : (path : List ℕ) → Kind → (line : List ℕ) → Type 0
-IsHint path kind line = IsHintOf path kind line
-    ⊎ ((kind ≡ UnknownKey) × (told : List ℕ) × (fault : Kind) × IsDoPath path told × IsDoFault fault × IsHintOf told fault line)
+-- the same of the document that these bytes are, if they are one
+abbrev pub IsHint : (bytes path : List ℕ) → Kind → (line : List ℕ) → Type 0
+IsHint bytes path kind line = IsHintOf path kind line
+    ⊎ ((top : Members) × (parse_document bytes ≡ Some top) × IsTableHint top path kind line)

@@ -20,12 +20,12 @@ abbrev pub refusal_in : Document → List ℕ → Option Refusal
 refusal_in Scenario bytes = refusal_told (reads bytes)
 refusal_in Demands bytes = refusal_told (reads_demands bytes)
 
--- there is a hint exactly where there is a refusal, and it is one of its path and its kind
-abbrev pub HintsAt : Option Refusal → Option (List ℕ) → Type 0
-HintsAt None None = ⊤
-HintsAt None (Some line) = ⊥
-HintsAt (Some refusal) None = ⊥
-HintsAt (Some refusal) (Some line) = IsHint refusal.path refusal.kind line
+-- there is a hint on these bytes exactly where there is a refusal, and it is one of its path and its kind
+abbrev pub HintsAt : (bytes : List ℕ) → Option Refusal → Option (List ℕ) → Type 0
+HintsAt bytes None None = ⊤
+HintsAt bytes None (Some line) = ⊥
+HintsAt bytes (Some refusal) None = ⊥
+HintsAt bytes (Some refusal) (Some line) = IsHint bytes refusal.path refusal.kind line
 
 -- a refusal as it is kept here
 abbrev pub IsRefusedAs : Option Refusal → Option Finding → Type 0

@@ -1,33 +1,49 @@
 //! Keys of a command that don't belong there because its `do` names no command.
-ghost use Rattle.std.specs.Prelude.{◌≡◌, IfOk, IfSome};
-ghost use Rattle.aps_hints.specs.Hint.{IsDoFault, IsDoPath};
+ghost use Rattle.std.specs.Prelude.{◌≡◌, Err, IfOk, IfSome};
+ghost use Rattle.toml.specs.View.{table_view, view};
 ghost use Rattle.aps_scenario.specs.declared.kind.Kind.TheVariants.{UnknownKey};
+ghost use Rattle.aps_scenario.specs.Row.{word};
+ghost use Rattle.aps_scenario.specs.Words.{command_words};
+ghost use Rattle.aps_hints.specs.Blame.{IsDo, IsDoFault, IsDoPath};
 
 use crate::spot::{Owner, Spot};
-use crate::takes::names_command;
 use aps_model::NoMemory;
-use aps_scenario::Kind;
+use aps_scenario::{Kind, command_kind};
 use std::alloc::Global;
 use toml::{Table, Value};
 
 /// What is wrong with the `do` of a command, where a refusal of this kind is of another key of it.
 pub fn do_fault(kind: Kind, spot: &Spot<'_>, top: &Table) -> Option<Kind>
-    ensures { IfSome result (λ fault. (kind ≡ UnknownKey) × IsDoFault fault) }
+    ensures { IfSome result (λ fault. (kind ≡ UnknownKey) × IsDoFault (table_view top.now) fault) }
 {
     match (kind, spot.owner) {
-        (Kind::UnknownKey, Owner::Command) => fault_of(spot.table_of(top)?.get("do")?),
+        (Kind::UnknownKey, Owner::Command) => fault_of(do_of(spot, top)?),
         _ => None,
     }
 }
 
-/// What is wrong with the value of `do`.
-fn fault_of(value: &Value) -> Option<Kind>
-    ensures { IfSome result IsDoFault }
+/// The value at `do` in the table to which this path leads.
+fn do_of<'t>(spot: &Spot<'_>, top: &'t Table) -> Option<&'t Value>
+    ensures { IfSome result (λ does. IsDo (table_view top.now) (view does.now)) }
 {
-    match value.as_str() {
-        Some(word) if names_command(word) => None,
-        Some(_) => Some(Kind::OutOfRange),
-        None => Some(Kind::WrongKind),
+    let (array, index) = spot.table?;
+    value_of(top, array)?.get(index)?.get("do")
+}
+
+/// The value at a key of a table.
+fn value_of<'t>(table: &'t Table, key: &str) -> Option<&'t Value>
+    ensures { IfSome result (λ v. get_member key.now (table_view table.now) ≡ Some (view v.now)) }
+{
+    table.get(key)
+}
+
+/// What is wrong with the value of `do`, if it names no command.
+fn fault_of(value: &Value) -> Option<Kind>
+    ensures { IfSome result (λ fault. word command_words (view value.now) ≡ Err fault) }
+{
+    match command_kind(value) {
+        Ok(_) => None,
+        Err(fault) => Some(fault),
     }
 }
 

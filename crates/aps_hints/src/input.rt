@@ -25,7 +25,7 @@ pub fn whole_hint(
     given: Given<'_>,
     document: Document,
 ) -> Result<Option<Line>, NoMemory>
-    ensures { given.entry.is_whole ≡ true → IfOk result (HintsAt (refusal_in document given.entry.bytes.now)) }
+    ensures { given.entry.is_whole ≡ true → IfOk result (HintsAt given.entry.bytes.now (refusal_in document given.entry.bytes.now)) }
 {
     if !given.is_whole {
         return Ok(None);

@@ -24,7 +24,7 @@ pub fn refusal_hint(
     bytes: &[u8],
     document: Document,
 ) -> Result<Option<Line>, NoMemory>
-    ensures { IfOk result (HintsAt (refusal_in document bytes.now)) }
+    ensures { IfOk result (HintsAt bytes.now (refusal_in document bytes.now)) }
 {
     match refused_as(alloc, bytes, document)? {
         Some(refused) => {

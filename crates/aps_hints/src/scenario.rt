@@ -1,6 +1,7 @@
 //! What a person is told of a text that is no scenario, or no demands.
 ghost use Rattle.std.specs.Prelude.{IfOk};
-ghost use Rattle.aps_hints.specs.Hint.{IsHint, IsHintOf};
+ghost use Rattle.toml.specs.View.{table_view};
+ghost use Rattle.aps_hints.specs.Hint.{IsHint, IsHintOf, IsTableHint};
 
 use crate::blame::{do_fault, do_path};
 use crate::fault::push_fault;
@@ -27,7 +28,7 @@ pub fn scenario_hint(
     kind: Kind,
     path: &PathText,
 ) -> Result<Line, NoMemory>
-    ensures { IfOk result (IsHint path.now kind) }
+    ensures { IfOk result (IsHint bytes.now path.now kind) }
 {
     match toml::table_from_slice(alloc, bytes) {
         Ok(top) => table_hint(alloc, bytes, document, kind, path.text(), &top),
@@ -42,7 +43,7 @@ pub fn scenario_hint(
 
 /// What is told of a text as a whole.
 fn whole_told(alloc: Global, path: &[u8], kind: Kind, parts: &Parts) -> Result<Line, NoMemory>
-    ensures { IfOk result (IsHint path.now kind) }
+    ensures { IfOk result (IsHintOf path.now kind) }
 {
     told(alloc, path, kind, parts)
 }
@@ -56,7 +57,7 @@ fn table_hint(
     path: &[u8],
     top: &Table,
 ) -> Result<Line, NoMemory>
-    ensures { IfOk result (IsHint path.now kind) }
+    ensures { IfOk result (IsTableHint (table_view top.now) path.now kind) }
 {
     match do_fault(kind, &spot_at(path), top) {
         Some(fault) => {

@@ -29,3 +29,4 @@ pub use printing::print;
 pub use reading::scenario_of;
 pub use refusal::ScenarioRefusal;
 pub use upgrading::upgrade;
+pub use words::{CommandKind, command_kind};
