@@ -207,8 +207,8 @@ impl Core {
         }
     }
 
-    /// The lowest of the processors that are due least.
-    fn first_due(&self) -> CpuId
+    /// The lowest of the processors that are due least, which has the turn in either order.
+    pub fn first_due(&self) -> CpuId
         ensures same { result ≡ first_due (state_of_run self.now) self.now.entries (state_of_run self.now).shape.cpus }
         ensures lowest { HasTurn Fixed (state_of_run self.now) self.now.entries result }
         ensures exists { result < self.now.setup.scenario.shape.cpus }

@@ -9,6 +9,7 @@ ghost use Rattle.aps_core.specs.Posts.{AreOthersPosts, ArePosts};
 ghost use Rattle.aps_core.specs.Seats.{seats_of};
 
 use super::Scheduler;
+use crate::machine::Look;
 use aps_model::{Contender, CpuId, Entry, Facts, ThreadId};
 
 impl Scheduler {
@@ -41,18 +42,16 @@ impl Scheduler {
         self.machine.choose(parts, cpu, best);
         self.posts.set(cpu, facts_of(&best));
         self.posts.go_by(classes);
-        let flagged = self.machine.flag_after(
+        let look = Look {
             entries,
-            &self.dues,
             parts,
-            &self.posts,
-            gates,
+            dues: &self.dues,
+            posts: &self.posts,
             classes,
-            &self.ready,
             cpu,
-            now,
-            &best,
-        );
+            moment: now,
+        };
+        let flagged = self.machine.flag_after(look, gates, &self.ready, &best);
         self.machine.flag(now, &flagged);
         e.picked = picked;
         e.starved = starved;
