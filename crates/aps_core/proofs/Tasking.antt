@@ -15,7 +15,7 @@ use Rattle.aps_model.specs.Bill.{spend}
 use Rattle.aps_model.specs.Inherit.{Inheritance, inheritance_of}
 use Rattle.aps_model.specs.Operation.{enter, go_on, is_slice_over, place_after, state_in, with_ready, with_stamped}
 use Rattle.aps_model.specs.Scenario.{Scenario, op_at, thread_row}
-use Rattle.aps_model.specs.SchedulerState.{SchedulerState, no_thread, thread_at, with_own_values as put_own, with_state, with_thread}
+use Rattle.aps_model.specs.SchedulerState.{SchedulerState, no_thread, thread_at, with_own as put_own, with_state, with_thread}
 use Rattle.aps_model.specs.Step.{enter_next, give_back}
 use Rattle.laws_runs.proofs.ThreadFacts.{set_same}
 use Rattle.aps_inherit.specs.Own.{own_of, with_own_values}

@@ -8,7 +8,7 @@ use Rattle.aps_model.specs.declared.command.CommandRow.{CommandRow}
 use Rattle.aps_model.specs.declared.scenario.ThreadRow.{ThreadRow}
 use Rattle.aps_model.specs.declared.shape.Shape.{Shape}
 use Rattle.aps_model.specs.Limits.{most_commands}
-use Rattle.aps_model.specs.Valid.{IsCommand, name_to_create as created_by}
+use Rattle.aps_model.specs.Valid.{IsCommand, created_name as created_by}
 use Rattle.aps_scenario.specs.declared.key.Key.TheVariants.{Command, Name, Tick}
 use Rattle.aps_scenario.specs.declared.kind.Kind.{Kind}
 use Rattle.aps_scenario.specs.declared.kind.Kind.TheVariants.{OutOfRange}

@@ -151,6 +151,6 @@ module _ (channels joinable : List (List ℕ)) (op : Op) where
 
   pub operation_of-ok : (text : List ℕ) → operation_of channels joinable text ≡ Ok op → IsRead
   operation_of-ok text =
-      behind-keeps IsRead op (codes "run_of_text ") run_of_text sleeps text run-ok
+      behind-keeps IsRead op (codes "run ") run_of_text sleeps text run-ok
       (behind-keeps IsRead op (codes "sleep ") sleep priorities text sleep-ok
       (behind-keeps IsRead op (codes "priority ") priority (named_or_constant channels joinable) text priority-ok (named_or_constant-ok text)))

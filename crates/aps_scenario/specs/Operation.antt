@@ -108,7 +108,7 @@ named_or_constant channels joinable =
 -- the operation that a text is, where these are the channels and the names that may be joined
 abbrev pub operation_of : List (List ℕ) → List (List ℕ) → List ℕ → Result Op OperationFault
 operation_of channels joinable =
-    behind (codes "run_of_text ") run_of_text
+    behind (codes "run ") run_of_text
     (behind (codes "sleep ") sleep
     (behind (codes "priority ") priority
     (named_or_constant channels joinable)))

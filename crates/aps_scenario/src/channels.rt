@@ -25,7 +25,7 @@ pub fn is_among(names: &[Name], name: &Name) -> bool
 }
 
 /// The channel after these ones.
-#[tactic(auto, unfolding(crate::specs::Channels::channel_at))]
+#[tactic(auto, unfolding(crate::specs::Channels::channel_read_at))]
 fn next_channel(channels: &[Name], value: &Value) -> Result<Name, Finding>
     requires { length channels.now ≤ most_channels }
     ensures { result ≡ spec.next_channel channels.now (view value.now) }

@@ -71,7 +71,7 @@ fn only_own_keys(kind: Option<CommandKind>, place: Place, table: &Table) -> Resu
 }
 
 /// The command after so many, where these are the sizes and the threads.
-#[tactic(auto, unfolding(crate::specs::Commands::command_at))]
+#[tactic(auto, unfolding(crate::specs::Commands::command_read_at))]
 fn next_command(
     shape: &Shape,
     threads: &[ThreadRow],

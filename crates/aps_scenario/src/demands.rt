@@ -138,7 +138,7 @@ fn sizes_at(table: &Table) -> Result<Shape, Finding>
 }
 
 /// The elements of the array of demands.
-#[tactic(auto, unfolding(crate::specs::Demands::asked_at, crate::specs::Elements::read_each))]
+#[tactic(auto, unfolding(crate::specs::Demands::demands_read, crate::specs::Elements::read_each))]
 fn asked_at(alloc: Global, table: &Table) -> Result<Vec<Demand>, Failure>
     ensures { ReadsOrFails (λ demands. demands.items) result (spec.demands_read (table_view table.now)) }
 {

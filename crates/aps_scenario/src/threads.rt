@@ -35,7 +35,7 @@ fn is_thread(threads: &[ThreadRow], name: &Name) -> bool
 
 /// The thread after these ones, where these are the partitions, the channels and the names that
 /// may be joined.
-#[tactic(auto, unfolding(crate::specs::Threads::thread_at))]
+#[tactic(auto, unfolding(crate::specs::Threads::thread_read_at))]
 fn next_thread(
     alloc: Global,
     partitions: &[PartitionRow],

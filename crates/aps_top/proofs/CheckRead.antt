@@ -9,7 +9,7 @@ use Rattle.aps_scenario.specs.declared.refusal.ScenarioRefusal.{ScenarioRefusal}
 use Rattle.aps_scenario.specs.declared.refusal.ScenarioRefusal.TheVariants.{Refused, NoMemory}
 use Rattle.aps_text.specs.declared.separator.JournalAt.{JournalAt}
 use Rattle.aps_text.specs.Place.{Place}
-use Rattle.aps_text.specs.Refusal.{IsFirstBad, RefusesScenario as BadFirst}
+use Rattle.aps_text.specs.Refusal.{IsFirstBad, Refuses as BadFirst}
 use Rattle.aps_text.specs.declared.refusal.JournalRefusal.{JournalRefusal}
 use Rattle.aps_text.specs.declared.refusal.JournalRefusal.TheVariants as journal
 use Rattle.aps_text.specs.Separator.{journal_place}

@@ -10,7 +10,7 @@ use Rattle.laws_runs.proofs.Counts.{counts_law}
 use Rattle.laws_runs.proofs.ThreadFit.{fits_law}
 use Rattle.aps_core.specs.Run.{Run, state_of_run}
 use Rattle.aps_core.specs.Turn.{with_entry}
-use Rattle.view_lives.specs.Life.{AreLongerCalls as LivesLonger}
+use Rattle.view_lives.specs.Life.{AreLonger as LivesLonger}
 use Rattle.view_lives.proofs.Longer.{lives_more, moment_more}
 use Rattle.view_latency.specs.declared.following.Following.{Following}
 use Rattle.view_latency.specs.Calls.{AreLongerCalls}

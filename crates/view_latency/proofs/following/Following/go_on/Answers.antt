@@ -3,7 +3,7 @@ use Rattle.aps_model.specs.History.{History, IsEntry}
 use Rattle.aps_model.specs.Scenario.{Scenario}
 use Rattle.laws_runs.proofs.Counts.{counts_law}
 use Rattle.aps_core.specs.Run.{Run, state_of_run}
-use Rattle.view_lives.specs.Life.{AreLongerCalls as LivesLonger}
+use Rattle.view_lives.specs.Life.{AreLonger as LivesLonger}
 use Rattle.view_latency.specs.Calls.{AreLongerCalls}
 use Rattle.view_latency.specs.Seen.{AreSeen, HasFits}
 use Rattle.view_latency.proofs.Beside.{beside_more, has_fits}
