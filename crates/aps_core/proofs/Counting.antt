@@ -138,7 +138,7 @@ counts_billed shape h j w new e p c whole some is new_is stands = record {
 
 -- the same time, billed to the same partition
 pub record IsSameBill (e other : Entry) : Type 0 where
-  pub window_billed : other.billed ≡ e.billed
+  pub billed : other.billed ≡ e.billed
   pub from : other.from ≡ e.from
   pub to : other.to ≡ e.to
   pub critical : other.critical ≡ e.critical

@@ -12,7 +12,6 @@ pub mod Threads
 pub mod Part
 pub mod Seats
 pub mod Lowest
-pub mod Look
 pub mod Sleepers
 pub mod Touched
 pub mod Counts

@@ -35,7 +35,6 @@ use aps_inherit::Inherit;
 use aps_model::{Change, CpuId, CpuNow, Entry, Nanos, PartitionId, PartitionRow, Reply, Shape};
 use aps_tasks::TaskTable;
 use aps_tree::Tree;
-pub use flag::Look;
 use std::marker::Model;
 
 /// Everything that stands between two steps, beside the history. Contracts see it as the scheduler state of the

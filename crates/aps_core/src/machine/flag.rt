@@ -6,8 +6,7 @@ ghost use Rattle.aps_model.specs.Limits.{greatest_priority, most_cpus};
 ghost use Rattle.aps_model.specs.Pick.{contenders, greatest, merit_among};
 ghost use Rattle.aps_ready.specs.Gates.{AreGates, is_first};
 ghost use Rattle.aps_core.specs.Classes.{AreClasses};
-ghost use Rattle.aps_core.specs.Lowest.{IsKey, IsLeastKey, IsLeastOf, IsNoLess, IsRank, IsFoundLowest, height_of, height_past_all, key_past_all, limit};
-ghost use Rattle.aps_core.specs.Look.{CanLookBy, lowest_by, ranked_by};
+ghost use Rattle.aps_core.specs.Lowest.{CanLook, IsKey, IsLeastKey, IsLeastOf, IsNoLess, IsRank, IsFoundLowest, height_of, height_past_all, key_past_all, limit, lowest, ranked_at};
 ghost use Rattle.aps_core.specs.Seats.{seats_of};
 
 use super::Machine;
@@ -32,46 +31,55 @@ struct Lowest {
     height: u16,
 }
 
-/// What a look at the other processors rests on: how the partitions stand, when each processor steps next, and what is kept
-/// of what it runs, by the classes of the partitions. The look is that of one processor at a moment.
-#[derive(Clone, Copy)]
-pub struct Look<'a> {
-    pub entries: &'a [Entry],
-    pub parts: &'a [PartFacts],
-    pub dues: &'a Dues,
-    pub posts: &'a Posts,
-    pub classes: Classes,
-    pub cpu: CpuId,
-    pub moment: Nanos,
-}
-
 impl Machine {
     /// The key by which the processor of this number is looked at, if it is another one and isn't due yet; else a key past
     /// all. The own one is due no later than now, and so is what stands where there is none.
     #[inline(always)]
-    fn key_at(&self, look: Look<'_>, d: usize) -> u16
-        requires look { CanLookBy self.now look }
+    fn key_at(
+        &self,
+        entries: &[Entry],
+        dues: &Dues,
+        parts: &[PartFacts],
+        posts: &Posts,
+        classes: Classes,
+        c: CpuId,
+        now: Nanos,
+        d: usize,
+    ) -> u16
+        requires look { CanLook self.now entries.now parts.now c now posts.now classes dues.now }
         requires d { d < most_cpus }
-        ensures key { d < length self.now.cpus → IsKey (ranked_by self.now look d) d result }
-        ensures rank { d < length self.now.cpus → IsRank (ranked_by self.now look d) }
+        ensures key { d < length self.now.cpus → IsKey (ranked_at self.now entries.now parts.now c now d) d result }
+        ensures rank { d < length self.now.cpus → IsRank (ranked_at self.now entries.now parts.now c now d) }
         ensures past { length self.now.cpus ≤ d → key_past_all ≤ result }
     {
-        let past = past_if(look.dues.at(d) <= look.moment);
-        look.posts.at(d).key + past
+        let past = past_if(dues.at(d) <= now);
+        posts.at(d).key + past
     }
 
     /// The least of this key and those of the processors from `from` to `to - 1`.
     #[inline(always)]
-    fn least_among(&self, look: Look<'_>, least: u16, from: usize, to: usize) -> u16
-        requires look { CanLookBy self.now look }
+    fn least_among(
+        &self,
+        entries: &[Entry],
+        dues: &Dues,
+        parts: &[PartFacts],
+        posts: &Posts,
+        classes: Classes,
+        c: CpuId,
+        now: Nanos,
+        least: u16,
+        from: usize,
+        to: usize,
+    ) -> u16
+        requires look { CanLook self.now entries.now parts.now c now posts.now classes dues.now }
         requires forward { from ≤ to }
         requires few { to ≤ most_cpus }
-        requires so_far { IsLeastOf self.now look.entries.now look.parts.now look.cpu look.moment from least }
-        ensures { IsLeastOf self.now look.entries.now look.parts.now look.cpu look.moment to result }
+        requires so_far { IsLeastOf self.now entries.now parts.now c now from least }
+        ensures { IsLeastOf self.now entries.now parts.now c now to result }
     {
         let mut least = least;
         for d in from..to {
-            let key = self.key_at(look, d);
+            let key = self.key_at(entries, dues, parts, posts, classes, c, now, d);
             least = least.min(key);
         }
         least
@@ -80,28 +88,50 @@ impl Machine {
     /// The least key. The look goes over as many processors as there may be, or over half of them where these are all: a
     /// number that is known beforehand needs no branch.
     #[inline(always)]
-    fn least_key(&self, look: Look<'_>) -> u16
-        requires look { CanLookBy self.now look }
-        ensures least { IsLeastKey (lowest_by self.now look) self.now.shape.cpus result }
+    fn least_key(
+        &self,
+        entries: &[Entry],
+        dues: &Dues,
+        parts: &[PartFacts],
+        posts: &Posts,
+        classes: Classes,
+        c: CpuId,
+        now: Nanos,
+    ) -> u16
+        requires look { CanLook self.now entries.now parts.now c now posts.now classes dues.now }
+        ensures least { IsLeastKey (lowest self.now entries.now parts.now c now self.now.shape.cpus) self.now.shape.cpus result }
         ensures few { self.now.shape.cpus ≤ most_cpus }
         ensures count { length self.now.cpus ≡ self.now.shape.cpus }
     {
-        let near = self.least_among(look, PAST_ALL, 0, HALF);
+        let near = self.least_among(
+            entries, dues, parts, posts, classes, c, now, PAST_ALL, 0, HALF,
+        );
         if self.cpus.len() <= HALF {
             return near;
         }
-        self.least_among(look, near, HALF, MOST_CPUS)
+        self.least_among(
+            entries, dues, parts, posts, classes, c, now, near, HALF, MOST_CPUS,
+        )
     }
 
     /// Of the other processors that aren't due yet the one of least rank, and of equal ranks the last; where there is none, the
     /// height is past all.
     #[inline(always)]
-    fn lowest(&self, look: Look<'_>) -> Lowest
-        requires look { CanLookBy self.now look }
-        ensures same { IsFoundLowest (lowest_by self.now look) result.cpu result.height }
+    fn lowest(
+        &self,
+        entries: &[Entry],
+        dues: &Dues,
+        parts: &[PartFacts],
+        posts: &Posts,
+        classes: Classes,
+        c: CpuId,
+        now: Nanos,
+    ) -> Lowest
+        requires look { CanLook self.now entries.now parts.now c now posts.now classes dues.now }
+        ensures same { IsFoundLowest (lowest self.now entries.now parts.now c now self.now.shape.cpus) result.cpu result.height }
         ensures within { result.height < height_past_all → result.cpu < length self.now.cpus }
     {
-        let least = self.least_key(look);
+        let least = self.least_key(entries, dues, parts, posts, classes, c, now);
         Lowest {
             cpu: CpuId::at(usize::from(15 - least % 16)),
             height: least / 16,
@@ -113,24 +143,30 @@ impl Machine {
     /// priority alone.
     pub fn flag_after(
         &self,
-        look: Look<'_>,
+        entries: &[Entry],
+        dues: &Dues,
+        parts: &[PartFacts],
+        posts: &Posts,
         gates: Gates,
+        classes: Classes,
         ready: &Ready,
+        c: CpuId,
+        now: Nanos,
         picked: &Option<Contender>,
     ) -> Option<CpuId>
-        requires look { CanLookBy self.now look }
-        requires gates { AreGates look.parts.now gates }
+        requires look { CanLook self.now entries.now parts.now c now posts.now classes dues.now }
+        requires gates { AreGates parts.now gates }
         requires seats { ready.now ≡ seats_of self.now }
-        requires picked { IsNoLess self.now.shape.free look.parts.now (contenders self.now) picked.now }
-        ensures same { result ≡ flag_for self.now look.entries.now look.parts.now look.cpu look.moment
-            (greatest self.now.shape.free look.parts.now (contenders self.now)) }
+        requires picked { IsNoLess self.now.shape.free parts.now (contenders self.now) picked.now }
+        ensures same { result
+            ≡ flag_for self.now entries.now parts.now c now (greatest self.now.shape.free parts.now (contenders self.now)) }
         ensures within { IfSome result (λ d. d < length self.now.cpus) }
     {
         let Some(picked) = picked else {
             return None;
         };
-        let lowest = self.lowest(look);
-        if limit_for(self.shape.free, &picked.facts, look.parts, look.classes) <= lowest.height {
+        let lowest = self.lowest(entries, dues, parts, posts, classes, c, now);
+        if limit_for(self.shape.free, &picked.facts, parts, classes) <= lowest.height {
             return None;
         }
         let Some(ahead) = ready.ahead_by(gates) else {

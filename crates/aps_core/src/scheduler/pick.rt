@@ -9,7 +9,6 @@ ghost use Rattle.aps_core.specs.Posts.{AreOthersPosts, ArePosts};
 ghost use Rattle.aps_core.specs.Seats.{seats_of};
 
 use super::Scheduler;
-use crate::machine::Look;
 use aps_model::{Contender, CpuId, Entry, Facts, ThreadId};
 
 impl Scheduler {
@@ -42,16 +41,18 @@ impl Scheduler {
         self.machine.choose(parts, cpu, best);
         self.posts.set(cpu, facts_of(&best));
         self.posts.go_by(classes);
-        let look = Look {
+        let flagged = self.machine.flag_after(
             entries,
+            &self.dues,
             parts,
-            dues: &self.dues,
-            posts: &self.posts,
+            &self.posts,
+            gates,
             classes,
+            &self.ready,
             cpu,
-            moment: now,
-        };
-        let flagged = self.machine.flag_after(look, gates, &self.ready, &best);
+            now,
+            &best,
+        );
         self.machine.flag(now, &flagged);
         e.picked = picked;
         e.starved = starved;

@@ -16,13 +16,13 @@ use Rattle.aps_core.proofs.machine.Machine.flag_after.Goals as goal
 pub returns-then-limit_for-lowest-clause-same : goal.returns-then-limit_for-lowest-clause-same
 returns-then-limit_for-lowest-clause-same c =
     let s = c.args.self.now in
-    let parts = c.args.look.parts.now in
+    let parts = c.args.parts.now in
     let low = c.lowest-lowest.result in
     let free = ap (λ (t : SchedulerState). t.shape.free) c.self.view_is in
     let high : limit_among s.shape.free parts c.in-Some.picked ≤ low.height =
     subst (λ (f : Free). limit_among f parts c.in-Some.picked ≤ low.height) free (subst (λ n. n ≤ low.height) c.limit_for.ensures.same c.if-limit_for-lowest.true) in
     sym
-    (nobody_flagged s c.args.look.entries.now parts c.args.look.cpu c.args.look.moment low.cpu low.height (contenders s) c.in-Some.picked
+    (nobody_flagged s c.args.entries.now parts c.args.c c.args.now low.cpu low.height (contenders s) c.in-Some.picked
     c.lowest-lowest.ensures.same (short_of s.shape.free _ _ c.limit_for.ensures.few) high (subst (IsNoLess s.shape.free parts (contenders s)) c.in-Some.is c.requires.picked))
 
 -- what the queues tell is of the greatest of those who are ready
@@ -33,17 +33,17 @@ ahead_of s parts seats ahead are is = subst (λ cs. IsAhead s.shape.free parts (
 pub returns-in_default-ahead_by-clause-same : goal.returns-in_default-ahead_by-clause-same
 returns-in_default-ahead_by-clause-same c =
     let s = c.args.self.now in
-    let parts = c.args.look.parts.now in
+    let parts = c.args.parts.now in
     let cs = greatest s.shape.free parts (contenders s) in
     sym
-    (nobody_left s c.args.look.entries.now parts c.args.look.cpu c.args.look.moment cs
+    (nobody_left s c.args.entries.now parts c.args.c c.args.now cs
     (subst (IsAhead s.shape.free parts cs) c.in_default-ahead_by.is
     (ahead_of s parts c.args.ready.now c.ahead_by.result c.requires.seats (c.ahead_by.ensures parts s.shape.free c.requires.gates))))
 
 pub returns-then-limit_of-lowest-clause-same : goal.returns-then-limit_of-lowest-clause-same
 returns-then-limit_of-lowest-clause-same c =
     let s = c.args.self.now in
-    let parts = c.args.look.parts.now in
+    let parts = c.args.parts.now in
     let cs = greatest s.shape.free parts (contenders s) in
     let low = c.lowest-lowest.result in
     let ahead = c.in-Some-ahead_by.ahead in
@@ -51,7 +51,7 @@ returns-then-limit_of-lowest-clause-same c =
     let high : limit s.shape.free (nat_eq ahead.class 1) ahead.priority ≤ low.height =
     subst (λ (f : Free). limit f (nat_eq ahead.class 1) ahead.priority ≤ low.height) free (subst (λ n. n ≤ low.height) c.limit_of.ensures.same c.if-limit_of-lowest.true) in
     sym
-    (nobody_ahead s c.args.look.entries.now parts c.args.look.cpu c.args.look.moment low.cpu low.height cs ahead c.lowest-lowest.ensures.same
+    (nobody_ahead s c.args.entries.now parts c.args.c c.args.now low.cpu low.height cs ahead c.lowest-lowest.ensures.same
     (subst (IsAhead s.shape.free parts cs) c.in-Some-ahead_by.is
     (ahead_of s parts c.args.ready.now c.ahead_by.result c.requires.seats (c.ahead_by.ensures parts s.shape.free c.requires.gates)))
     c.limit_of.ensures.few high)
@@ -59,7 +59,7 @@ returns-then-limit_of-lowest-clause-same c =
 pub returns-clause-same : goal.returns-clause-same
 returns-clause-same c =
     let s = c.args.self.now in
-    let parts = c.args.look.parts.now in
+    let parts = c.args.parts.now in
     let cs = greatest s.shape.free parts (contenders s) in
     let low = c.lowest-lowest.result in
     let ahead = c.in-Some-ahead_by.ahead in
@@ -67,7 +67,7 @@ returns-clause-same c =
     let below : low.height < limit s.shape.free (nat_eq ahead.class 1) ahead.priority =
     subst (λ (f : Free). low.height < limit f (nat_eq ahead.class 1) ahead.priority) free (subst (λ n. low.height < n) c.limit_of.ensures.same c.if-limit_of-lowest.false) in
     sym
-    (flagged_ahead s c.args.look.entries.now parts c.args.look.cpu c.args.look.moment low.cpu low.height cs ahead c.lowest-lowest.ensures.same
+    (flagged_ahead s c.args.entries.now parts c.args.c c.args.now low.cpu low.height cs ahead c.lowest-lowest.ensures.same
     (subst (IsAhead s.shape.free parts cs) c.in-Some-ahead_by.is
     (ahead_of s parts c.args.ready.now c.ahead_by.result c.requires.seats (c.ahead_by.ensures parts s.shape.free c.requires.gates)))
     c.limit_of.ensures.few below)
