@@ -1,4 +1,5 @@
 pub mod Line
+pub mod Blame
 pub mod Hint
 pub mod Words
 pub mod Refused
