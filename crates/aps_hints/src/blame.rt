@@ -1,5 +1,6 @@
 //! Keys of a command that don't belong there because its `do` names no command.
 ghost use Rattle.std.specs.Prelude.{◌≡◌, Err, IfOk, IfSome};
+ghost use Rattle.toml.specs.Data.{get_member};
 ghost use Rattle.toml.specs.View.{table_view, view};
 ghost use Rattle.aps_scenario.specs.declared.kind.Kind.TheVariants.{UnknownKey};
 ghost use Rattle.aps_scenario.specs.Row.{word};
