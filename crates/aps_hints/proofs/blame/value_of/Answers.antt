@@ -1,5 +1,5 @@
 use Rattle.aps_scenario.proofs.Tables.{found_some}
 use Rattle.aps_hints.proofs.blame.value_of.Goals as goal
 
-pub returns-clause : goal.returns-clause
-returns-clause c = found_some c.get.result _ c.args.table.now.entries c.get.ensures.value
+pub returns : goal.returns
+returns c = found_some c.get.result _ c.args.table.now.entries c.get.ensures.value
