@@ -1,4 +1,4 @@
-use Rattle.std.proofs.Common.{◌≡◌, ◌∙◌, ap, sym, subst, tt, codes, ℕ, List, Option, Some, None, option_map, IfSome, Bor}
+use Rattle.std.proofs.Common.{◌≡◌, ◌∙◌, ap, sym, subst, codes, ℕ, List, Option, Some, None, option_map, IfSome, Bor}
 use Rattle.toml.specs.declared.value.Value.{Value}
 use Rattle.toml.specs.Data.{Data, Members, at, get, get_member}
 use Rattle.toml.specs.View.{table_view, view}
@@ -17,14 +17,11 @@ do_found top array n v x e y (Some r) array_was member element_was element does 
     let held : get_member array top ≡ Some (view x.now) =
     subst (λ (o : Option (Bor Value)). IfSome o (λ (z : Bor Value). get_member array top ≡ Some (view z.now))) array_was member in
     let here : Some (view y.now) ≡ at n (view x.now) =
-    subst (λ (o : Option (Bor Value)). option_map (λ (z : Bor Value). view z.now) o ≡ at n (view x.now)) element_was element in (
-      array,
-      (
-        n,
-        ap (λ (o : Option Data). then_of (then_of o (at n)) (get (codes "do"))) held
-            ∙ (ap (λ (o : Option Data). then_of o (get (codes "do"))) (sym here) ∙ sym does),
-      ),
-    )
+    subst (λ (o : Option (Bor Value)). option_map (λ (z : Bor Value). view z.now) o ≡ at n (view x.now)) element_was element in
+    let found : then_of (then_of (get_member array top) (at n)) (get (codes "do")) ≡ Some (view r.now) =
+    ap (λ (o : Option Data). then_of (then_of o (at n)) (get (codes "do"))) held
+    ∙ (ap (λ (o : Option Data). then_of o (get (codes "do"))) (sym here) ∙ sym does) in
+    (array, n, found)
 
 pub returns : goal.returns
 returns c =
