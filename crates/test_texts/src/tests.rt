@@ -1,5 +1,6 @@
 //! Words, bytes, texts, histories and scenarios, with values from outside.
 mod admit;
+mod asked;
 mod bound;
 mod commands;
 mod cut;
@@ -13,6 +14,5 @@ mod report;
 mod scenarios;
 mod streams;
 mod text;
-mod view_words;
 mod words;
 mod wrong_words;
