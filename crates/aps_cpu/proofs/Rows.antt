@@ -3,7 +3,8 @@ use Rattle.std.proofs.Common.{◌≡◌, ℕ, zero, suc, ◌+◌, ◌<◌, Bool,
 use Rattle.std.proofs.lemmas.Grind.{common_steps}
 use Rattle.aps_core.specs.Run.{IsLater, Run}
 use Rattle.aps_lock.specs.Seats.{DispatchData, IsSeatOf, SeatData}
-use Rattle.aps_lock.specs.Seen.{longer}
+use Rattle.aps_lock.specs.RunLog.{run_log}
+use Rattle.aps_seats.specs.Seen.{longer}
 use Rattle.aps_cpu.specs.Driven.{IsOnFrom}
 use Rattle.aps_cpu.specs.Row.{HasSeenFrom, IsFresh, IsDrivable, AreSeatsInRow}
 use Rattle.aps_cpu.proofs.Turns.{later_self, later_trans, on_seat}
@@ -36,7 +37,7 @@ row_driven d run (s ∷ ss) (t ∷ ts) end first len each row =
       subst (λ (n : ℕ). AreSeatsInRow d (HasSeenFrom run) ts n first) (sym on.first) (row_driven d run ss ts s.first first (omega arith) (λ i z l. each (suc i) z (omega arith)) row.2),
     )
 
-pub later_longer : (run a b : Run) → IsLater run a → IsLater run b → IsLater run (longer a b)
+pub later_longer : (run a b : Run) → IsLater run a → IsLater run b → IsLater run (longer run_log a b)
 later_longer run a b p q = one (nat_le (length b.entries) (length a.entries))
   where
     one : (t : Bool) → IsLater run (if t then a else b)

@@ -11,12 +11,6 @@ pub mod Lives
 pub mod Cores
 pub mod Advances
 pub mod Takes
-pub mod Sums
-pub mod Others
 pub mod Own
-pub mod Queue
-pub mod Turning
-pub mod Sharing
-pub mod Ends
 pub mod Steps
 pub mod Bounds

@@ -10,8 +10,5 @@ pub mod Part
 pub mod BilledTo
 pub mod Core
 pub mod CoreView
-pub mod Seen
+pub mod RunLog
 pub mod Seats
-pub mod Idle
-pub mod Rule
-pub mod Kinds

@@ -7,7 +7,8 @@ use Rattle.aps_live.specs.declared.turn.LiveTurn.{LiveTurn}
 use Rattle.aps_live.specs.declared.turn.LiveTurn.TheVariants.{Back, Full, Took}
 use Rattle.aps_live.specs.LiveHistory.{Taken}
 use Rattle.aps_live.specs.LiveRun.{IsLiveTurn, LiveRun, LiveSetup, after_live_turn}
-use Rattle.aps_live.specs.Seen.{cpus_of, IsSeenIn}
+use Rattle.aps_live.specs.RunLog.{live_log}
+use Rattle.aps_seats.specs.Seen.{IsSeenIn}
 
 -- a live scheduler: the table that it shares, and the setup of its run
 pub record LiveData : Type 0 where
@@ -31,11 +32,11 @@ HasCpu seat cpu = (seat.first ≤ cpu) × (cpu ≤ seat.last)
 
 -- the seat has all processors of its run
 abbrev pub HasAllCpus : LiveSeatData → Type 0
-HasAllCpus seat = (seat.first ≡ 0) × (seat.last + 1 ≡ cpus_of seat.seen)
+HasAllCpus seat = (seat.first ≡ 0) × (seat.last + 1 ≡ seat.seen.setup.scenario.shape.cpus)
 
 -- what the seat has seen is the beginning of the run, and what came since is of processors of other seats
 abbrev pub HasSeen : LiveSeatData → LiveRun → Type 0
-HasSeen seat run = IsSeenIn seat.first (seat.last + 1) seat.seen run
+HasSeen seat run = IsSeenIn live_log seat.first (seat.last + 1) seat.seen run
 
 -- of the steps those of the processors from the first to the last
 abbrev pub own_steps : ℕ → ℕ → List Taken → List Taken

@@ -13,10 +13,9 @@ mod machine;
 mod pick;
 mod rule;
 mod seat;
+mod step;
 mod thread;
 mod turn;
-mod view;
-mod words;
 
 pub use event::LiveEvent;
 pub use history::LiveHistory;

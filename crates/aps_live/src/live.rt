@@ -1,22 +1,22 @@
 //! The live scheduler: many threads step it under a lock.
 ghost use Rattle.std.specs.Prelude.{◌≡◌, ℕ, ◌+◌, ◌-◌, ◌<◌, ◌≤◌, ◌++◌, [], IfOk};
 ghost use Rattle.aps_live.specs.LiveHistory.{NamesThread};
+ghost use Rattle.aps_live.specs.RunLog.{live_log};
 ghost use Rattle.aps_live.specs.Seats.{HasAllCpus, HasCpu, HasSeen, IsSeatOf, IsSeatTurn, own_steps, taken};
-ghost use Rattle.aps_live.specs.Seen.{longer};
+ghost use Rattle.aps_seats.specs.Seen.{longer};
 ghost use Rattle.aps_model.specs.Limits.{last_moment, most_entries};
 
 use crate::event::LiveEvent;
 use crate::history::LiveHistory;
 use crate::live_core::LiveCore;
-use crate::rule::CoreTable;
+use crate::rule::{CoreTable, RunLog};
 use crate::seat::LiveSeat;
+use crate::step::{len_of, turn_place};
 use crate::turn::LiveTurn;
-use crate::words::{CORE, cut, len_of, merge, turn_place};
 use aps_model::{CpuId, Nanos, NoMemory, Scenario};
-use atomic_table::Table;
+use aps_seats::{begin, cut, end, merge};
 use std::alloc::{AllocError, Global};
 use std::marker::{Brand, Model};
-use std::snapshot::Snapshot;
 use std::sync::Wait;
 
 /// A scheduler that many threads step, one at a time, under a lock. Contracts see the setup of its run, which nothing
@@ -56,12 +56,9 @@ impl Live {
         ensures of { IfOk result (λ r. IsSeatOf r.0 r.1 × HasAllCpus r.1) }
     {
         let core = LiveCore::begin(alloc, scenario, limit)?;
-        let about = Snapshot::of(&core);
         let seen_len = len_of(&core);
         let last = last_cpu(&core);
-        let mut slots = Vec::with_capacity(alloc, 1)?;
-        slots.push(Some(core))?;
-        match Table::new(alloc, &[0, 0, seen_len], slots, &about) {
+        match begin::<LiveCore, RunLog>(alloc, core, seen_len) {
             Ok((table, place)) => {
                 let seat = LiveSeat {
                     place,
@@ -111,7 +108,7 @@ impl Live {
         ensures given { result ≡ record seat.old { first = at } }
         ensures of { IsSeatOf self.now seat.new × IsSeatOf self.now result }
     {
-        let place = cut::<Brand>(&self.table.shared, &mut seat.place, at);
+        let place = cut::<LiveCore, RunLog, Brand>(&self.table.shared, &mut seat.place, at);
         let last = seat.last;
         seat.last = CpuId::at(at.index() - 1);
         LiveSeat {
@@ -128,7 +125,7 @@ impl Live {
         requires seat { IsSeatOf self.now seat.old }
         requires other { IsSeatOf self.now other }
         requires next { seat.old.last + 1 ≡ other.first }
-        ensures seat { seat.new ≡ record seat.old { seen = longer seat.old.seen other.seen; last = other.last } }
+        ensures seat { seat.new ≡ record seat.old { seen = longer live_log seat.old.seen other.seen; last = other.last } }
         ensures own { HasSeen seat.old seat.new.seen }
         ensures other { HasSeen other seat.new.seen }
         ensures of { IsSeatOf self.now seat.new }
@@ -157,10 +154,9 @@ impl Live {
             seen_len: _,
         } = seat;
         let Live { table } = self;
-        let mut closed = table.close_with(place);
-        let core = closed.take(CORE).unwrap();
-        closed.free();
-        LiveHistory { core }
+        LiveHistory {
+            core: end(table, place),
+        }
     }
 }
 

@@ -1,7 +1,7 @@
 //! The right to step some processors of a live scheduler.
 ghost use Rattle.std.specs.Prelude.{◌≡◌, ◌<◌, ◌≤◌, length};
 
-use crate::rule::Place;
+use crate::rule::CorePlace;
 use aps_model::CpuId;
 use std::marker::Model;
 
@@ -9,21 +9,22 @@ use std::marker::Model;
 /// is that of the last call of this seat, or a later one where it took in a seat that had seen more.
 #[derive(Drop)]
 pub struct LiveSeat {
-    pub(crate) place: Place,
+    pub(crate) place: CorePlace,
     pub(crate) first: CpuId,
     pub(crate) last: CpuId,
     pub(crate) seen_len: u64,
 }
 
 impl Model for LiveSeat {
-    ghost use Rattle.aps_live.specs.Idle.{IsIdle};
+    ghost use Rattle.aps_live.specs.RunLog.{live_log};
     ghost use Rattle.aps_live.specs.Seats.{LiveSeatData};
+    ghost use Rattle.aps_seats.specs.Idle.{IsIdle};
 
     ghost Value = { LiveSeatData };
 
     ghost view = { λ s. record { table = s.place.table_id; seen = s.place.me.0.seen; first = s.first; last = s.last } };
 
-    ghost invariant = { λ s. IsIdle s.place.me.0 s.place.me.1 s.first s.last s.seen_len };
+    ghost invariant = { λ s. IsIdle live_log s.place.me.0 s.place.me.1 s.first s.last s.seen_len };
 }
 
 impl LiveSeat {

@@ -1,7 +1,2 @@
-pub mod Sums
-pub mod Others
 pub mod Own
-pub mod Queue
-pub mod Turning
-pub mod Sharing
-pub mod Ends
+pub mod Steps

@@ -1,5 +1,2 @@
-pub mod Seen
+pub mod RunLog
 pub mod Seats
-pub mod Idle
-pub mod Rule
-pub mod Kinds

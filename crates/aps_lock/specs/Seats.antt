@@ -6,7 +6,8 @@ use Rattle.aps_core.specs.declared.turn.Turn.{Turn}
 use Rattle.aps_core.specs.declared.turn.Turn.TheVariants.{Ended, NotYet, Took}
 use Rattle.aps_core.specs.Run.{Run, Setup}
 use Rattle.aps_core.specs.Turn.{IsTurn, after_turn}
-use Rattle.aps_lock.specs.Seen.{cpus_of, IsSeenIn}
+use Rattle.aps_lock.specs.RunLog.{run_log}
+use Rattle.aps_seats.specs.Seen.{IsSeenIn}
 
 -- a dispatcher: the table that it shares, and the setup of its run
 pub record DispatchData : Type 0 where
@@ -32,11 +33,11 @@ HasCpu seat cpu = (seat.first ≤ cpu) × (cpu ≤ seat.last)
 
 -- the seat has all processors of its run
 abbrev pub HasAllCpus : SeatData → Type 0
-HasAllCpus seat = (seat.first ≡ 0) × (seat.last + 1 ≡ cpus_of seat.seen)
+HasAllCpus seat = (seat.first ≡ 0) × (seat.last + 1 ≡ seat.seen.setup.scenario.shape.cpus)
 
 -- what the seat has seen is the beginning of the run, and what came since is of processors of other seats
 abbrev pub HasSeen : SeatData → Run → Type 0
-HasSeen seat run = IsSeenIn seat.first (seat.last + 1) seat.seen run
+HasSeen seat run = IsSeenIn run_log seat.first (seat.last + 1) seat.seen run
 
 -- how many turns in a row named a processor of another seat, after this answer of a seat with these processors
 abbrev pub waited_after : ℕ → ℕ → ℕ → Turn → ℕ

@@ -2,21 +2,21 @@
 ghost use Rattle.std.specs.Prelude.{◌≡◌, ℕ, ◌+◌, ◌-◌, ◌<◌, ◌≤◌, ◌++◌, length, nat_lt, IfOk, IfErr};
 ghost use Rattle.aps_core.specs.Run.{Run};
 ghost use Rattle.aps_model.specs.Seat.{IsSeen, own_entries};
+ghost use Rattle.aps_lock.specs.RunLog.{run_log};
 ghost use Rattle.aps_lock.specs.Seats.{HasAllCpus, HasCpu, HasSeen, IsSeatOf, IsSeatTurn, taken, waited_after};
-ghost use Rattle.aps_lock.specs.Seen.{longer};
+ghost use Rattle.aps_seats.specs.Seen.{longer};
 
 use crate::cpu_set::CpuSet;
 use crate::hint::Hint;
-use crate::rule::CoreTable;
+use crate::rule::{CoreTable, RunLog};
 use crate::seat::CpuSeat;
+use crate::step::{len_of, turn_place};
 use crate::turns::last_cpu;
-use crate::words::{CORE, cut, len_of, load_len, merge, turn_place, witness};
 use aps_core::{Core, Turn};
 use aps_model::CpuId;
-use atomic_table::{Refused, Table};
-use std::alloc::{AllocFailed, Global};
+use aps_seats::{begin, cut, end, load_len, merge, witness};
+use std::alloc::Global;
 use std::marker::{Brand, Model};
-use std::snapshot::Snapshot;
 use std::sync::Wait;
 
 /// A run whose turns many threads take, one at a time, under a lock. Contracts see the setup of the run, which nothing
@@ -52,14 +52,9 @@ impl Dispatch {
         let Ok(hint) = Hint::begin(alloc, &core) else {
             return Err(core);
         };
-        let about = Snapshot::of(&core);
         let seen_len = len_of(&core);
         let last = last_cpu(&core);
-        let mut slots = Vec::new(alloc);
-        if let Err(AllocFailed { value }) = slots.push(Some(core)) {
-            return Err(value.unwrap());
-        }
-        match Table::new(alloc, &[0, 0, seen_len], slots, &about) {
+        match begin::<Core, RunLog>(alloc, core, seen_len) {
             Ok((table, place)) => {
                 let seat = CpuSeat {
                     place,
@@ -70,7 +65,7 @@ impl Dispatch {
                 };
                 Ok((Dispatch { table, hint }, seat))
             }
-            Err(Refused { mut slots }) => Err(slots.pop().unwrap().unwrap()),
+            Err(core) => Err(core),
         }
     }
 
@@ -161,7 +156,7 @@ impl Dispatch {
         ensures given { result ≡ record seat.old { first = at; waited = 0 } }
         ensures of { IsSeatOf self.now seat.new × IsSeatOf self.now result }
     {
-        let place = cut::<Brand>(&self.table.shared, &mut seat.place, at);
+        let place = cut::<Core, RunLog, Brand>(&self.table.shared, &mut seat.place, at);
         let last = seat.last;
         seat.last = CpuId::at(at.index() - 1);
         seat.waited = 0;
@@ -180,7 +175,7 @@ impl Dispatch {
         requires seat { IsSeatOf self.now seat.old }
         requires other { IsSeatOf self.now other }
         requires next { seat.old.last + 1 ≡ other.first }
-        ensures seat { seat.new ≡ record seat.old { seen = longer seat.old.seen other.seen; last = other.last; waited = 0 } }
+        ensures seat { seat.new ≡ record seat.old { seen = longer run_log seat.old.seen other.seen; last = other.last; waited = 0 } }
         ensures own { HasSeen seat.old seat.new.seen }
         ensures other { HasSeen other seat.new.seen }
         ensures of { IsSeatOf self.now seat.new }
@@ -204,7 +199,7 @@ impl Dispatch {
         requires a { IsSeatOf self.now a.old }
         requires b { IsSeatOf self.now b.old }
         ensures a { a.new ≡ a.old }
-        ensures b { b.new ≡ record b.old { seen = longer b.old.seen a.old.seen } }
+        ensures b { b.new ≡ record b.old { seen = longer run_log b.old.seen a.old.seen } }
         ensures a_seen { IsSeen a.old.seen.entries b.new.seen.entries }
         ensures b_seen { HasSeen b.old b.new.seen }
         ensures no_less { length a.new.seen.entries ≤ length b.new.seen.entries }
@@ -231,10 +226,7 @@ impl Dispatch {
             waited: _,
         } = seat;
         let Dispatch { table, hint: _ } = self;
-        let mut closed = table.close_with(place);
-        let core = closed.take(CORE).unwrap();
-        closed.free();
-        core
+        end(table, place)
     }
 }
 

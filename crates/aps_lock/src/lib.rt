@@ -10,9 +10,8 @@ mod hint;
 pub mod laws;
 mod rule;
 mod seat;
+mod step;
 mod turns;
-mod view;
-mod words;
 
 pub use dispatch::Dispatch;
 pub use seat::CpuSeat;

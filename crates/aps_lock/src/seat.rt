@@ -1,7 +1,7 @@
 //! The right to take the turns of some processors.
 ghost use Rattle.std.specs.Prelude.{◌≡◌, ◌<◌, ◌≤◌, length};
 
-use crate::rule::Place;
+use crate::rule::CorePlace;
 use aps_model::CpuId;
 use std::marker::Model;
 
@@ -10,7 +10,7 @@ use std::marker::Model;
 /// that had seen more. docs/DEFINITIONS.md says more, under 'Runs, picks, seats and drivers'.
 #[derive(Drop)]
 pub struct CpuSeat {
-    pub(crate) place: Place,
+    pub(crate) place: CorePlace,
     pub(crate) first: CpuId,
     pub(crate) last: CpuId,
     pub(crate) seen_len: u64,
@@ -18,14 +18,15 @@ pub struct CpuSeat {
 }
 
 impl Model for CpuSeat {
-    ghost use Rattle.aps_lock.specs.Idle.{IsIdle};
+    ghost use Rattle.aps_lock.specs.RunLog.{run_log};
     ghost use Rattle.aps_lock.specs.Seats.{SeatData};
+    ghost use Rattle.aps_seats.specs.Idle.{IsIdle};
 
     ghost Value = { SeatData };
 
     ghost view = { λ s. record { table = s.place.table_id; seen = s.place.me.0.seen; first = s.first; last = s.last; waited = s.waited } };
 
-    ghost invariant = { λ s. IsIdle s.place.me.0 s.place.me.1 s.first s.last s.seen_len };
+    ghost invariant = { λ s. IsIdle run_log s.place.me.0 s.place.me.1 s.first s.last s.seen_len };
 }
 
 impl CpuSeat {

@@ -2,14 +2,14 @@
 use Rattle.std.specs.Prelude.{◌≡◌, ◌++◌, [], ◌∷◌, length, Option, Some, None}
 use Rattle.aps_model.specs.declared.entry.Entry.{Entry}
 use Rattle.aps_live.specs.declared.event.LiveEvent.TheVariants.{Stay}
-use Rattle.aps_live.specs.Kinds.{no_run}
+use Rattle.aps_live.specs.RunLog.{live_log}
 use Rattle.aps_live.specs.Seats.{LiveData, LiveSeatData, own_steps}
 
 -- a scheduler of which nothing is said
 abbrev pub no_live : LiveData
 no_live = record {
   table = record { words = 0; slots = 0; views_name = 0; atom = 0; block = 0; offset = 0; slot_names = [] };
-  setup = no_run.setup;
+  setup = live_log.no_run.setup;
 }
 
 -- the scheduler has what the pool is made for

@@ -1,6 +1,0 @@
-use Rattle.std.proofs.Common.{Some, ◌∷◌, ap, sym, ◌∙◌}
-use Rattle.atomic_table.specs.Table.{rest}
-use Rattle.aps_live.proofs.words.take_core.Goals as goal
-
-pub exchange-requires : goal.exchange-requires
-exchange-requires c = let h = c.requires.held in (c.requires.table.0, (Some h.0, h.1 ∙ ap (λ l. (0, Some h.0) ∷ rest l) (sym h.1)))

@@ -1,4 +1,0 @@
-use Rattle.aps_live.proofs.words.turn_place.Given as goal
-
-abbrev pub ghosts-publish : goal.ghosts-publish
-ghosts-publish g a = record { run = a._core.now }
