@@ -7,35 +7,33 @@ use Rattle.aps_model.specs.declared.entry.Order.{Order}
 use Rattle.aps_model.specs.History.{History}
 use Rattle.aps_words.specs.declared.command.Command.{Command}
 use Rattle.aps_words.specs.declared.command.Report.{Report}
+use Rattle.aps_calls.specs.declared.failure.Failure.{Failure}
+use Rattle.aps_calls.specs.declared.failure.Failure.TheVariants.{WordsRefused, ReadFault, TooLong, InputRefused, NoMemory}
+use Rattle.aps_calls.specs.Intake.{Intake}
 use Rattle.aps_top.specs.declared.outcome.Outcome.{Outcome}
-use Rattle.aps_top.specs.declared.outcome.Outcome.TheVariants.{WordsRefused, ReadFault, TooLong, InputRefused, Ran, Generated, Upgraded, Checked, Admitted, NoMemory}
-use Rattle.aps_top.specs.declared.refusal.InputRefusal.{InputRefusal}
+use Rattle.aps_top.specs.declared.outcome.Outcome.TheVariants.{Failed, Ran}
+use Rattle.aps_calls.specs.declared.refusal.InputRefusal.{InputRefusal}
 use Rattle.aps_top.specs.Asked.{IsToRead, run_asked}
-use Rattle.aps_top.specs.Cause.{Input, input_of, HasCause, IsOutcome}
-use Rattle.aps_top.specs.Reading.{BeginsIn, GivesNone, Intake, most_of, reading_in, refusal_of}
+use Rattle.aps_top.specs.Cause.{FailsFor, Input, input_of, HasCause, IsOutcome}
+use Rattle.aps_top.specs.Reading.{BeginsIn, GivesNone, most_of, reading_in, refusal_of}
 use Rattle.aps_top.specs.Run.{IsRun}
 
-pub lacking : (refused : List ℕ → Option InputRefusal) (input : Input) (outcome : Outcome) → IsToRead input.asked
+pub lacking : (refused : List ℕ → Option InputRefusal) (input : Input) (failure : Failure) → IsToRead input.asked
     → refusal_of input.asked input.reading.bytes ≡ refused input.reading.bytes
-    → GivesNone refused (most_of input.asked) input.reading outcome → HasCause input outcome
+    → GivesNone refused (most_of input.asked) input.reading failure → FailsFor input failure
 lacking refused input WordsRefused to_read same h = absurd h
 lacking refused input ReadFault to_read same h = (to_read, h.0, h.1)
 lacking refused input TooLong to_read same h = (to_read, h)
 lacking refused input (InputRefused refusal) to_read same h = (h.0, same ∙ h.1)
-lacking refused input (Ran report end history) to_read same h = absurd h
-lacking refused input (Generated text) to_read same h = absurd h
-lacking refused input (Upgraded text) to_read same h = absurd h
-lacking refused input (Checked verdict) to_read same h = absurd h
-lacking refused input (Admitted answer) to_read same h = absurd h
 lacking refused input NoMemory to_read same h = inl to_read
 
 -- the same over a source
-pub lacking_in : (refused : List ℕ → Option InputRefusal) (asked : Option Command) (intake : Intake) (outcome : Outcome) → IsToRead asked
+pub lacking_in : (refused : List ℕ → Option InputRefusal) (asked : Option Command) (intake : Intake) (failure : Failure) → IsToRead asked
     → ((bytes : List ℕ) → refusal_of asked bytes ≡ refused bytes)
-    → (bytes : List ℕ) × Consumes intake.before intake.after bytes × GivesNone refused (most_of asked) (reading_in intake bytes) outcome
-    → IsOutcome asked intake outcome
-lacking_in refused asked intake outcome to_read same (bytes, read, none) =
-    (bytes, read, lacking refused (input_of asked intake bytes) outcome to_read (same bytes) none)
+    → (bytes : List ℕ) × Consumes intake.before intake.after bytes × GivesNone refused (most_of asked) (reading_in intake bytes) failure
+    → IsOutcome asked intake (Failed failure)
+lacking_in refused asked intake failure to_read same (bytes, read, none) =
+    (bytes, read, lacking refused (input_of asked intake bytes) failure to_read (same bytes) none)
 
 -- a run that was begun as it was asked for, and went to its end
 pub ran_in : (asked : Option Command) (order : Order) (report : Report) (limit : ℕ) (intake : Intake) (begun : Run) (setup : Setup)

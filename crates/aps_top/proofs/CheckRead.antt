@@ -15,9 +15,9 @@ use Rattle.aps_text.specs.declared.refusal.JournalRefusal.TheVariants as journal
 use Rattle.aps_text.specs.Separator.{journal_place}
 use Rattle.aps_text.specs.Whole.{first_bad_place}
 use Rattle.aps_text.proofs.Wholes.{first_bad_is, none_bad_is}
-use Rattle.aps_top.specs.declared.refusal.InputRefusal.TheVariants.{Text, NoJournal, BadJournal}
+use Rattle.aps_calls.specs.declared.refusal.InputRefusal.TheVariants.{Text, NoJournal, BadJournal}
 use Rattle.aps_top.specs.CheckInput.{IsCheck, check_refusal}
-use Rattle.aps_top.specs.Outcome.{of_refusal, of_journal_refusal}
+use Rattle.aps_calls.specs.Failure.{of_refusal, of_journal_refusal}
 use Rattle.aps_top.specs.Reading.{RefusesText}
 
 pub no_line : (bytes : List ℕ) → journal_place bytes ≡ None → check_refusal bytes ≡ Some NoJournal

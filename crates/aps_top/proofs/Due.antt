@@ -18,16 +18,17 @@ use Rattle.aps_text.proofs.Journals.{one_list}
 use Rattle.aps_words.specs.declared.command.Command.{Command}
 use Rattle.aps_words.specs.declared.command.Command.TheVariants.{Solo, Run, Gen, Upgrade, Check, Admit}
 use Rattle.aps_words.specs.declared.command.Report.{Report}
-use Rattle.aps_top.specs.declared.refusal.InputRefusal.{InputRefusal}
-use Rattle.aps_top.specs.declared.status.Status.{Status}
-use Rattle.aps_top.specs.declared.status.Status.TheVariants.{Done, InputRefused, TooLong}
+use Rattle.aps_calls.specs.declared.refusal.InputRefusal.{InputRefusal}
+use Rattle.aps_calls.specs.declared.status.Status.{Status}
+use Rattle.aps_calls.specs.declared.status.Status.TheVariants.{Done, InputRefused, TooLong}
 use Rattle.aps_top.specs.Asked.{RunAsked, run_asked, IsToRead}
 use Rattle.aps_top.specs.Cause.{Input, RanAsRead, GeneratedAsAsked, UpgradedAsRead, CheckedAsRead, AdmittedAsRead}
 use Rattle.aps_top.specs.CheckInput.{CheckInput, reads_check}
 use Rattle.aps_top.specs.Due.{or_refused, run_status, IsJudged, IsJudgedOf, IsDueTo, IsDueStatus}
 use Rattle.aps_top.specs.Reading.{most_of, refusal_by, refusal_of}
 use Rattle.aps_top.specs.Refusal.{refused_text}
-use Rattle.aps_top.specs.Status.{status_of_end, status_of_verdict, status_of_admission}
+use Rattle.aps_calls.specs.Status.{status_of_end, status_of_verdict}
+use Rattle.aps_top.specs.Outcome.{status_of_admission}
 
 -- ---- what is due
 

@@ -14,19 +14,21 @@ use Rattle.aps_model.specs.History.{History}
 use Rattle.aps_words.specs.declared.command.Command.{Command}
 use Rattle.aps_words.specs.declared.command.Command.TheVariants as command
 use Rattle.aps_words.specs.declared.command.Report.{Report}
-use Rattle.aps_top.specs.declared.status.Status.{Status}
-use Rattle.aps_top.specs.declared.status.Status.TheVariants.{Done, WordsRefused, InputRefused, Rebooted, ReadFault, WriteFault, Limited, NoMemory, TooLong, JournalBreaks, NeedsExceed}
+use Rattle.aps_calls.specs.declared.status.Status.{Status}
+use Rattle.aps_calls.specs.declared.status.Status.TheVariants.{Done, WordsRefused, InputRefused, Rebooted, ReadFault, WriteFault, Limited, NoMemory, TooLong, JournalBreaks, NeedsExceed}
 use Rattle.aps_top.specs.declared.outcome.Outcome.{Outcome}
 use Rattle.aps_top.specs.declared.outcome.Outcome.TheVariants as outcome
+use Rattle.aps_calls.specs.declared.failure.Failure.TheVariants as failure
 use Rattle.aps_top.specs.declared.top.Ended.{Ended}
 use Rattle.aps_top.specs.Asked.{RunAsked, IsToRead, run_asked}
-use Rattle.aps_top.specs.Outcome.{report_text, status_of, text_of, history_of}
-use Rattle.aps_top.specs.Status.{code, or_write_fault, status_of_end, status_of_verdict, status_of_admission}
+use Rattle.aps_calls.specs.Intake.{Intake}
+use Rattle.aps_calls.specs.Printing.{LacksMemory, Output, WritesNothing, WritesPrefix, WritesWhole}
+use Rattle.aps_calls.specs.Status.{code, or_write_fault, status_of_end, status_of_verdict}
+use Rattle.aps_top.specs.Outcome.{Says, report_text, status_of, status_of_admission, text_of, history_of}
 use Rattle.aps_top.specs.Due.{IsDueStatus}
 use Rattle.aps_top.proofs.Unread.{read_if_asked}
 use Rattle.aps_top.specs.Cause.{Input, input_of, HasCause, RanAsRead, CheckedAsRead, AdmittedAsRead, IsOutcome}
-use Rattle.aps_top.specs.Printing.{LacksMemory, Output, Says, WritesNothing, WritesPrefix, WritesWhole}
-use Rattle.aps_top.specs.Reading.{Intake, most_of, refusal_of}
+use Rattle.aps_top.specs.Reading.{most_of, refusal_of}
 use Rattle.aps_top.specs.Refusal.{refused_text, scenario_refusal}
 use Rattle.aps_top.specs.Answers.{Tells, Answers, Comes, OrWanting, Wanting, ReachesHorizon, ReportsWhole, WritesAsked, IsAnswer}
 use Rattle.aps_top.proofs.Due as due
@@ -154,16 +156,16 @@ admission_lacks (Needs sum) h = absurd cc
 
 -- an outcome under status 7 has no text
 lack_has_none : (o : Outcome) → status_of o ≡ NoMemory → text_of o ≡ []
-lack_has_none outcome.WordsRefused h = absurd cc
-lack_has_none outcome.ReadFault h = absurd cc
-lack_has_none outcome.TooLong h = absurd cc
-lack_has_none (outcome.InputRefused refusal) h = absurd cc
+lack_has_none (outcome.Failed failure.WordsRefused) h = absurd cc
+lack_has_none (outcome.Failed failure.ReadFault) h = absurd cc
+lack_has_none (outcome.Failed failure.TooLong) h = absurd cc
+lack_has_none (outcome.Failed (failure.InputRefused refusal)) h = absurd cc
+lack_has_none (outcome.Failed failure.NoMemory) h = refl
 lack_has_none (outcome.Ran report end history) h = absurd (end_lacks end h)
 lack_has_none (outcome.Generated text) h = absurd cc
 lack_has_none (outcome.Upgraded text) h = absurd cc
 lack_has_none (outcome.Checked verdict) h = absurd (verdict_lacks verdict h)
 lack_has_none (outcome.Admitted answer) h = absurd (admission_lacks answer h)
-lack_has_none outcome.NoMemory h = refl
 
 lack_told : (output : Output) (o : Outcome) (told : ℕ) → IsTold output (text_of o) (status_of o) told → told ≡ code NoMemory
     → LacksMemory output
@@ -194,7 +196,7 @@ module _ (input : Input) (output : Output) (ended : Ended) where
       inl (record { status = status; due = is; only = only status is; to_end = to_end; told = inr (p.0, p.1) })
   came text status is to_end (inr (inr p)) = inr (inr (lacking p))
 
-  faulted : (text : List ℕ) → HasCause input outcome.ReadFault → ended.history ≡ None
+  faulted : (text : List ℕ) → HasCause input (outcome.Failed failure.ReadFault) → ended.history ≡ None
       → IsTold output text ReadFault ended.status → Comes input output ended
   faulted text cause none (inl p) =
       inr (inl (record { told = p.0; rose = cause.1; to_read = cause.0; short = cause.2; no_history = none }))
@@ -212,14 +214,15 @@ module _ (input : Input) (output : Output) (ended : Ended) where
 
   comes : (o : Outcome) → HasCause input o → ended.history ≡ history_of o → IsTold output (text_of o) (status_of o) ended.status
       → Comes input output ended
-  comes outcome.WordsRefused cause same told =
+  comes (outcome.Failed failure.WordsRefused) cause same told =
       came _ WordsRefused (subst (λ asked. IsDueStatus asked input.reading.bytes ended.history WordsRefused) (sym cause.0) refl)
       (λ to_read _. absurd (subst IsToRead cause.0 to_read)) told
-  comes outcome.ReadFault cause same told = faulted _ cause same told
-  comes outcome.TooLong cause same told =
+  comes (outcome.Failed failure.ReadFault) cause same told = faulted _ cause same told
+  comes (outcome.Failed failure.TooLong) cause same told =
       came _ TooLong (due.too_long input.asked input.reading.bytes ended.history cause.0 cause.1) (λ _ other. absurd (other refl)) told
-  comes (outcome.InputRefused refusal) cause same told =
+  comes (outcome.Failed (failure.InputRefused refusal)) cause same told =
       came _ InputRefused (due.refused input.asked input.reading.bytes ended.history refusal cause.0.short cause.1) (λ _ _. cause.0.end) told
+  comes (outcome.Failed failure.NoMemory) cause same told = wanting told
   comes (outcome.Ran report end h) cause same told =
       came _ (status_of_end end) (due_as (Some h) _ same (due.ran input report end h cause)) (λ _ _. cause.whole.end) told
   comes (outcome.Generated text) cause same told =
@@ -230,7 +233,6 @@ module _ (input : Input) (output : Output) (ended : Ended) where
       came _ (status_of_verdict verdict) (due_as None _ same (due.checked input verdict cause)) (λ _ _. cause.whole.end) told
   comes (outcome.Admitted answer) cause same told =
       came _ (status_of_admission answer) (due_as None _ same (due.admitted input answer cause)) (λ _ _. cause.whole.end) told
-  comes outcome.NoMemory cause same told = wanting told
 
 -- ---- the text under status 0
 
@@ -273,10 +275,11 @@ admitted_done input output (Needs sum) cause is whole = absurd cc
 
 done : (input : Input) (output : Output) (o : Outcome) → HasCause input o → status_of o ≡ Done → WritesWhole output (text_of o)
     → WritesAsked input.asked input.reading.bytes (history_of o) output
-done input output outcome.WordsRefused cause is whole = absurd cc
-done input output outcome.ReadFault cause is whole = absurd cc
-done input output outcome.TooLong cause is whole = absurd cc
-done input output (outcome.InputRefused refusal) cause is whole = absurd cc
+done input output (outcome.Failed failure.WordsRefused) cause is whole = absurd cc
+done input output (outcome.Failed failure.ReadFault) cause is whole = absurd cc
+done input output (outcome.Failed failure.TooLong) cause is whole = absurd cc
+done input output (outcome.Failed (failure.InputRefused refusal)) cause is whole = absurd cc
+done input output (outcome.Failed failure.NoMemory) cause is whole = absurd cc
 done input output (outcome.Ran report end h) cause is whole = ran_done input output report end h cause is whole
 done input output (outcome.Generated text) cause is whole =
     subst (λ asked. WritesAsked asked input.reading.bytes None output) (sym cause.asked) (_, cause.scenario, whole)
@@ -284,33 +287,24 @@ done input output (outcome.Upgraded text) cause is whole =
     subst (λ asked. WritesAsked asked input.reading.bytes None output) (sym cause.asked) (cause.scenario, _, cause.read, cause.upgraded, whole)
 done input output (outcome.Checked verdict) cause is whole = checked_done input output verdict cause is whole
 done input output (outcome.Admitted answer) cause is whole = admitted_done input output answer cause is whole
-done input output outcome.NoMemory cause is whole = absurd cc
 
 -- ---- the history
 
 run_told : (input : Input) (o : Outcome) → HasCause input o → IfSome (history_of o) (λ h. (report : Report) × (end : End) × RanAsRead input report end h)
-run_told input outcome.WordsRefused cause = tt
-run_told input outcome.ReadFault cause = tt
-run_told input outcome.TooLong cause = tt
-run_told input (outcome.InputRefused refusal) cause = tt
+run_told input (outcome.Failed f) cause = tt
 run_told input (outcome.Ran report end h) cause = (report, end, cause)
 run_told input (outcome.Generated text) cause = tt
 run_told input (outcome.Upgraded text) cause = tt
 run_told input (outcome.Checked verdict) cause = tt
 run_told input (outcome.Admitted answer) cause = tt
-run_told input outcome.NoMemory cause = tt
 
 no_run : (input : Input) (o : Outcome) → HasCause input o → run_asked input.asked ≡ None → history_of o ≡ None
-no_run input outcome.WordsRefused cause none = refl
-no_run input outcome.ReadFault cause none = refl
-no_run input outcome.TooLong cause none = refl
-no_run input (outcome.InputRefused refusal) cause none = refl
+no_run input (outcome.Failed f) cause none = refl
 no_run input (outcome.Ran report end h) cause none = let clash = sym cause.asked ∙ none in absurd cc
 no_run input (outcome.Generated text) cause none = refl
 no_run input (outcome.Upgraded text) cause none = refl
 no_run input (outcome.Checked verdict) cause none = refl
 no_run input (outcome.Admitted answer) cause none = refl
-no_run input outcome.NoMemory cause none = refl
 
 abbrev IsRefusalTold : ℕ → Type 0
 IsRefusalTold told = (told ≡ 1) ⊎ (told ≡ 2) ⊎ (told ≡ 4) ⊎ (told ≡ 8)
@@ -339,16 +333,12 @@ ran_told : (output : Output) (text : List ℕ) (end : End) (told : ℕ) → IsTo
 ran_told output text end told is h = true≢false (sym (refusal_is told h) ∙ ran_is output text end told is)
 
 no_history : (output : Output) (o : Outcome) (told : ℕ) → IsTold output (text_of o) (status_of o) told → IsRefusalTold told → history_of o ≡ None
-no_history output outcome.WordsRefused told is h = refl
-no_history output outcome.ReadFault told is h = refl
-no_history output outcome.TooLong told is h = refl
-no_history output (outcome.InputRefused refusal) told is h = refl
+no_history output (outcome.Failed f) told is h = refl
 no_history output (outcome.Ran report end history) told is h = absurd (ran_told output _ end told is h)
 no_history output (outcome.Generated text) told is h = refl
 no_history output (outcome.Upgraded text) told is h = refl
 no_history output (outcome.Checked verdict) told is h = refl
 no_history output (outcome.Admitted answer) told is h = refl
-no_history output outcome.NoMemory told is h = refl
 
 -- ---- a run in fixed order that reaches the horizon
 
@@ -381,16 +371,17 @@ ran_to input report end h cause reaches = search rules
 complete : (input : Input) (output : Output) (o : Outcome) (ended : Ended) → HasCause input o
     → IsTold output (text_of o) (status_of o) ended.status → ReachesHorizon input
     → ended.status ≢ code ReadFault → ended.status ≢ code WriteFault → (ended.status ≡ code Done) ⊎ IsLackTold output ended.status
-complete input output outcome.WordsRefused ended cause told reaches unread unwritten =
+complete input output (outcome.Failed failure.WordsRefused) ended cause told reaches unread unwritten =
     let clash = sym reaches.asked ∙ ap run_asked cause.0 in absurd cc
-complete input output outcome.ReadFault ended cause told reaches unread unwritten = unread_told output _ ended.status told unread
-complete input output outcome.TooLong ended cause told reaches unread unwritten =
+complete input output (outcome.Failed failure.ReadFault) ended cause told reaches unread unwritten = unread_told output _ ended.status told unread
+complete input output (outcome.Failed failure.TooLong) ended cause told reaches unread unwritten =
     let takes = run_takes input.asked _ input.reading.bytes reaches.asked in
     absurd (omega (arith, cause.1, takes.0, reaches.short))
-complete input output (outcome.InputRefused refusal) ended cause told reaches unread unwritten =
+complete input output (outcome.Failed (failure.InputRefused refusal)) ended cause told reaches unread unwritten =
     let takes = run_takes input.asked _ input.reading.bytes reaches.asked in
     let clash = sym (ap refused_text reaches.read) ∙ sym takes.1 ∙ cause.1 in
     absurd cc
+complete input output (outcome.Failed failure.NoMemory) ended cause told reaches unread unwritten = inr (lack_of_none output ended.status told)
 complete input output (outcome.Ran report end h) ended cause told reaches unread unwritten =
     done_told output _ ended.status
     (subst (λ e. IsTold output (report_text report h) (status_of_end e) ended.status) (ran_to input report end h cause reaches) told) unwritten
@@ -400,7 +391,6 @@ complete input output (outcome.Checked verdict) ended cause told reaches unread 
     let clash = sym reaches.asked ∙ ap run_asked cause.asked in absurd cc
 complete input output (outcome.Admitted answer) ended cause told reaches unread unwritten =
     let clash = sym reaches.asked ∙ ap run_asked cause.asked in absurd cc
-complete input output outcome.NoMemory ended cause told reaches unread unwritten = inr (lack_of_none output ended.status told)
 
 -- ---- all of it
 

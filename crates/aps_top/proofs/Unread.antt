@@ -4,7 +4,8 @@ use Rattle.aps_words.specs.declared.command.Command.{Command}
 use Rattle.aps_words.specs.declared.command.Command.TheVariants as command
 use Rattle.aps_top.specs.declared.outcome.Outcome.{Outcome}
 use Rattle.aps_top.specs.declared.outcome.Outcome.TheVariants as outcome
-use Rattle.aps_top.specs.declared.refusal.InputRefusal.{InputRefusal}
+use Rattle.aps_calls.specs.declared.failure.Failure.TheVariants as failure
+use Rattle.aps_calls.specs.declared.refusal.InputRefusal.{InputRefusal}
 use Rattle.aps_top.specs.Asked.{IsToRead, RunAsked, run_asked}
 use Rattle.aps_top.specs.Cause.{Input, HasCause, IsReadIfAsked}
 use Rattle.aps_top.specs.Reading.{refusal_of}
@@ -30,13 +31,13 @@ run_reads (Some (command.Check order limit)) run is = absurd cc
 run_reads (Some command.Admit) run is = absurd cc
 
 pub read_if_asked : (input : Input) (o : Outcome) → HasCause input o → IsReadIfAsked input
-read_if_asked input outcome.WordsRefused cause = inr cause.1
-read_if_asked input outcome.ReadFault cause = inl cause.0
-read_if_asked input outcome.TooLong cause = inl cause.0
-read_if_asked input (outcome.InputRefused refusal) cause = inl (refused_reads input.asked input.reading.bytes refusal cause.1)
+read_if_asked input (outcome.Failed failure.WordsRefused) cause = inr cause.1
+read_if_asked input (outcome.Failed failure.ReadFault) cause = inl cause.0
+read_if_asked input (outcome.Failed failure.TooLong) cause = inl cause.0
+read_if_asked input (outcome.Failed (failure.InputRefused refusal)) cause = inl (refused_reads input.asked input.reading.bytes refusal cause.1)
+read_if_asked input (outcome.Failed failure.NoMemory) cause = cause
 read_if_asked input (outcome.Ran report end h) cause = inl (run_reads input.asked _ cause.asked)
 read_if_asked input (outcome.Generated text) cause = inr cause.unread
 read_if_asked input (outcome.Upgraded text) cause = inl (subst IsToRead (sym cause.asked) tt)
 read_if_asked input (outcome.Checked verdict) cause = inl (subst IsToRead (sym cause.asked) tt)
 read_if_asked input (outcome.Admitted answer) cause = inl (subst IsToRead (sym cause.asked) tt)
-read_if_asked input outcome.NoMemory cause = cause

@@ -25,17 +25,18 @@ use Rattle.aps_words.specs.declared.command.Command.{Command}
 use Rattle.aps_words.specs.declared.command.Command.TheVariants.{Solo, Run, Gen, Upgrade, Check, Admit}
 use Rattle.aps_words.specs.declared.command.Report.{Report}
 use Rattle.aps_top.specs.declared.outcome.Outcome.{Outcome}
-use Rattle.aps_top.specs.declared.status.Status.{Status}
-use Rattle.aps_top.specs.declared.status.Status.TheVariants.{Done, WordsRefused, InputRefused, ReadFault, WriteFault, NoMemory, TooLong}
+use Rattle.aps_calls.specs.declared.status.Status.{Status}
+use Rattle.aps_calls.specs.declared.status.Status.TheVariants.{Done, WordsRefused, InputRefused, ReadFault, WriteFault, NoMemory, TooLong}
+use Rattle.aps_calls.specs.Intake.{Intake}
+use Rattle.aps_calls.specs.Printing.{LacksMemory, Output, WritesWhole}
+use Rattle.aps_calls.specs.Status.{code, or_write_fault}
 use Rattle.aps_top.specs.declared.top.Ended.{Ended}
 use Rattle.aps_top.specs.Asked.{run_asked, IsToRead}
-use Rattle.aps_top.specs.Status.{code, or_write_fault}
 use Rattle.aps_top.specs.CheckInput.{IsCheck}
 use Rattle.aps_top.specs.Due.{IsDueStatus}
-use Rattle.aps_top.specs.Outcome.{history_of, report_text}
-use Rattle.aps_top.specs.Reading.{Intake, most_of}
+use Rattle.aps_top.specs.Outcome.{Says, history_of, report_text}
+use Rattle.aps_top.specs.Reading.{most_of}
 use Rattle.aps_top.specs.Cause.{Input, input_of, HasCause, IsReadIfAsked, RanAsRead}
-use Rattle.aps_top.specs.Printing.{LacksMemory, Output, Says, WritesWhole}
 use Rattle.aps_model.specs.Limits.{most_scenario_bytes}
 
 -- the answer of a call that had this outcome: its text was made and written, and its history is handed back

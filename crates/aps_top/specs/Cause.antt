@@ -18,10 +18,13 @@ use Rattle.aps_gen.specs.Generated.{generated}
 use Rattle.aps_words.specs.declared.command.Command.{Command}
 use Rattle.aps_words.specs.declared.command.Command.TheVariants.{Gen, Upgrade, Check, Admit}
 use Rattle.aps_words.specs.declared.command.Report.{Report}
+use Rattle.aps_calls.specs.declared.failure.Failure.{Failure}
+use Rattle.aps_calls.specs.declared.failure.Failure.TheVariants.{WordsRefused, ReadFault, TooLong, InputRefused, NoMemory}
+use Rattle.aps_calls.specs.Intake.{Intake}
 use Rattle.aps_top.specs.declared.outcome.Outcome.{Outcome}
-use Rattle.aps_top.specs.declared.outcome.Outcome.TheVariants.{WordsRefused, ReadFault, TooLong, InputRefused, Ran, Generated, Upgraded, Checked, Admitted, NoMemory}
+use Rattle.aps_top.specs.declared.outcome.Outcome.TheVariants.{Failed, Ran, Generated, Upgraded, Checked, Admitted}
 use Rattle.aps_top.specs.Asked.{run_asked, IsToRead}
-use Rattle.aps_top.specs.Reading.{Reading, Intake, reading_in, IsReadWhole, most_of, refusal_of}
+use Rattle.aps_top.specs.Reading.{Reading, reading_in, IsReadWhole, most_of, refusal_of}
 use Rattle.aps_top.specs.CheckInput.{IsCheck}
 use Rattle.aps_top.specs.Run.{IsRun}
 use Rattle.aps_model.specs.Limits.{most_journal_bytes, most_scenario_bytes}
@@ -89,20 +92,24 @@ pub record AdmittedAsRead (input : Input) (answer : Admission) : Type 0 where
   pub read : reads_demands input.reading.bytes ≡ Ok demands
   pub answered : answer ≡ admission demands.shape demands.demands
 
--- each outcome has its cause: the words come before the reading, the reading before the scenario, and that before the run
-abbrev pub HasCause : Input → Outcome → Type 0
-HasCause input WordsRefused = (input.asked ≡ None) × (input.reading.bytes ≡ [])
-HasCause input ReadFault =
+-- each failure has its cause: the words come before the reading, and the reading before what was read
+abbrev pub FailsFor : Input → Failure → Type 0
+FailsFor input WordsRefused = (input.asked ≡ None) × (input.reading.bytes ≡ [])
+FailsFor input ReadFault =
     IsToRead input.asked × Rose input.reading.faults_before input.reading.faults
     × (length input.reading.bytes ≤ most_of input.asked)
-HasCause input TooLong = IsToRead input.asked × (length input.reading.bytes ≡ most_of input.asked + 1)
-HasCause input (InputRefused refusal) = IsWhole input × (refusal_of input.asked input.reading.bytes ≡ Some refusal)
+FailsFor input TooLong = IsToRead input.asked × (length input.reading.bytes ≡ most_of input.asked + 1)
+FailsFor input (InputRefused refusal) = IsWhole input × (refusal_of input.asked input.reading.bytes ≡ Some refusal)
+FailsFor input NoMemory = IsReadIfAsked input
+
+-- each outcome has its cause: what is read comes before the run
+abbrev pub HasCause : Input → Outcome → Type 0
+HasCause input (Failed failure) = FailsFor input failure
 HasCause input (Ran report end h) = RanAsRead input report end h
 HasCause input (Generated text) = GeneratedAsAsked input (string_bytes text)
 HasCause input (Upgraded text) = UpgradedAsRead input (string_bytes text)
 HasCause input (Checked verdict) = CheckedAsRead input verdict
 HasCause input (Admitted answer) = AdmittedAsRead input answer
-HasCause input NoMemory = IsReadIfAsked input
 
 -- the outcome of a call that was asked for this command, over this source: the bytes that it read are a cause of it
 abbrev pub IsOutcome : Option Command → Intake → Outcome → Type 0

@@ -10,8 +10,8 @@ use Rattle.aps_text.specs.declared.separator.JournalAt.{JournalAt}
 use Rattle.aps_text.specs.Place.{Place}
 use Rattle.aps_text.specs.Separator.{journal_place}
 use Rattle.aps_text.specs.Whole.{first_bad_place}
-use Rattle.aps_top.specs.declared.refusal.InputRefusal.{InputRefusal}
-use Rattle.aps_top.specs.declared.refusal.InputRefusal.TheVariants.{Text, NoJournal, BadJournal}
+use Rattle.aps_calls.specs.declared.refusal.InputRefusal.{InputRefusal}
+use Rattle.aps_calls.specs.declared.refusal.InputRefusal.TheVariants.{Text, NoJournal, BadJournal}
 
 -- the scenario before the separating line, and the text of a journal behind it
 pub record CheckInput : Type 0 where

@@ -13,12 +13,13 @@ use Rattle.aps_scenario.specs.Reading.{reads}
 use Rattle.aps_scenario.specs.Refusal.{Refusal}
 use Rattle.aps_words.specs.declared.command.Command.{Command}
 use Rattle.aps_words.specs.declared.command.Command.TheVariants.{Solo, Run, Gen, Upgrade, Check, Admit}
-use Rattle.aps_top.specs.declared.status.Status.{Status}
-use Rattle.aps_top.specs.declared.status.Status.TheVariants.{Done, WordsRefused, InputRefused, TooLong}
-use Rattle.aps_top.specs.declared.refusal.InputRefusal.{InputRefusal}
+use Rattle.aps_calls.specs.declared.status.Status.{Status}
+use Rattle.aps_calls.specs.declared.status.Status.TheVariants.{Done, WordsRefused, InputRefused, TooLong}
+use Rattle.aps_calls.specs.declared.refusal.InputRefusal.{InputRefusal}
 use Rattle.aps_top.specs.CheckInput.{CheckInput, reads_check}
 use Rattle.aps_top.specs.Reading.{most_taken}
-use Rattle.aps_top.specs.Status.{status_of_end, status_of_verdict, status_of_admission}
+use Rattle.aps_calls.specs.Status.{status_of_end, status_of_verdict}
+use Rattle.aps_top.specs.Outcome.{status_of_admission}
 
 -- how the run ended, if there was one
 abbrev pub end_told : Option History → Option End

@@ -1,5 +1,4 @@
 pub mod Asked
-pub mod Status
 pub mod PrintedBound
 pub mod Run
 pub mod Refusal
@@ -8,5 +7,4 @@ pub mod Reading
 pub mod Outcome
 pub mod Due
 pub mod Cause
-pub mod Printing
 pub mod Answers

@@ -12,9 +12,10 @@ use Rattle.aps_scenario.specs.Demands.{Demands, reads_demands}
 use Rattle.aps_scenario.specs.Reading.{reads}
 use Rattle.aps_words.specs.declared.command.Command.{Command}
 use Rattle.aps_words.specs.declared.command.Command.TheVariants as command
-use Rattle.aps_top.specs.declared.outcome.Outcome.{Outcome}
-use Rattle.aps_top.specs.declared.outcome.Outcome.TheVariants.{ReadFault, TooLong, InputRefused, NoMemory}
-use Rattle.aps_top.specs.declared.refusal.InputRefusal.{InputRefusal}
+use Rattle.aps_calls.specs.declared.failure.Failure.{Failure}
+use Rattle.aps_calls.specs.declared.failure.Failure.TheVariants.{ReadFault, TooLong, InputRefused, NoMemory}
+use Rattle.aps_calls.specs.declared.refusal.InputRefusal.{InputRefusal}
+use Rattle.aps_calls.specs.Intake.{Intake}
 use Rattle.aps_top.specs.CheckInput.{IsCheck, check_refusal}
 use Rattle.aps_top.specs.Refusal.{scenario_refusal, demands_refusal}
 use Rattle.aps_model.specs.Limits.{most_journal_bytes, most_scenario_bytes}
@@ -30,17 +31,6 @@ abbrev pub reading_of : List ℕ → Option (List ℕ) → (faults_before faults
 reading_of bytes left faults_before faults =
     record { bytes = bytes; left = left; faults_before = faults_before; faults = faults }
 
--- a source before and after a call: the bytes that it has left, where it tells, and its count of faults
-pub record Intake : Type 0 where
-  pub before : Option (List ℕ)
-  pub after : Option (List ℕ)
-  pub faults_before : ℕ
-  pub faults : ℕ
-
-abbrev pub intake_of : (before after : Option (List ℕ)) → (faults_before faults : ℕ) → Intake
-intake_of before after faults_before faults =
-    record { before = before; after = after; faults_before = faults_before; faults = faults }
-
 -- what came of reading these bytes of a source
 abbrev pub reading_in : Intake → List ℕ → Reading
 reading_in intake bytes = reading_of bytes intake.after intake.faults_before intake.faults
@@ -51,7 +41,7 @@ pub record IsReadWhole (most : ℕ) (reading : Reading) : Type 0 where
   pub short : length reading.bytes ≤ most
 
 -- why an input gives nothing, where its refusals are these
-abbrev pub GivesNone : (List ℕ → Option InputRefusal) → ℕ → Reading → Outcome → Type 0
+abbrev pub GivesNone : (List ℕ → Option InputRefusal) → ℕ → Reading → Failure → Type 0
 GivesNone refused most reading ReadFault = Rose reading.faults_before reading.faults × (length reading.bytes ≤ most)
 GivesNone refused most reading TooLong = length reading.bytes ≡ most + 1
 GivesNone refused most reading (InputRefused refusal) = IsReadWhole most reading × (refused reading.bytes ≡ Some refusal)
@@ -59,19 +49,19 @@ GivesNone refused most reading NoMemory = ⊤
 GivesNone refused most reading _ = ⊥
 
 -- what the whole input is, or a cause why it gives nothing
-abbrev pub Gives : {A : Type 0} → (List ℕ → Option InputRefusal) → (List ℕ → A → Type 0) → ℕ → Reading → Result A Outcome → Type 0
+abbrev pub Gives : {A : Type 0} → (List ℕ → Option InputRefusal) → (List ℕ → A → Type 0) → ℕ → Reading → Result A Failure → Type 0
 Gives refused Is most reading (Ok value) = IsReadWhole most reading × Is reading.bytes value
-Gives refused Is most reading (Err outcome) = GivesNone refused most reading outcome
+Gives refused Is most reading (Err failure) = GivesNone refused most reading failure
 
 -- the same of a text that was read
-abbrev pub RefusesText : Option InputRefusal → Outcome → Type 0
+abbrev pub RefusesText : Option InputRefusal → Failure → Type 0
 RefusesText refused (InputRefused refusal) = refused ≡ Some refusal
 RefusesText refused NoMemory = ⊤
-RefusesText refused outcome = ⊥
+RefusesText refused failure = ⊥
 
-abbrev pub GivesText : {A : Type 0} → Option InputRefusal → (A → Type 0) → Result A Outcome → Type 0
+abbrev pub GivesText : {A : Type 0} → Option InputRefusal → (A → Type 0) → Result A Failure → Type 0
 GivesText refused Is (Ok value) = Is value
-GivesText refused Is (Err outcome) = RefusesText refused outcome
+GivesText refused Is (Err failure) = RefusesText refused failure
 
 -- ---- the kinds of input
 
@@ -87,17 +77,17 @@ IsJudgedText order limit bytes verdict = (scenario : Scenario) × (entries : Lis
     × IsVerdict (record { scenario = scenario; order = order; limit = limit }) entries verdict
 
 -- what the bytes that were read of a source give
-abbrev pub GivesIn : {A : Type 0} → (List ℕ → Option InputRefusal) → (List ℕ → A → Type 0) → ℕ → Intake → Result A Outcome → Type 0
+abbrev pub GivesIn : {A : Type 0} → (List ℕ → Option InputRefusal) → (List ℕ → A → Type 0) → ℕ → Intake → Result A Failure → Type 0
 GivesIn refused Is most intake result =
     (bytes : List ℕ) × Consumes intake.before intake.after bytes × Gives refused Is most (reading_in intake bytes) result
 
-abbrev pub GivesScenario : Intake → Result Scenario Outcome → Type 0
+abbrev pub GivesScenario : Intake → Result Scenario Failure → Type 0
 GivesScenario intake result = GivesIn scenario_refusal IsScenarioText most_scenario_bytes intake result
 
-abbrev pub GivesDemands : Intake → Result Demands Outcome → Type 0
+abbrev pub GivesDemands : Intake → Result Demands Failure → Type 0
 GivesDemands intake result = GivesIn demands_refusal IsDemandsText most_scenario_bytes intake result
 
-abbrev pub GivesVerdict : Order → ℕ → Intake → Result Verdict Outcome → Type 0
+abbrev pub GivesVerdict : Order → ℕ → Intake → Result Verdict Failure → Type 0
 GivesVerdict order limit intake result = GivesIn check_refusal (IsJudgedText order limit) most_journal_bytes intake result
 
 -- ---- the beginning of a run
@@ -110,7 +100,7 @@ pub record IsBegun (order : Order) (limit : ℕ) (bytes : List ℕ) (run : Run) 
   pub entries : run.entries ≡ []
 
 -- the run of the scenario that the input is begins, or there is a cause why it doesn't
-abbrev pub BeginsIn : Intake → Order → ℕ → Result Run Outcome → Type 0
+abbrev pub BeginsIn : Intake → Order → ℕ → Result Run Failure → Type 0
 BeginsIn intake order limit result = GivesIn scenario_refusal (IsBegun order limit) most_scenario_bytes intake result
 
 -- ---- what a command takes

@@ -1,29 +1,14 @@
-//! The answers to a journal and to demands, written under their statuses.
-ghost use Rattle.std.specs.Prelude.{⊤};
+//! The answer to demands, written under its status.
+ghost use Rattle.std.specs.Prelude.{◌≡◌, ⊤};
 ghost use Rattle.aps_admit.specs.Text.{admission_text};
-ghost use Rattle.aps_check.specs.Text.{verdict_text};
-ghost use Rattle.aps_top.specs.Printing.{MakesAndPrints, output_of};
-ghost use Rattle.aps_top.specs.Status.{status_of_verdict, status_of_admission};
+ghost use Rattle.aps_calls.specs.Printing.{MakesAndPrints, output_of};
+ghost use Rattle.aps_top.specs.Outcome.{status_of_admission};
 
-use crate::printing::print;
-use crate::status::Status;
 use aps_admit::Admission;
-use aps_check::Verdict;
+use aps_calls::printing::print;
+use aps_calls::status::Status;
 use aps_io::Sink;
 use std::alloc::Global;
-
-/// Writes the line of a verdict, and gives its status; or there was no memory for the line, and nothing was written.
-pub fn print_verdict<K: Sink>(alloc: Global, verdict: &Verdict, sink: &mut K) -> Status
-    ensures { MakesAndPrints ⊤
-        (output_of (K.written sink.old) (K.written sink.new) (K.faults sink.old) (K.faults sink.new)
-        (K.shortages sink.old) (K.shortages sink.new))
-        (verdict_text verdict.now) (status_of_verdict verdict.now) result }
-{
-    match aps_check::text::print_verdict(alloc, verdict) {
-        Ok(text) => print(sink, text.as_bytes(), Status::of_verdict(verdict)),
-        Err(_) => Status::NoMemory,
-    }
-}
 
 /// Writes the lines of an answer to demands, and gives its status; or there was no memory for the lines, and nothing was
 /// written.
@@ -34,7 +19,17 @@ pub fn print_admission<K: Sink>(alloc: Global, admission: &Admission, sink: &mut
         (admission_text admission.now) (status_of_admission admission.now) result }
 {
     match aps_admit::print(alloc, admission) {
-        Ok(text) => print(sink, text.as_bytes(), Status::of_admission(admission)),
+        Ok(text) => print(sink, text.as_bytes(), status_of(admission)),
         Err(_) => Status::NoMemory,
+    }
+}
+
+/// The status of an answer to demands.
+fn status_of(admission: &Admission) -> Status
+    ensures { result ≡ status_of_admission admission.now }
+{
+    match admission {
+        Admission::Budgets(_) => Status::Done,
+        Admission::Needs { .. } => Status::NeedsExceed,
     }
 }

@@ -5,11 +5,8 @@
 mod answer;
 pub mod hint;
 mod outcome;
-mod printing;
 mod reading;
-mod refusal;
 mod report;
 mod run;
-pub mod status;
 mod threads;
 pub mod top;

@@ -7,20 +7,21 @@ ghost use Rattle.aps_words.specs.Command.{HasRanges, command};
 ghost use Rattle.aps_words.specs.declared.command.Command.TheVariants as asked;
 ghost use Rattle.aps_top.specs.Asked.{calm, calm_command};
 ghost use Rattle.aps_top.specs.Cause.{Input, HasCause, IsOutcome};
-ghost use Rattle.aps_top.specs.Outcome.{history_of, status_of, text_of};
-ghost use Rattle.aps_top.specs.Printing.{Says, output_of};
-ghost use Rattle.aps_top.specs.Reading.{intake_of};
+ghost use Rattle.aps_top.specs.Outcome.{Says, history_of};
+ghost use Rattle.aps_calls.specs.Intake.{intake_of};
+ghost use Rattle.aps_calls.specs.Printing.{output_of};
 ghost use Rattle.aps_model.specs.Limits.{most_cpus, most_entries, most_partitions, most_ticks};
 
-use crate::answer::{print_admission, print_verdict};
-use crate::printing::print;
+use crate::answer::print_admission;
 use crate::reading::{read_demands, read_scenario, read_verdict};
-use crate::refusal::{InputRefusal, print_refusal};
 use crate::report::print_report;
 use crate::run::{begin, run_to_end};
-use crate::status::Status;
 use crate::threads::run_on_threads;
 use aps_admit::{Admission, admit};
+use aps_calls::failure::Failure;
+use aps_calls::printing::print;
+use aps_calls::status::Status;
+use aps_calls::verdict::print_verdict;
 use aps_check::Verdict;
 use aps_cpu::Gate;
 use aps_gen::generate;
@@ -35,14 +36,8 @@ use std::thread::Threads;
 /// The outcome of a call of the program.
 #[derive(Drop)]
 pub enum Outcome {
-    /// The words are no command.
-    WordsRefused,
-    /// Reading failed.
-    ReadFault,
-    /// The input is too long.
-    TooLong,
-    /// The input is none that the command takes.
-    InputRefused(InputRefusal),
+    /// There is none, for this cause.
+    Failed(Failure),
     /// The scenario was run to this end, and this report is asked for.
     Ran {
         report: Report,
@@ -65,8 +60,6 @@ pub enum Outcome {
     Admitted {
         admission: Admission,
     },
-    /// There was no memory.
-    NoMemory,
 }
 
 impl Outcome {
@@ -83,8 +76,8 @@ impl Outcome {
     {
         match command_of(alloc, words) {
             Ok(command) => Outcome::of_command(rt, alloc, command, source, gate),
-            Err(WordsRefusal::Words) => Outcome::WordsRefused,
-            Err(WordsRefusal::NoMemory) => Outcome::NoMemory,
+            Err(WordsRefusal::Words) => Outcome::Failed(Failure::WordsRefused),
+            Err(WordsRefusal::NoMemory) => Outcome::Failed(Failure::NoMemory),
         }
     }
 
@@ -121,8 +114,8 @@ impl Outcome {
     {
         match command_of(alloc, words) {
             Ok(command) => Outcome::of_calm(alloc, command, source),
-            Err(WordsRefusal::Words) => Outcome::WordsRefused,
-            Err(WordsRefusal::NoMemory) => Outcome::NoMemory,
+            Err(WordsRefusal::Words) => Outcome::Failed(Failure::WordsRefused),
+            Err(WordsRefusal::NoMemory) => Outcome::Failed(Failure::NoMemory),
         }
     }
 
@@ -134,7 +127,7 @@ impl Outcome {
     {
         match command {
             Command::Solo { report, limit } => Outcome::of_solo(alloc, report, limit, source),
-            Command::Run { .. } => Outcome::WordsRefused,
+            Command::Run { .. } => Outcome::Failed(Failure::WordsRefused),
             Command::Gen {
                 seed,
                 cpus,
@@ -163,7 +156,7 @@ impl Outcome {
                     history,
                 }
             }
-            Err(outcome) => outcome,
+            Err(failure) => Outcome::Failed(failure),
         }
     }
 
@@ -191,7 +184,7 @@ impl Outcome {
                     history,
                 }
             }
-            Err(outcome) => outcome,
+            Err(failure) => Outcome::Failed(failure),
         }
     }
 
@@ -208,7 +201,7 @@ impl Outcome {
     {
         match generated_text(alloc, seed, cpus, partitions, ticks) {
             Ok(text) => Outcome::Generated { text },
-            Err(_) => Outcome::NoMemory,
+            Err(_) => Outcome::Failed(Failure::NoMemory),
         }
     }
 
@@ -219,11 +212,11 @@ impl Outcome {
     {
         let scenario = match read_scenario(alloc, source) {
             Ok(scenario) => scenario,
-            Err(outcome) => return outcome,
+            Err(failure) => return Outcome::Failed(failure),
         };
         match upgraded_text(alloc, scenario) {
             Ok(text) => Outcome::Upgraded { text },
-            Err(_) => Outcome::NoMemory,
+            Err(_) => Outcome::Failed(Failure::NoMemory),
         }
     }
 
@@ -236,7 +229,7 @@ impl Outcome {
     {
         match read_verdict(alloc, order, limit, source) {
             Ok(verdict) => Outcome::Checked { verdict },
-            Err(outcome) => outcome,
+            Err(failure) => Outcome::Failed(failure),
         }
     }
 
@@ -247,11 +240,11 @@ impl Outcome {
     {
         let demands = match read_demands(alloc, source) {
             Ok(demands) => demands,
-            Err(outcome) => return outcome,
+            Err(failure) => return Outcome::Failed(failure),
         };
         match admit(alloc, demands.shape(), demands.as_slice()) {
             Ok(admission) => Outcome::Admitted { admission },
-            Err(_) => Outcome::NoMemory,
+            Err(_) => Outcome::Failed(Failure::NoMemory),
         }
     }
 
@@ -261,10 +254,7 @@ impl Outcome {
             (K.shortages sink.old) (K.shortages sink.new)) self.now result }
     {
         match self {
-            Outcome::WordsRefused => print(sink, b"aps: words refused\n", Status::WordsRefused),
-            Outcome::ReadFault => print(sink, b"aps: read fault\n", Status::ReadFault),
-            Outcome::TooLong => print(sink, b"aps: input too long\n", Status::TooLong),
-            Outcome::InputRefused(refusal) => print_refusal(alloc, refusal, sink),
+            Outcome::Failed(failure) => failure.say(alloc, sink),
             Outcome::Ran {
                 report,
                 end,
@@ -277,7 +267,6 @@ impl Outcome {
             ),
             Outcome::Checked { verdict } => print_verdict(alloc, verdict, sink),
             Outcome::Admitted { admission } => print_admission(alloc, admission, sink),
-            Outcome::NoMemory => Status::NoMemory,
         }
     }
 

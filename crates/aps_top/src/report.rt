@@ -4,11 +4,11 @@ ghost use Rattle.aps_model.specs.Audit.{audit_of};
 ghost use Rattle.aps_model.specs.Journal.{journal_text};
 ghost use Rattle.aps_model.specs.Report.{summary_text, windows_text};
 ghost use Rattle.aps_top.specs.Outcome.{report_text};
-ghost use Rattle.aps_top.specs.Printing.{MakesAndPrints, output_of};
+ghost use Rattle.aps_calls.specs.Printing.{MakesAndPrints, output_of};
 
-use crate::printing::print;
-use crate::status::Status;
 use aps_bound::audit;
+use aps_calls::printing::print;
+use aps_calls::status::Status;
 use aps_io::Sink;
 use aps_model::History;
 use aps_report::{JournalFault, journal, summary, windows};

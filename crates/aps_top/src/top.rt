@@ -2,9 +2,9 @@
 ghost use Rattle.std.specs.Prelude.{map, string_bytes};
 ghost use Rattle.aps_words.specs.Command.{command};
 ghost use Rattle.aps_top.specs.Asked.{calm_command};
-ghost use Rattle.aps_top.specs.Printing.{output_of};
+ghost use Rattle.aps_calls.specs.Printing.{output_of};
 ghost use Rattle.aps_top.specs.Answers.{Tells, IsAnswer};
-ghost use Rattle.aps_top.specs.Reading.{intake_of};
+ghost use Rattle.aps_calls.specs.Intake.{intake_of};
 
 use crate::outcome::Outcome;
 use aps_cpu::Gate;

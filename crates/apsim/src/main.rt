@@ -1,11 +1,11 @@
 //! The program: it reads a scenario from standard input, runs it, and writes what came of it to standard output.
 #![tactic(auto)]
 
+use aps_calls::status::Status;
 use aps_cpu::{ClockGate, Gate};
 use aps_hints::{Given, KeptSource, WatchedSink, tell_write_fault};
 use aps_io::{Sink, Source, StdSink, StdSource, words_of};
 use aps_top::hint::tell_person;
-use aps_top::status::Status;
 use aps_top::top::top;
 use std::alloc::Global;
 use std::process::ExitCode;

@@ -2,11 +2,11 @@
 //! or reads a scenario with a journal and judges that, and writes a report of the history to standard output.
 #![tactic(auto)]
 
+use aps_calls::status::Status;
 use aps_hints::{Given, KeptSource, WatchedSink, tell_write_fault};
 use aps_io::{StdSink, StdSource, words_of};
 use std::process::ExitCode;
 use view_top::hint::tell_person;
-use view_top::status::Status;
 use view_top::top::top;
 
 fn main(rt: HostRuntime) -> ExitCode {

@@ -1,5 +1,4 @@
 pub mod Said
-pub mod Separated
 pub mod Retraced
 pub mod Viewed
 pub mod Dues

@@ -1,27 +1,28 @@
--- A core that makes the steps of a legal journal again.
-use Rattle.std.proofs.Common.{◌≡◌, ℕ, ◌+◌, ◌<◌, List, drop, get_or, length, subst, take}
+-- The entries of a run so far are no more than its limit.
+use Rattle.std.proofs.Common.{◌≡◌, ◌≤◌, ◌++◌, List, [], ◌∷◌, length, take, drop, refl, sym, ap, subst, ◌∙◌, inl, inr, arith}
+use Rattle.std.proofs.lemmas.Bool.{cases_lt}
+use Rattle.std.proofs.lemmas.List.{append-nil, length-take-le, take-append-drop}
 use Rattle.aps_model.specs.declared.entry.Entry.{Entry}
-use Rattle.aps_model.specs.Legal.{IsLegal}
-use Rattle.laws_runs.proofs.Prefixes.{goes_on}
-use Rattle.laws_runs.specs.Runs.{GoesOn}
+use Rattle.laws_runs.specs.Runs.{EndsNoSooner}
 use Rattle.aps_check.specs.Verdict.{IsRunSoFar}
-use Rattle.aps_core.specs.Run.{Run, Setup}
-use Rattle.aps_core.specs.Turn.{IsTurnTaken}
-use Rattle.view_lives.proofs.Retraced.{parted}
+use Rattle.aps_core.specs.Run.{Setup}
+use Rattle.view_replay.proofs.Limits.{below_limit}
 
--- the run of the first entries
-abbrev pub begun : Setup → List Entry → ℕ → Run
-begun setup h i = record { setup = setup; entries = take i h }
+-- behind as many entries as the limit there is none
+none_behind : (setup : Setup) (before rest : List Entry) → EndsNoSooner setup.scenario setup.limit (before ++ rest) → length before ≡ setup.limit → rest ≡ []
+none_behind setup before [] no_sooner full = refl
+none_behind setup before (e ∷ later) no_sooner full =
+    let below = below_limit (record { setup = setup; entries = before }) (omega (arith, full)) (no_sooner before later e refl) in
+    absurd (omega (arith, below, full))
 
--- the next entry is the step of its processor, which has the turn
-pub next_taken : (setup : Setup) (h : List Entry) (i : ℕ) (e : Entry) → IsRunSoFar setup h → i < length h → get_or h i e ≡ e
-    → IsTurnTaken (begun setup h i) e.cpu e
-next_taken setup h i e sound less is =
-    let parts = parted h i e less is in
-    let next : GoesOn setup.scenario setup.order (take i h) e =
-    goes_on setup.scenario setup.order (take i h) (drop (i + 1) h) e (subst (IsLegal setup.scenario setup.order) parts sound.legal) in
-    record {
-      goes_on = sound.no_sooner (take i h) (drop (i + 1) h) e parts;
-      turn = next.turn;
-      stepped = next.same;
-    }
+pub runs_fit : (setup : Setup) (h : List Entry) → IsRunSoFar setup h → length h ≤ setup.limit
+runs_fit setup h sound = elim (cases_lt setup.limit (length h)) [
+  | inl more ↦
+      let before = take setup.limit h in
+      let whole = take-append-drop setup.limit h in
+      let count = length-take-le setup.limit h (omega (arith, more)) in
+      let none = none_behind setup before (drop setup.limit h) (subst (EndsNoSooner setup.scenario setup.limit) (sym whole) sound.no_sooner) count in
+      let same : length h ≡ length before = ap (λ (l : List Entry). length l) (sym whole ∙ ap (λ (rest : List Entry). before ++ rest) none ∙ append-nil before) in
+      omega (arith, same, count)
+  | inr few ↦ few
+]

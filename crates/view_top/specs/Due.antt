@@ -21,14 +21,15 @@ use Rattle.aps_text.specs.Separator.{journal_place}
 use Rattle.view_words.specs.declared.asked.Asked.{Asked}
 use Rattle.view_words.specs.declared.asked.Report.{Report}
 use Rattle.view_words.specs.declared.asked.Trace.{Trace}
-use Rattle.view_top.specs.declared.refusal.InputRefusal.{InputRefusal}
-use Rattle.view_top.specs.declared.refusal.InputRefusal.TheVariants.{Text, BadJournal}
-use Rattle.view_top.specs.declared.status.Status.{Status}
-use Rattle.view_top.specs.declared.status.Status.TheVariants.{Done, WordsRefused, InputRefused, NoMemory, TooLong, JournalBreaks}
+use Rattle.aps_calls.specs.declared.refusal.InputRefusal.{InputRefusal}
+use Rattle.aps_calls.specs.declared.refusal.InputRefusal.TheVariants.{Text, BadJournal}
+use Rattle.aps_calls.specs.declared.status.Status.{Status}
+use Rattle.aps_calls.specs.declared.status.Status.TheVariants.{Done, WordsRefused, InputRefused, NoMemory, TooLong, JournalBreaks}
 use Rattle.view_top.specs.Printing.{Told, Told.at_once, Told.in_pieces}
-use Rattle.view_top.specs.Refusal.{refusal_of, refusal_text}
+use Rattle.aps_calls.specs.Refusal.{refusal_text}
+use Rattle.view_top.specs.Refusal.{report_refusal}
 use Rattle.view_top.specs.Report.{IsReport, trace_of}
-use Rattle.view_top.specs.Status.{code, status_of_end}
+use Rattle.aps_calls.specs.Status.{code, status_of_end}
 use Rattle.view_top.specs.Traced.{trace_told}
 use Rattle.aps_model.specs.Limits.{most_journal_bytes, most_scenario_bytes}
 
@@ -49,7 +50,7 @@ refused refusal = record { status = InputRefused; text = at_once (refusal_text r
 -- the text of a report under this status; without one the report is refused
 abbrev pub reported : Report → Status → Option (List ℕ) → Due
 reported report status (Some text) = record { status = status; text = at_once text }
-reported report status None = refused (refusal_of report)
+reported report status None = refused (report_refusal report)
 
 -- what is due where a report of a history was asked for, under this status
 abbrev pub IsReportedBy : Option Trace → Report → Scenario → List Entry → Status → Due → Type 0
@@ -126,9 +127,9 @@ abbrev pub IsDueOfInput : Asked → List ℕ → Due → Type 0
 IsDueOfInput asked bytes due = IsDueOfParts asked bytes (journal_place bytes) due
 
 -- what these words and this input make due: the words come first, then the length, then what the input is
-abbrev pub IsDue : Option Asked → List ℕ → Due → Type 0
-IsDue None input due = due ≡ words_refused
-IsDue (Some asked) input due =
+abbrev pub IsViewDue : Option Asked → List ℕ → Due → Type 0
+IsViewDue None input due = due ≡ words_refused
+IsViewDue (Some asked) input due =
     ((most_journal_bytes < length input) × (due ≡ too_long)) ⊎ ((length input ≤ most_journal_bytes) × IsDueOfInput asked input due)
 
 -- what was written is the text
@@ -139,4 +140,4 @@ IsAdded before after (in_pieces text) = after ≡ before ++ text
 -- the status that is due came, and its text was written; or memory ran out
 abbrev pub IsDueTold : Option Asked → List ℕ → List ℕ → List ℕ → ℕ → Type 0
 IsDueTold asked input before after told =
-    ((due : Due) × IsDue asked input due × (told ≡ code due.status) × IsAdded before after due.text) ⊎ (told ≡ code NoMemory)
+    ((due : Due) × IsViewDue asked input due × (told ≡ code due.status) × IsAdded before after due.text) ⊎ (told ≡ code NoMemory)

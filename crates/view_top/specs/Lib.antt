@@ -1,7 +1,5 @@
 pub mod Naming
-pub mod Status
 pub mod Printing
-pub mod Intake
 pub mod Report
 pub mod Traced
 pub mod Refusal

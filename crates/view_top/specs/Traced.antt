@@ -9,7 +9,7 @@ use Rattle.view_words.specs.declared.asked.Trace.{Trace}
 use Rattle.view_value_changes.specs.Dump.{dump_text}
 use Rattle.view_value_changes.specs.Save.{save_text}
 use Rattle.view_words.specs.declared.asked.Trace.TheVariants.{Vcd, Gtkw, Events}
-use Rattle.view_top.specs.declared.status.Status.{Status}
+use Rattle.aps_calls.specs.declared.status.Status.{Status}
 use Rattle.view_top.specs.Printing.{Told, Told.in_pieces}
 
 -- which trace, of which history, under which status

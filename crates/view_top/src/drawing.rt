@@ -5,9 +5,8 @@ ghost use Rattle.aps_model.specs.Limits.{most_entries};
 
 use aps_model::{History, NoMemory, Order};
 use std::alloc::Global;
-use view_pictures::{Ticks, threads_text, usage_text};
+use view_pictures::{Ticks, threads_text, timeline_text, usage_text};
 use view_shares::all_overspent;
-use view_timeline::timeline_text;
 use view_words::Picture;
 
 /// This picture of a history, which is legal in this order of turns, from tick to tick. `NoMemory` comes where memory runs out.

@@ -1,5 +1,5 @@
 //! What a person is told of a refusal on standard error. No status and no line of standard output depends on it.
-use crate::status::Status;
+use aps_calls::status::Status;
 use aps_hints::{
     Given, Line, Program, tell_line, tell_read_fault, tell_words, value_given, view_hint,
     view_usage_meant,

@@ -8,8 +8,8 @@ ghost use Rattle.view_top.specs.Due.{IsDueOfRun, IsDueOfSetup, status_by};
 ghost use Rattle.aps_model.specs.Limits.{most_entries};
 
 use crate::outcome::Outcome;
-use crate::status::Status;
 use crate::viewing::{of_text, told};
+use aps_calls::status::Status;
 use aps_core::Core;
 use aps_model::{NoMemory, Order, Scenario};
 use std::alloc::Global;

@@ -1,9 +1,9 @@
 //! The whole program as one call: the words, the reading, the run and the printing.
 ghost use Rattle.std.specs.Prelude.{map, string_bytes};
-ghost use Rattle.view_top.specs.Answer.{IsAnswer};
+ghost use Rattle.view_top.specs.Answer.{IsViewAnswer};
 ghost use Rattle.view_words.specs.Asked.{asked};
-ghost use Rattle.view_top.specs.Intake.{intake_of};
-ghost use Rattle.view_top.specs.Printing.{output_of};
+ghost use Rattle.aps_calls.specs.Intake.{intake_of};
+ghost use Rattle.aps_calls.specs.Printing.{output_of};
 
 use crate::outcome::Outcome;
 use aps_io::{Sink, Source};
@@ -17,9 +17,10 @@ use std::alloc::Global;
 /// prefix of the text there, and so does want of memory.
 pub fn top<S: Source, K: Sink>(alloc: Global, words: &[String], source: &mut S, sink: &mut K) -> u8
     // One outcome that its words and its input are the cause of, told.
-    ensures { IsAnswer (asked (map string_bytes words.now))
+    ensures { IsViewAnswer (asked (map string_bytes words.now))
         (intake_of (S.left source.old) (S.left source.new) (S.faults source.old) (S.faults source.new))
-        (output_of (K.written sink.old) (K.written sink.new) (K.faults sink.old) (K.faults sink.new)) result }
+        (output_of (K.written sink.old) (K.written sink.new) (K.faults sink.old) (K.faults sink.new)
+        (K.shortages sink.old) (K.shortages sink.new)) result }
 {
     let outcome = Outcome::of(alloc, words, source);
     let status = outcome.say(alloc, sink);

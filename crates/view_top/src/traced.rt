@@ -1,17 +1,19 @@
 //! A history that is told as a trace, for a viewer.
 ghost use Rattle.std.specs.Prelude.{◌≡◌, ◌≤◌, IsErrOf, OnOk};
 ghost use Rattle.aps_io.specs.Causes.{Rose};
-ghost use Rattle.view_top.specs.Printing.{Says, SaysAll, output_of};
+ghost use Rattle.aps_calls.specs.Printing.{output_of};
+ghost use Rattle.view_top.specs.Printing.{SaysTold, SaysAll};
 ghost use Rattle.view_top.specs.Traced.{trace_told};
 ghost use Rattle.aps_model.specs.Limits.{most_entries};
 
-use crate::status::Status;
+use aps_calls::status::Status;
 use aps_core::Core;
 use aps_io::{Sink, write_all};
 use std::alloc::Global;
 use std::marker::Model;
 use view_shares::all_overspent;
-use view_trace_events::{TraceFault, trace};
+use view_texts::TraceFault;
+use view_trace_events::trace;
 use view_value_changes::{gtkw, vcd};
 use view_words::Trace;
 
@@ -51,7 +53,8 @@ impl Traced {
     /// Writes the trace, and gives the status for which it was written. A fault of the sink takes the place of `Done` alone,
     /// and want of memory that of any status; a part was written then.
     pub fn say<K: Sink>(&self, alloc: Global, sink: &mut K) -> Status
-        ensures { Says (output_of (K.written sink.old) (K.written sink.new) (K.faults sink.old) (K.faults sink.new))
+        ensures { SaysTold (output_of (K.written sink.old) (K.written sink.new) (K.faults sink.old) (K.faults sink.new)
+            (K.shortages sink.old) (K.shortages sink.new))
             (trace_told self.now.trace self.now.run.setup.scenario self.now.run.entries) self.now.status result }
     {
         match self.write(alloc, sink) {
@@ -63,7 +66,8 @@ impl Traced {
 
     /// Writes the trace, piece by piece.
     fn write<K: Sink>(&self, alloc: Global, sink: &mut K) -> Result<(), TraceFault>
-        ensures whole { OnOk result (SaysAll (output_of (K.written sink.old) (K.written sink.new) (K.faults sink.old) (K.faults sink.new))
+        ensures whole { OnOk result (SaysAll (output_of (K.written sink.old) (K.written sink.new) (K.faults sink.old) (K.faults sink.new)
+            (K.shortages sink.old) (K.shortages sink.new))
             (trace_told self.now.trace self.now.run.setup.scenario self.now.run.entries)) }
         ensures fault { IsErrOf result TraceFault.WriteFault → Rose (K.faults sink.old) (K.faults sink.new) }
         ensures later { K.faults sink.old ≤ K.faults sink.new }

@@ -1,8 +1,7 @@
 //! What comes of what a core has recorded, and of a scenario with the entries of a journal.
-ghost use Rattle.std.specs.Prelude.{◌≡◌, ℕ, ◌<◌, ◌≤◌, List, [], Option, option_map, string_bytes, IfOk};
+ghost use Rattle.std.specs.Prelude.{◌≡◌, ℕ, ◌≤◌, List, Option, option_map, string_bytes, IfOk};
 ghost use Rattle.aps_check.specs.Verdict.{IsRunSoFar};
-ghost use Rattle.aps_core.specs.Turn.{IsTurnTaken, with_entry};
-ghost use Rattle.view_top.specs.declared.status.Status.TheVariants.{Done};
+ghost use Rattle.aps_calls.specs.declared.status.Status.TheVariants.{Done};
 ghost use Rattle.view_top.specs.Cause.{told_by};
 ghost use Rattle.view_top.specs.Due.{IsDueOfEntries, IsReported, judging, reported};
 ghost use Rattle.view_top.specs.Report.{IsReport};
@@ -11,12 +10,14 @@ ghost use Rattle.aps_model.specs.Limits.{most_entries};
 use crate::outcome::Outcome;
 use crate::refusal::refusal_of;
 use crate::report::{report_of, trace_of};
-use crate::status::Status;
 use crate::traced::Traced;
+use aps_calls::failure::Failure;
+use aps_calls::status::Status;
 use aps_check::{Verdict, check};
 use aps_core::Core;
 use aps_model::{Entry, NoMemory, Order, Scenario};
 use std::alloc::Global;
+use view_replay::retrace_rest;
 use view_words::{Asked, Report};
 
 /// What comes of what the core has recorded, under this status.
@@ -55,7 +56,7 @@ pub fn of_text(report: Report, status: Status, text: Option<String>) -> Outcome
 {
     match text {
         Some(text) => Outcome::Reported { status, text },
-        None => Outcome::InputRefused(refusal_of(report)),
+        None => Outcome::Failed(Failure::InputRefused(refusal_of(report))),
     }
 }
 
@@ -90,28 +91,6 @@ fn viewed(
     ensures { IfOk result (λ outcome. IsReported asked.report scenario entries.now Done (told_by outcome)) }
 {
     let mut core = Core::boot(alloc, scenario, Order::Free, asked.limit)?;
-    retrace(&mut core, entries);
+    retrace_rest(&mut core, entries, 0);
     told(alloc, asked.report, core, Status::Done)
-}
-
-/// The core, which has no entries yet, makes the steps of which these are the entries.
-fn retrace(core: &mut Core, entries: &[Entry])
-    requires begun { core.old.entries ≡ [] }
-    requires sound { IsRunSoFar core.old.setup entries.now }
-    ensures { core.new ≡ record core.old { entries = entries.now } }
-{
-    // the check wants to see here that the scenario is a valid one
-    let _history = core.history();
-    for entry in entries {
-        step(core, entry);
-    }
-}
-
-/// The core makes the step of which this is the entry.
-fn step(core: &mut Core, entry: &Entry)
-    requires exists { entry.now.cpu < core.old.setup.scenario.shape.cpus }
-    requires taken { IsTurnTaken core.old entry.now.cpu entry.now }
-    ensures { core.new ≡ with_entry core.old entry.now }
-{
-    let _turn = core.step(entry.cpu);
 }

@@ -1,9 +1,10 @@
-//! Makes worked calls of the program, and says of each how it ended, and whether it wrote the text that was worked out.
+//! Makes worked calls of both programs, and says of each how it ended, and whether it wrote the text that was worked out.
 //!
 //! Each line of standard input is such a call: its words, what it reads, and what it has to write, as
-//! `solo --report windows < two_equal.toml = two_equal.windows`. Files lie where the program runs. The input may have several pieces, as
-//! `two_equal.toml+calls/separator`, and many copies of one, as `calls/sign*20`. A call behind `|` reads what the one before it wrote; one
-//! behind `&` what the one before it read, and behind that, as a journal, what it wrote. Where no text was worked out, only the end is said.
+//! `solo --report windows < two_equal.toml = two_equal.windows`. A call whose first word is `view` is one of `apsview`, all others are of
+//! `apsim`. Files lie where the program runs. The input may have several pieces, as `two_equal.toml+calls/separator`, and many copies of
+//! one, as `calls/sign*20`. A call behind `|` reads what the one before it wrote; one behind `&` what the one before it read, and behind
+//! that, as a journal, what it wrote. Where no text was worked out, only the end is said.
 #![tactic(auto)]
 
 use aps_io::{CalmSink, CalmSource};
@@ -11,6 +12,7 @@ use aps_top::top::calm_top;
 use std::alloc::{AllocError, Global};
 use std::process::ExitCode;
 use std::{fs, io};
+use view_top::calm::calm_top as calm_view;
 
 /// What stands between a scenario and a journal.
 const SEPARATOR: &[u8] = b"--- journal\n";
@@ -31,13 +33,24 @@ fn words_of(alloc: Global, text: &str) -> Result<Vec<String>, AllocError> {
     Ok(words)
 }
 
-/// How a call with these words ends: its status, and how many entries its history has, if there is one.
+/// The words behind `view`, if that is the first one.
+fn view_of(words: &[String]) -> Option<&[String]> {
+    match words {
+        [first, view @ ..] if first.as_str() == "view" => Some(view),
+        _ => None,
+    }
+}
+
+/// How a call with these words ends: its status, and how many entries its history has, if it hands one back.
 fn end_of(
     alloc: Global,
     words: &[String],
     source: &mut CalmSource,
     sink: &mut CalmSink,
 ) -> (u8, Option<usize>) {
+    if let Some(view) = view_of(words) {
+        return (calm_view(alloc, view, source, sink), None);
+    }
     let ended = calm_top(alloc, words, source, sink);
     let entries = ended
         .history

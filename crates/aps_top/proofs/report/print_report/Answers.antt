@@ -1,6 +1,6 @@
 use Rattle.std.proofs.Common.{refl, sym, ap}
 use Rattle.aps_top.specs.Outcome.{report_text}
-use Rattle.aps_top.proofs.Said.{makes_as}
+use Rattle.aps_calls.proofs.Said.{makes_as}
 use Rattle.aps_top.proofs.report.print_report.Goals as goal
 
 pub returns-in-Summary : goal.returns-in-Summary

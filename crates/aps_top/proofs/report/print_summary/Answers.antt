@@ -1,6 +1,6 @@
 use Rattle.std.proofs.Common.{refl, ap, ◌∙◌}
 use Rattle.aps_model.specs.Report.{summary_text}
-use Rattle.aps_top.proofs.Said.{made_as}
+use Rattle.aps_calls.proofs.Said.{made_as}
 use Rattle.aps_top.proofs.report.print_summary.Goals as goal
 
 pub returns-in-Ok : goal.returns-in-Ok

@@ -1,5 +1,5 @@
 use Rattle.std.proofs.Common.{refl, ◌∙◌}
-use Rattle.aps_top.proofs.Said.{made_as}
+use Rattle.aps_calls.proofs.Said.{made_as}
 use Rattle.aps_top.proofs.report.print_windows.Goals as goal
 
 pub returns-in-Ok : goal.returns-in-Ok

@@ -1,7 +1,7 @@
 use Rattle.std.proofs.Common.{◌≡◌, ◌∙◌, ap, subst, sym}
 use Rattle.aps_model.specs.Legal.{fixed_run}
 use Rattle.aps_core.specs.Run.{Run, Setup, end_of_run}
-use Rattle.view_top.specs.declared.status.Status.{Status}
+use Rattle.aps_calls.specs.declared.status.Status.{Status}
 use Rattle.view_top.specs.Cause.{told_by}
 use Rattle.view_top.specs.Due.{IsReported, status_by}
 use Rattle.view_top.proofs.Viewed.{run_due}

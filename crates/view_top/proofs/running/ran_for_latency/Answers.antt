@@ -4,7 +4,7 @@ use Rattle.aps_core.specs.Run.{Run}
 use Rattle.view_latency.specs.Followed.{AreFollowed}
 use Rattle.view_latency.specs.Text.{latency_text}
 use Rattle.view_words.specs.declared.asked.Report.TheVariants.{Latency}
-use Rattle.view_top.specs.declared.status.Status.{Status}
+use Rattle.aps_calls.specs.declared.status.Status.{Status}
 use Rattle.view_top.specs.Due.{reported}
 use Rattle.view_top.proofs.Viewed.{ended_run, run_due}
 use Rattle.view_top.proofs.running.ran_for_latency.Goals as goal

@@ -4,7 +4,7 @@ use Rattle.aps_core.specs.Run.{Run}
 use Rattle.view_shares.specs.Spent.{AreSpent}
 use Rattle.view_shares.specs.Text.{shares_text}
 use Rattle.view_words.specs.declared.asked.Report.TheVariants.{Shares}
-use Rattle.view_top.specs.declared.status.Status.{Status}
+use Rattle.aps_calls.specs.declared.status.Status.{Status}
 use Rattle.view_top.specs.Due.{reported}
 use Rattle.view_top.proofs.Viewed.{ended_run, run_due}
 use Rattle.view_top.proofs.running.ran_for_shares.Goals as goal

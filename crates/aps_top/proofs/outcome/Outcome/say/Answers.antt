@@ -1,18 +1,17 @@
-use Rattle.std.proofs.Common.{refl, inl}
-use Rattle.aps_top.proofs.Said.{makes_as, says_of}
+use Rattle.std.proofs.Common.{◌≡◌, refl, sym, subst}
+use Rattle.aps_calls.specs.declared.status.Status.{Status}
+use Rattle.aps_calls.specs.Printing.{Output}
+use Rattle.aps_calls.proofs.Said.{makes_as}
+use Rattle.aps_top.specs.declared.outcome.Outcome.{Outcome}
+use Rattle.aps_top.specs.Outcome.{Says}
 use Rattle.aps_top.proofs.outcome.Outcome.say.Goals as goal
 
-pub returns-in-WordsRefused : goal.returns-in-WordsRefused
-returns-in-WordsRefused g c = says_of _ _ _ _ c.in-WordsRefused.is (inl c.print.ensures.prints)
+-- an outcome under another name
+says_of : (output : Output) (o told : Outcome) (status : Status) → o ≡ told → Says output told status → Says output o status
+says_of output o told status same h = subst (λ o. Says output o status) (sym same) h
 
-pub returns-in-ReadFault : goal.returns-in-ReadFault
-returns-in-ReadFault g c = says_of _ _ _ _ c.in-ReadFault.is (inl c.print-in-ReadFault.ensures.prints)
-
-pub returns-in-TooLong : goal.returns-in-TooLong
-returns-in-TooLong g c = says_of _ _ _ _ c.in-TooLong.is (inl c.print-in-TooLong.ensures.prints)
-
-pub returns-in-InputRefused : goal.returns-in-InputRefused
-returns-in-InputRefused g c = says_of _ _ _ _ c.in-InputRefused.is c.print_refusal.ensures
+pub returns-in-Failed : goal.returns-in-Failed
+returns-in-Failed g c = says_of _ _ _ _ c.in-Failed.is c.say.ensures
 
 pub returns-in-Ran : goal.returns-in-Ran
 returns-in-Ran g c = says_of _ _ _ _ c.in-Ran.is (makes_as _ _ _ _ _ _ _ refl c.of_end.ensures c.print_report.ensures)

@@ -1,5 +1,0 @@
-use Rattle.aps_top.proofs.Separated.{separated_within}
-use Rattle.aps_top.proofs.reading.parted.Goals as goal
-
-pub returns-clause-inside : goal.returns-clause-inside
-returns-clause-inside c = separated_within c.args.bytes.now c.journal_at.result c.journal_at.ensures
