@@ -6,7 +6,7 @@ use Rattle.aps_model.specs.Bill.{bankrupt}
 use Rattle.aps_model.specs.Scenario.{Scenario}
 use Rattle.aps_model.specs.SchedulerState.{SchedulerState, cpu_at}
 use Rattle.aps_model.specs.Step.{billed}
-use Rattle.view_marks.specs.declared.overspent.Overspent.{Overspent}
+use Rattle.view_samples.specs.declared.overspent.Overspent.{Overspent}
 use Rattle.laws_runs.specs.Between.{after_tick, bill_in}
 use Rattle.view_shares.specs.Spent.{excess_in, state_tested}
 

@@ -13,6 +13,7 @@ use Rattle.aps_model.specs.Audit.{allowance}
 use Rattle.aps_model.specs.Due.{due}
 use Rattle.aps_model.specs.Inherit.{facts_of}
 use Rattle.aps_model.specs.Journal.{line_of, option_text}
+use Rattle.aps_model.specs.Replies.{state_text}
 use Rattle.aps_model.specs.Scenario.{Scenario, thread_row}
 use Rattle.aps_model.specs.SchedulerState.{cpu_at, row_at, thread_at}
 use Rattle.aps_model.specs.Usage.{window_critical, window_used}
@@ -34,15 +35,6 @@ use Rattle.view_explain.specs.Past.{Past, merit_in, part_of_past, past_at, state
 
 abbrev pub yes_or_no : Bool → List ℕ
 yes_or_no b = if b then codes "yes" else codes "no"
-
-abbrev pub state_word : State → List ℕ
-state_word state.Ready = codes "ready"
-state_word (state.Running c) = codes "running"
-state_word (state.Sleeping until) = codes "sleeping"
-state_word (state.Sending c) = codes "sending"
-state_word (state.Receiving c) = codes "receiving"
-state_word (state.Replying y) = codes "replying"
-state_word state.Gone = codes "gone"
 
 abbrev pub test_word : Test → List ℕ
 test_word Class = codes "class"
@@ -80,7 +72,7 @@ since (segment ∷ life) last at = if nat_le segment.from at && nat_lt at segmen
 -- a thread in this state since this moment
 abbrev pub head_by : Past → State → ℕ → ℕ → List ℕ
 head_by past st moment x = line_of (
-    codes "thread" ∷ decimal x ∷ name_of_thread past x ∷ codes "state" ∷ state_word st ∷ codes "since" ∷ decimal moment ∷ [])
+    codes "thread" ∷ decimal x ∷ name_of_thread past x ∷ codes "state" ∷ state_text st ∷ codes "since" ∷ decimal moment ∷ [])
 
 abbrev pub thread_head_line : Past → List Segment → ℕ → ℕ → List ℕ
 thread_head_line past life at x =

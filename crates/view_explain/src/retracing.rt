@@ -1,11 +1,10 @@
 //! A scene, made by a core that makes the steps of a history again up to a moment.
-ghost use Rattle.std.specs.Prelude.{◌≡◌, ◌<◌, ◌≤◌, [], All, length, take, IfOk, OnOk};
+ghost use Rattle.std.specs.Prelude.{◌≡◌, ◌≤◌, [], All, length, take, IfOk, OnOk};
 ghost use Rattle.aps_model.specs.History.{IsEntry};
 ghost use Rattle.aps_model.specs.Legal.{IsLegal};
 ghost use Rattle.aps_model.specs.Valid.{IsScenario};
 ghost use Rattle.laws_runs.specs.Moments.{moment};
 ghost use Rattle.aps_core.specs.Run.{state_of_run};
-ghost use Rattle.aps_core.specs.Turn.{IsTurnTaken, with_entry};
 ghost use Rattle.view_lives.specs.Whole.{until};
 ghost use Rattle.view_explain.specs.Past.{past_at};
 ghost use Rattle.view_explain.specs.Ties.{ties_of};
@@ -16,6 +15,7 @@ use crate::ties::Ties;
 use aps_core::Core;
 use aps_model::{Entry, History, Nanos, NoMemory, Order};
 use std::alloc::Global;
+use view_replay::{boot, retrace};
 
 /// A history that is legal in this order of turns, as it stood after the entries that end at this moment (ns) or earlier.
 /// `NoMemory` comes where memory runs out.
@@ -29,13 +29,10 @@ pub fn scene_at(
     requires few { length history.now.entries ≤ most_entries }
     ensures { IfOk result (λ scene. scene ≡ past_at history.now.scenario history.now.entries at) }
 {
-    let scenario = history.scenario();
     let entries = history.entries();
-    let limit = (entries.len() as u32).max(1);
     let count = ended_by(entries, at);
-    let ties = Ties::new(alloc, scenario.channels().len())?;
-    let copy = scenario.copy(alloc)?;
-    let core = Core::boot(alloc, copy, order, limit)?;
+    let ties = Ties::new(alloc, history.scenario().channels().len())?;
+    let core = boot(alloc, history, order)?;
     scene_of(alloc, core, ties, &entries[..count])
 }
 
@@ -55,7 +52,7 @@ fn scene_of(
     requires short { length entries.now ≤ most_entries }
     ensures { IfOk result (λ scene. scene ≡ record { scenario = core.setup.scenario; entries = entries.now }) }
 {
-    let last = retrace(&mut core, &mut ties, entries)?;
+    let last = go_through(&mut core, &mut ties, entries)?;
     Scene::of(alloc, core, ties, last)
 }
 
@@ -73,7 +70,7 @@ fn ended_by(entries: &[Entry], at: Nanos) -> usize
 
 /// The core, which has made no step, makes those of these entries, and the ties go along. The answer is where the last one ends,
 /// or 0.
-fn retrace(core: &mut Core, ties: &mut Ties, entries: &[Entry]) -> Result<Nanos, NoMemory>
+fn go_through(core: &mut Core, ties: &mut Ties, entries: &[Entry]) -> Result<Nanos, NoMemory>
     requires valid { IsScenario core.old.setup.scenario }
     requires begins { core.old.entries ≡ [] }
     requires tied { ties.old ≡ ties_of (state_of_run core.old) }
@@ -88,17 +85,8 @@ fn retrace(core: &mut Core, ties: &mut Ties, entries: &[Entry]) -> Result<Nanos,
     let mut last = 0;
     for e in entries {
         ties.go_on(core, e)?;
-        step(core, e);
+        retrace(core, e);
         last = e.to;
     }
     Ok(last)
-}
-
-/// The core makes the step of which this is the entry.
-fn step(core: &mut Core, e: &Entry)
-    requires exists { e.now.cpu < core.old.setup.scenario.shape.cpus }
-    requires taken { IsTurnTaken core.old e.now.cpu e.now }
-    ensures { core.new ≡ with_entry core.old e.now }
-{
-    let _turn = core.step(e.cpu);
 }

@@ -1,11 +1,12 @@
 //! Words and names of an explanation.
 ghost use Rattle.std.specs.Prelude.{◌≡◌};
+ghost use Rattle.aps_model.specs.Replies.{state_text};
 ghost use Rattle.view_explain.specs.Text as spec;
 
 use crate::deciding::Test;
 use crate::scene::Scene;
-use aps_model::{ChannelId, Name, PartitionId, State, ThreadId};
-use std::str::from_utf8;
+use aps_model::{ChannelId, PartitionId, State, ThreadId};
+use view_texts::text_of;
 
 pub fn yes_or_no(is_so: bool) -> &'static str
     ensures { result.now ≡ spec.yes_or_no is_so }
@@ -14,7 +15,7 @@ pub fn yes_or_no(is_so: bool) -> &'static str
 }
 
 pub fn state_word(state: &State) -> &'static str
-    ensures { result.now ≡ spec.state_word state.now }
+    ensures { result.now ≡ state_text state.now }
 {
     match state {
         State::Ready => "ready",
@@ -64,15 +65,5 @@ impl Scene {
             Some(name) => text_of(name),
             None => "",
         }
-    }
-}
-
-/// A name as text.
-fn text_of(name: &Name) -> &str
-    ensures { result.now ≡ name.now }
-{
-    match from_utf8(name.text()) {
-        Ok(text) => text,
-        Err(_) => unreachable!(),
     }
 }

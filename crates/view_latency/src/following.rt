@@ -17,7 +17,7 @@ use aps_core::Core;
 use aps_model::{CpuId, Entry, History, Nanos, NoMemory, Order};
 use std::alloc::Global;
 use view_lives::{GrowingLives, Life};
-use view_replay::{first_due, take_turn};
+use view_replay::{boot, take_turn};
 
 /// Of each thread of a scenario, by its number, its life and its calls.
 #[derive(Drop)]
@@ -44,11 +44,8 @@ pub fn follow_all(alloc: Global, history: &History, order: Order) -> Result<Foll
     requires few { length history.now.entries ≤ most_entries }
     ensures { IfOk result (AreFollowed history.now.scenario history.now.entries) }
 {
-    let scenario = history.scenario();
-    let entries = history.entries();
-    let limit = (entries.len() as u32).max(1);
-    let mut core = Core::boot(alloc, scenario.copy(alloc)?, order, limit)?;
-    follow(alloc, &mut core, entries)
+    let mut core = boot(alloc, history, order)?;
+    follow(alloc, &mut core, history.entries())
 }
 
 /// The life and the calls of each thread of the scenario of a core that has made no step, by its number, while the core makes the
@@ -62,7 +59,7 @@ pub fn follow_run(alloc: Global, core: &mut Core) -> Result<Followed, NoMemory>
 {
     let mut following = Following::begin(alloc, core)?;
     while core.ended().is_none() {
-        let first = first_due(core);
+        let first = core.first_due();
         following.go_on(core, first)?;
     }
     following.end()

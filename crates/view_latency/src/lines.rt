@@ -9,8 +9,8 @@ use aps_model::limits::MOST_PARTITIONS;
 use aps_model::{Name, Nanos, NoMemory, Usage};
 use std::alloc::Global;
 use std::fmt::Write;
-use std::str::from_utf8;
 use view_lives::{Begun, Cycles, Doing, Life, Longest, Segment, Tally, Waits, tally_cycles};
+use view_texts::text_of;
 
 /// A line for each partition on whose bill the thread ran.
 pub fn add_bills(out: &mut String, bills: &Usage) -> Result<(), NoMemory>
@@ -220,14 +220,4 @@ pub fn add_head(out: &mut String, x: usize, name: &Name) -> Result<(), NoMemory>
 {
     let name = text_of(name);
     write!(out, "thread {x} {name}\n")
-}
-
-/// A name as text.
-fn text_of(name: &Name) -> &str
-    ensures { result.now ≡ name.now }
-{
-    match from_utf8(name.text()) {
-        Ok(text) => text,
-        Err(_) => unreachable!(),
-    }
 }

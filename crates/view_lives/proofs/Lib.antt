@@ -1,7 +1,5 @@
-pub mod Retraced
 pub mod Longer
 pub mod Bounds
-pub mod Rows
 pub mod Lines
 pub mod Sames
 pub mod Wholes

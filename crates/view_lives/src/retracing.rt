@@ -1,8 +1,7 @@
 //! The lives of all threads of a history, made beside a core that makes its steps again.
-ghost use Rattle.std.specs.Prelude.{◌≡◌, ◌<◌, ◌≤◌, [], length, max, replicate, IfOk, OnOk};
+ghost use Rattle.std.specs.Prelude.{◌≡◌, ◌≤◌, [], length, replicate, IfOk, OnOk};
 ghost use Rattle.aps_model.specs.Legal.{IsLegal};
 ghost use Rattle.aps_model.specs.Valid.{IsScenario};
-ghost use Rattle.aps_core.specs.Turn.{IsTurnTaken, with_entry};
 ghost use Rattle.view_lives.specs.Life.{AreLives};
 ghost use Rattle.aps_model.specs.Limits.{most_entries};
 
@@ -11,6 +10,7 @@ use crate::life::Life;
 use aps_core::Core;
 use aps_model::{Entry, History, NoMemory, Order};
 use std::alloc::Global;
+use view_replay::{boot, retrace};
 
 /// The life of each thread of the scenario, by its number, in one pass over the entries of a history that is legal in this
 /// order of turns. `NoMemory` comes where memory runs out.
@@ -42,22 +42,6 @@ fn grow(
     lengthen_all(lives, &mut core, history.entries())
 }
 
-/// A core that has made no step of the history's scenario, with room for all its entries.
-fn boot(alloc: Global, history: &History, order: Order) -> Result<Core, NoMemory>
-    requires { length history.now.entries ≤ most_entries }
-    ensures same { IfOk result (λ core. core ≡ record {
-      setup = record { scenario = history.now.scenario; order = order; limit = max (length history.now.entries) 1 };
-      entries = [];
-    }) }
-    ensures valid { IfOk result (λ core. IsScenario history.now.scenario) }
-{
-    // the check wants the scenario's own word that it is valid
-    let _shape = history.scenario().shape();
-    let scenario = history.scenario().copy(alloc)?;
-    let limit = (history.entries().len() as u32).max(1);
-    Core::boot(alloc, scenario, order, limit)
-}
-
 /// The lives that have not begun go on with all entries, and the core makes their steps.
 fn lengthen_all(
     lives: &mut GrowingLives,
@@ -78,13 +62,4 @@ fn lengthen_all(
         retrace(core, e);
     }
     Ok(())
-}
-
-/// The core makes the step of which this is the entry.
-fn retrace(core: &mut Core, e: &Entry)
-    requires exists { e.now.cpu < core.old.setup.scenario.shape.cpus }
-    requires taken { IsTurnTaken core.old e.now.cpu e.now }
-    ensures { core.new ≡ with_entry core.old e.now }
-{
-    let _turn = core.step(e.cpu);
 }

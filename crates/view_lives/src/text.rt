@@ -11,7 +11,7 @@ use crate::retracing::lives;
 use aps_model::{History, Name, NoMemory, Order, ThreadRow};
 use std::alloc::Global;
 use std::fmt::Write;
-use std::str::from_utf8;
+use view_texts::text_of;
 
 /// The cycles that have ended, of each thread, as values with commas between them: a line of titles, and then a line for
 /// each cycle, with the thread's name, the cycle's begin and end, and how long the thread ran, was ready, waited for a
@@ -70,14 +70,4 @@ fn add_cycle(out: &mut String, name: &Name, cycle: &Cycle) -> Result<(), NoMemor
         out,
         "{name},{begin},{end},{running},{ready},{calling},{receiving}\n"
     )
-}
-
-/// A name as text.
-fn text_of(name: &Name) -> &str
-    ensures { result.now ≡ name.now }
-{
-    match from_utf8(name.text()) {
-        Ok(text) => text,
-        Err(_) => unreachable!(),
-    }
 }

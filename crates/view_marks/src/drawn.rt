@@ -1,6 +1,5 @@
 //! What is drawn of a history, made beside a core that makes its steps again.
 ghost use Rattle.std.specs.Prelude.{◌≡◌, ◌++◌, ◌<◌, ◌≤◌, [], drop, length, replicate, IfOk, OnOk};
-ghost use Rattle.aps_model.specs.After.{state_after};
 ghost use Rattle.aps_model.specs.Legal.{IsLegal};
 ghost use Rattle.aps_model.specs.Valid.{IsScenario};
 ghost use Rattle.aps_core.specs.Run.{state_of_run};
@@ -8,7 +7,7 @@ ghost use Rattle.aps_core.specs.Turn.{IsTurnTaken, with_entry};
 ghost use Rattle.view_marks.specs.Alteration.{altered_between};
 ghost use Rattle.view_marks.specs.Bar.{AreLongerLanes};
 ghost use Rattle.view_marks.specs.Drawn.{IsDrawnHistory};
-ghost use Rattle.aps_model.specs.Limits.{most_entries, most_partitions};
+ghost use Rattle.aps_model.specs.Limits.{most_entries};
 
 use crate::alteration::{Alteration, add_cancels, add_commands};
 use crate::bar::{Lane, bar_of};
@@ -18,6 +17,7 @@ use aps_model::{
 };
 use std::alloc::Global;
 use std::marker::Model;
+use view_replay::{boot, retrace, rows_of};
 
 /// What each processor ran, by its number; what was altered, in order; and the partition rows that stand last.
 #[derive(Drop)]
@@ -73,11 +73,8 @@ pub fn drawn_of(alloc: Global, history: &History, order: Order) -> Result<Drawn,
     requires few { length history.now.entries ≤ most_entries }
     ensures { IfOk result (IsDrawnHistory history.now.scenario history.now.entries) }
 {
-    let scenario = history.scenario();
-    let entries = history.entries();
-    let limit = (entries.len() as u32).max(1);
-    let mut core = Core::boot(alloc, scenario.copy(alloc)?, order, limit)?;
-    drawn_by(alloc, &mut core, scenario, entries)
+    let mut core = boot(alloc, history, order)?;
+    drawn_by(alloc, &mut core, history.scenario(), history.entries())
 }
 
 /// What is drawn of these entries, whose steps the core makes, which has made none.
@@ -137,8 +134,7 @@ fn go_on(
     commands: &[CommandRow],
     e: &Entry,
 ) -> Result<(), NoMemory>
-    requires exists { e.now.cpu < core.old.setup.scenario.shape.cpus }
-    requires taken { IsTurnTaken core.old e.now.cpu e.now }
+    requires { IsTurnTaken core.old e.now.cpu e.now }
     ensures core { OnOk result (core.new ≡ with_entry core.old e.now) }
     ensures alterations { OnOk result (alterations.new.items ≡ alterations.old.items
         ++ altered_between commands.now e.now.to (state_of_run core.old) (state_of_run (with_entry core.old e.now))) }
@@ -165,23 +161,4 @@ fn changes_from(history: &History, count: usize) -> &[Change]
 {
     let changes = history.changes();
     &changes[count.min(changes.len())..]
-}
-
-/// The core makes the step of which this is the entry.
-fn retrace(core: &mut Core, e: &Entry)
-    requires exists { e.now.cpu < core.old.setup.scenario.shape.cpus }
-    requires taken { IsTurnTaken core.old e.now.cpu e.now }
-    ensures { core.new ≡ with_entry core.old e.now }
-{
-    let _turn = core.step(e.cpu);
-}
-
-/// A copy of the rows that stand.
-fn rows_of(alloc: Global, core: &Core) -> Result<Vec<PartitionRow>, NoMemory>
-    ensures same { IfOk result (λ rows. rows.items ≡ (state_of_run core.now).rows) }
-    ensures few { IfOk result (λ rows. length rows.items ≤ most_partitions) }
-{
-    let mut rows = Vec::new(alloc);
-    rows.extend_from_slice(core.history().rows())?;
-    Ok(rows)
 }

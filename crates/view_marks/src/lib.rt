@@ -7,7 +7,6 @@ mod arrow;
 mod bar;
 mod drawn;
 mod mark;
-mod overspent;
 mod starved;
 pub mod text;
 
@@ -16,5 +15,4 @@ pub use arrow::{Arrow, Carried, arrow_of};
 pub use bar::{Bar, Lane};
 pub use drawn::{Drawn, drawn_of};
 pub use mark::{Message, flags, is_reply, message_of};
-pub use overspent::Overspent;
 pub use starved::{Starved, all_starved};

@@ -3,9 +3,9 @@ ghost use Rattle.std.specs.Prelude.{◌≡◌, ◌++◌, string_bytes, OnOk};
 ghost use Rattle.view_marks.specs.Text as spec;
 
 use crate::alteration::{Alteration, Altered};
-use aps_model::{Name, NoMemory, PartitionId, PartitionRow, ThreadId, ThreadRow};
+use aps_model::{NoMemory, PartitionId, PartitionRow, ThreadId, ThreadRow};
 use std::fmt::Write;
-use std::str::from_utf8;
+use view_texts::text_of;
 
 /// What was altered, as words with spaces between them, and ` refused` behind it where it was; by the threads of the scenario and the
 /// rows that stand last.
@@ -66,15 +66,5 @@ pub fn row_name(rows: &[PartitionRow], p: PartitionId) -> &str
     match rows.get(p.index()) {
         Some(row) => text_of(&row.name),
         None => "",
-    }
-}
-
-/// A name as text.
-pub fn text_of(name: &Name) -> &str
-    ensures { result.now ≡ name.now }
-{
-    match from_utf8(name.text()) {
-        Ok(text) => text,
-        Err(_) => unreachable!(),
     }
 }

@@ -1,3 +1,4 @@
 pub mod Columns
 pub mod Surveyed
 pub mod UpTo
+pub mod Marked

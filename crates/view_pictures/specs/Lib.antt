@@ -3,3 +3,4 @@ pub mod Survey
 pub mod Group
 pub mod Scene
 pub mod Panel
+pub mod Strip

@@ -1,11 +1,11 @@
 -- What the panels say of the samples that are shown.
-use Rattle.std.specs.Prelude.{◌≡◌, ℕ, ◌+◌, ◌*◌, ◌/◌, ◌<◌, Bool, false, not, ◌&&◌, ◌||◌, List, max, min, nat_eq, nat_lt, if◌then◌else◌, Option, Some, None, slice_index, slice_index_or}
+use Rattle.std.specs.Prelude.{◌≡◌, ℕ, ◌+◌, ◌*◌, ◌/◌, ◌<◌, Bool, false, ◌&&◌, ◌||◌, List, max, min, nat_eq, nat_lt, if◌then◌else◌, Option, Some, None, slice_index, slice_index_or}
 use Rattle.std.specs.List.{fold, range_with_len}
 use Rattle.aps_model.specs.Limits.{greatest_u64, most_partitions, thousandths}
 use Rattle.aps_model.specs.declared.entry.Entry.{Entry}
 use Rattle.aps_model.specs.Scenario.{Scenario}
 use Rattle.view_samples.specs.declared.sample.Sample.{Sample}
-use Rattle.view_samples.specs.Sample.{sample_of}
+use Rattle.view_samples.specs.Sample.{is_changed, sample_of}
 use Rattle.view_pictures.specs.declared.scale.Sizes.{Sizes}
 use Rattle.view_pictures.specs.declared.survey.Found.{Found}
 use Rattle.view_pictures.specs.declared.survey.Peak.{Peak}
@@ -58,10 +58,6 @@ more (Some first) peak counts = if counts && nat_lt first.share peak.share then 
 abbrev pub less : Option Peak → Peak → Bool → Option Peak
 less None peak counts = if counts then Some peak else None
 less (Some first) peak counts = if counts && nat_lt peak.share first.share then Some peak else Some first
-
--- the window is full, and a change lies in it
-abbrev pub is_changed : Sample → Bool
-is_changed sample = sample.full && not sample.unchanged
 
 abbrev pub no_found : Found
 no_found = record { scale = 0; critical = false; most = None; least = None; changed = None }

@@ -2,10 +2,11 @@
 ghost use Rattle.std.specs.Prelude.{◌≡◌, ℕ, ◌+◌, ◌*◌, ◌<◌, ◌≤◌, ◌&&◌, false, nat_lt, length, IfOk, slice_index, slice_index_or};
 ghost use Rattle.aps_model.specs.Legal.{IsLegal};
 ghost use Rattle.aps_model.specs.Loaded.{finished_ticks};
+ghost use Rattle.view_replay.specs.Retraced.{scenario_of_run};
 ghost use Rattle.view_pictures.specs.Group.{IsEmptyGroup, is_nearer, joined_points, nearer, no_point, point_of, unread_point};
 ghost use Rattle.view_pictures.specs.Scale.{depth_of, top_of_scale};
 ghost use Rattle.view_pictures.specs.Survey.{no_found, whole_of};
-ghost use Rattle.view_samples.specs.Pass.{IsAtTickBegin, scenario_of_cursor};
+ghost use Rattle.view_samples.specs.Pass.{IsAtTickBegin};
 ghost use Rattle.aps_model.specs.Limits.{last_tick, most_entries, most_partitions};
 
 use crate::scale::{Sizes, depth_of, top_of};
@@ -97,7 +98,7 @@ impl Groups {
         tops: &[u64; 32],
     ) -> Result<(), NoMemory>
         requires at { IsAtTickBegin history.now.entries samples.old }
-        requires of { scenario_of_cursor samples.old.cursor ≡ history.now.scenario }
+        requires of { scenario_of_run samples.old.cursor.core ≡ history.now.scenario }
         requires first { samples.old.tick ≡ 0 }
         requires finished { range.end ≤ finished_ticks history.now.scenario.shape history.now.entries }
     {

@@ -3,12 +3,13 @@ ghost use Rattle.std.specs.Prelude.{◌≡◌, ◌+◌, ◌*◌, ◌/◌, ◌<�
 ghost use Rattle.aps_model.specs.Limits.{most_partitions};
 
 use crate::scene::Scene;
-use crate::titles::{add_budget, text_of};
+use crate::titles::add_budget;
 use aps_model::NoMemory;
 use std::fmt::Write;
 use view_svg::element::{add_rect, close_text, open_text};
 use view_svg::number::add_percent;
 use view_svg::{Anchor, Area, Edge, Fill, Place};
+use view_texts::text_of;
 
 /// How high a row of the legend is, and how wide a cell is; four stand side by side.
 const ROW: u64 = 210;

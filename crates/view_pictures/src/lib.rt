@@ -1,24 +1,28 @@
-//! Pictures of a recorded history: what its threads did, and what its partitions used; and what these have in common with a
-//! picture of its processors.
+//! Pictures of a recorded history: what its processors ran, what its threads did, and what its partitions used.
 #![tactic(auto)]
 
+mod bar;
 mod group;
+mod lane;
 pub mod laws;
-pub mod legend;
+mod legend;
 mod life;
+mod mark;
 mod panel;
 mod retracing;
 mod scale;
-pub mod scene;
+mod scene;
 mod shown;
+mod strip;
 mod survey;
 mod threads;
+mod timeline;
 mod tip;
-pub mod titles;
+mod titles;
 mod usage;
 
-pub use life::add_run;
 pub use scene::Scene;
-pub use threads::{frame_of, threads_text};
+pub use threads::threads_text;
+pub use timeline::timeline_text;
 pub use usage::usage_text;
 pub use view_samples::table::Ticks;

@@ -7,7 +7,7 @@ use crate::group::{Group, Groups};
 use crate::legend::NOT_CREATED;
 use crate::scale::{HEIGHT, Sizes, top_of};
 use crate::survey::{Found, Peak, Range, Survey};
-use crate::titles::{add_budget, text_of};
+use crate::titles::add_budget;
 use aps_model::{Nanos, NoMemory, PartitionRow};
 use std::fmt::Write;
 use view_svg::axis::{Frame, add_axis};
@@ -17,6 +17,7 @@ use view_svg::element::{
 };
 use view_svg::number::{add_decimal, add_ms, add_percent};
 use view_svg::{Anchor, Area, Edge, Fill, Place, Span, share};
+use view_texts::text_of;
 
 /// Where a panel stands, with its title on top, and how wide it is; a narrow one has a smaller title and fewer lines.
 #[derive(Clone, Copy)]

@@ -2,14 +2,13 @@
 ghost use Rattle.std.specs.Prelude.{◌≡◌, ◌≤◌, [], length, IfOk};
 ghost use Rattle.aps_model.specs.After.{state_after};
 ghost use Rattle.aps_model.specs.Legal.{IsLegal};
-ghost use Rattle.aps_model.specs.Valid.{IsScenario};
 ghost use Rattle.view_pictures.specs.Scene.{IsStandingAfter, up_to};
 ghost use Rattle.aps_model.specs.Limits.{most_entries};
 
 use aps_core::Core;
 use aps_model::{Entry, History, Nanos, NoMemory, Order, PartitionRow};
 use std::alloc::Global;
-use view_samples::{boot, retrace};
+use view_replay::{boot, retrace, rows_of};
 
 /// The partition rows and the window (ticks) as they stand at some moment.
 #[derive(Drop)]
@@ -40,15 +39,13 @@ fn standing_of(alloc: Global, core: &Core) -> Result<Standing, NoMemory>
     ensures rows { IfOk result (λ s. s.rows.items ≡ (state_after core.now.setup.scenario core.now.entries).rows) }
     ensures window { IfOk result (λ s. s.window ≡ (state_after core.now.setup.scenario core.now.entries).shape.window) }
 {
-    let mut rows = Vec::new(alloc);
-    rows.extend_from_slice(core.history().rows())?;
+    let rows = rows_of(alloc, core)?;
     let window = core.history().shape().window;
     Ok(Standing { rows, window })
 }
 
 /// The core, which has made no step, makes those of these entries up to the first that ends at this moment or later.
 fn retrace_to(core: &mut Core, entries: &[Entry], moment: Nanos)
-    requires valid { IsScenario core.old.setup.scenario }
     requires begins { core.old.entries ≡ [] }
     requires legal { IsLegal core.old.setup.scenario core.old.setup.order entries.now }
     requires few { length entries.now ≤ core.old.setup.limit }

@@ -9,7 +9,7 @@ use crate::retracing::standing_at;
 use crate::scene::{Scene, Stretch};
 use aps_model::{Entry, History, Nanos, NoMemory, Order, Usage};
 use std::alloc::Global;
-use view_samples::rows_after;
+use view_replay::rows_after;
 use view_samples::table::Ticks;
 use view_svg::Span;
 

@@ -2,9 +2,10 @@
 ghost use Rattle.std.specs.Prelude.{◌≡◌, ℕ, ◌+◌, ◌-◌, ◌*◌, ◌<◌, ◌≤◌, length, IfOk, OnOk, if◌then◌else◌, slice_index, slice_index_or, Some, None};
 ghost use Rattle.aps_model.specs.Legal.{IsLegal};
 ghost use Rattle.aps_model.specs.Loaded.{finished_ticks};
-ghost use Rattle.view_pictures.specs.Survey.{IsSurvey, bound_of, found_with, highest_of, is_changed, less, more, no_found, peak_of, thousandths_of, whole_of};
+ghost use Rattle.view_replay.specs.Retraced.{scenario_of_run};
+ghost use Rattle.view_pictures.specs.Survey.{IsSurvey, bound_of, found_with, highest_of, less, more, no_found, peak_of, thousandths_of, whole_of};
 ghost use Rattle.view_pictures.specs.declared.scale.Sizes.{Sizes};
-ghost use Rattle.view_samples.specs.Pass.{IsAtTickBegin, scenario_of_cursor};
+ghost use Rattle.view_samples.specs.Pass.{IsAtTickBegin};
 ghost use Rattle.aps_model.specs.Limits.{last_tick, most_entries, most_partitions};
 
 use crate::scale::{Sizes, scale_of};
@@ -107,7 +108,7 @@ impl Survey {
         range: Range,
     ) -> Result<(), NoMemory>
         requires at { IsAtTickBegin history.now.entries samples.old }
-        requires of { scenario_of_cursor samples.old.cursor ≡ history.now.scenario }
+        requires of { scenario_of_run samples.old.cursor.core ≡ history.now.scenario }
         requires first { samples.old.tick ≡ 0 }
         requires finished { range.end ≤ finished_ticks history.now.scenario.shape history.now.entries }
         requires none { IsSurvey history.now.scenario history.now.entries sizes range.from 0 self.old }
@@ -194,16 +195,9 @@ impl Found {
             critical: self.critical || sample.usage.critical[p] > 0,
             most: more(self.most, peak, sample.unchanged),
             least: less(self.least, peak, sample.demand[p]),
-            changed: more(self.changed, peak, is_changed(sample)),
+            changed: more(self.changed, peak, sample.is_changed()),
         }
     }
-}
-
-/// Whether the window is full, and a change lies in it.
-fn is_changed(sample: &Sample) -> bool
-    ensures { result ≡ is_changed sample.now }
-{
-    sample.full && !sample.unchanged
 }
 
 /// What the partition used in the sample, whose window has so much processor time.

@@ -7,7 +7,7 @@ ghost use Rattle.view_svg.specs.Span.{lowest_top};
 use crate::legend::{add_hatched, add_partitions, add_sample, below_partitions};
 use crate::life::{add_exit, add_gone, add_life, add_ready, add_receive, add_wait, stacked};
 use crate::scene::Scene;
-use crate::titles::{add_words, open_span_title, text_of};
+use crate::titles::{add_words, open_span_title};
 use aps_model::{History, NoMemory, Order, Scenario, ThreadRow};
 use std::alloc::Global;
 use view_lives::{Life, lives};
@@ -17,6 +17,7 @@ use view_svg::columns::Strip;
 use view_svg::element::{close_group, close_text, open_numbered, open_text};
 use view_svg::page::{add_foot, add_head};
 use view_svg::{Anchor, Columns, Fill, Place, Span};
+use view_texts::text_of;
 
 /// How many segments are drawn one by one.
 const MOST: usize = 4000;

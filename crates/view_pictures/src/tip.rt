@@ -1,10 +1,10 @@
 //! What is shown where somebody points at a piece of a thread's life.
 use crate::scene::Scene;
-use crate::titles::text_of;
 use aps_model::{Name, NoMemory, PartitionId, Scenario, ThreadId};
 use std::fmt::Write;
 use view_lives::{Doing, Segment};
 use view_svg::number::add_ms;
+use view_texts::text_of;
 
 /// The beginning of a group with a title: the name of the thread, what it does, and from when to when; where it runs, who is billed,
 /// and whether that is critical time.

@@ -1,9 +1,8 @@
 //! Texts that several pictures have.
 ghost use Rattle.std.specs.Prelude.{◌≡◌};
 
-use aps_model::{Name, Nanos, NoMemory};
+use aps_model::{Nanos, NoMemory};
 use std::fmt::Write;
-use std::str::from_utf8;
 use view_svg::element::{close_text, open_text};
 use view_svg::number::{add_decimal, add_ms};
 use view_svg::{Anchor, Place, Span};
@@ -52,14 +51,4 @@ pub fn add_budget(out: &mut String, budget: u16, parts: u16) -> Result<(), NoMem
         write!(out, "{budget}")?;
     }
     out.push_str(" %")
-}
-
-/// A name as text.
-pub fn text_of(name: &Name) -> &str
-    ensures { result.now ≡ name.now }
-{
-    match from_utf8(name.text()) {
-        Ok(text) => text,
-        Err(_) => unreachable!(),
-    }
 }

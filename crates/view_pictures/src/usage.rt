@@ -13,7 +13,7 @@ use crate::titles::{add_run, open_title};
 use aps_model::{History, NoMemory, Order, PartitionRow, finished_ticks};
 use std::alloc::Global;
 use std::fmt::Write;
-use view_samples::rows_after;
+use view_replay::rows_after;
 use view_samples::table::Ticks;
 use view_svg::element::{add_text, close_text};
 use view_svg::page::{add_foot, add_head};

@@ -1,2 +1,3 @@
-mod Limits
+pub mod Limits
 pub mod Next
+pub mod Retraced

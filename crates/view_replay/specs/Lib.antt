@@ -1,1 +1,3 @@
 pub mod Entry
+pub mod Retraced
+pub mod Shape

@@ -1,8 +1,8 @@
-//! A run made step by step, for who looks at each state before its step.
+//! A run made step by step, or a recorded one made again, for callers that look at each state before its step.
 #![tactic(auto)]
 
-mod first;
+mod retracing;
 mod turn;
 
-pub use first::first_due;
+pub use retracing::{boot, retrace, retrace_rest, rows_after, rows_of};
 pub use turn::take_turn;

@@ -10,10 +10,11 @@ use Rattle.aps_model.specs.Loaded.{finished_ticks}
 use Rattle.aps_model.specs.Scenario.{Scenario}
 use Rattle.aps_model.specs.Valid.{IsScenario}
 use Rattle.aps_core.specs.Run.{Setup}
+use Rattle.view_replay.specs.Retraced.{scenario_of_run}
 use Rattle.view_samples.specs.declared.lasts.Lasts.{Lasts}
 use Rattle.view_samples.specs.declared.pass.Samples.{Samples}
 use Rattle.view_samples.specs.Lasts.{AreLasts}
-use Rattle.view_samples.specs.Pass.{BeginsIfMet, GoesUpTo, HasNote, IsAtTickBegin, IsCut, IsPassReady, RunsIn, samples_at_start, is_before, scenario_of_cursor}
+use Rattle.view_samples.specs.Pass.{BeginsIfMet, GoesUpTo, HasNote, IsAtTickBegin, IsCut, IsPassReady, RunsIn, samples_at_start, is_before}
 use Rattle.view_samples.proofs.Billing.{sums_none}
 use Rattle.view_samples.proofs.Cuts.{meets}
 use Rattle.view_samples.proofs.Passing.{lasts_none}
@@ -47,24 +48,24 @@ no_time t = omega arith
 
 pub record IsBegun (history : History) (s : Samples) : Type 0 where
   pub at : IsAtTickBegin history.entries s
-  pub of : scenario_of_cursor s.cursor ≡ history.scenario
+  pub of : scenario_of_run s.cursor.core ≡ history.scenario
   pub first : s.tick ≡ 0
 
 pub begun : (es : List Entry) (history : History) (order : Order) (start s : Samples) → es ≡ history.entries → start ≡ samples_at_start history order → IsScenario history.scenario → IsLegal history.scenario order history.entries
-    → GoesUpTo es (0 + 1) start s → BeginsIfMet (scenario_of_cursor start.cursor) es 0 start s → IsBegun history s
+    → GoesUpTo es (0 + 1) start s → BeginsIfMet (scenario_of_run start.cursor.core) es 0 start s → IsBegun history s
 begun es history order start s same is valid legal up' begins' =
     let h = history.entries in
     let up : GoesUpTo h 1 (samples_at_start history order) s = subst (λ (l : List Entry). GoesUpTo l 1 (samples_at_start history order) s) same (subst (λ (b : Samples). GoesUpTo es 1 b s) is up') in
     let begins : BeginsIfMet history.scenario h 0 (samples_at_start history order) s =
-    subst (λ (l : List Entry). BeginsIfMet history.scenario l 0 (samples_at_start history order) s) same (subst (λ (b : Samples). BeginsIfMet (scenario_of_cursor b.cursor) es 0 b s) is begins') in
-    let named : scenario_of_cursor s.cursor ≡ history.scenario = ap (λ (u : Setup). u.scenario) up.setup in
+    subst (λ (l : List Entry). BeginsIfMet history.scenario l 0 (samples_at_start history order) s) same (subst (λ (b : Samples). BeginsIfMet (scenario_of_run b.cursor.core) es 0 b s) is begins') in
+    let named : scenario_of_run s.cursor.core ≡ history.scenario = ap (λ (u : Setup). u.scenario) up.setup in
     let first : s.tick ≡ 0 = up.tick in
     let cut : IsCut h 1 s.cursor.next = up.cut (λ k less. absurd (omega (arith, less))) in
     let lasts : AreLasts history.scenario h 0 s.lasts = subst (λ (l : Lasts). AreLasts history.scenario h 0 l) (sym up.lasts) (lasts_none history.scenario h) in
     record {
       at = record {
         ready = up.ready;
-        cut = subst (λ n. IsCut h (n * (scenario_of_cursor s.cursor).shape.tick + 1) s.cursor.next) (sym first) (subst (λ n. IsCut h (n + 1) s.cursor.next) (no_time (scenario_of_cursor s.cursor).shape.tick) cut);
+        cut = subst (λ n. IsCut h (n * (scenario_of_run s.cursor.core).shape.tick + 1) s.cursor.next) (sym first) (subst (λ n. IsCut h (n + 1) s.cursor.next) (no_time (scenario_of_run s.cursor.core).shape.tick) cut);
         note = λ less.
             let some = subst (λ (u : Scenario). s.tick < finished_ticks u.shape h) named less in
             let zero = no_time history.scenario.shape.tick in

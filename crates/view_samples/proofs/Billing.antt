@@ -23,9 +23,10 @@ use Rattle.aps_core.specs.Counts.{Counts}
 use Rattle.aps_core.proofs.Counting.{counts_later, counts_none, counts_resized, critical_are, used_are}
 use Rattle.laws_bounds.specs.FreeTime.{free_used}
 use Rattle.laws_bounds.specs.Kinds.{is_free, last_kind}
+use Rattle.view_replay.specs.Shape.{shape_with}
 use Rattle.view_samples.specs.declared.sums.Sums.{Sums}
 use Rattle.view_samples.specs.Sample.{critical_at_tick, first_at, free_at, used_at, window_at}
-use Rattle.view_samples.specs.Sums.{AreWindowSums, GoesOnByMarked, HasRoomInTick, freed, entry_marked, shape_with}
+use Rattle.view_samples.specs.Sums.{AreWindowSums, GoesOnByMarked, HasRoomInTick, freed, entry_marked}
 use Rattle.view_samples.specs.Window.{AreOfWindow}
 use Rattle.view_samples.proofs.Fill.{map_range}
 use Rattle.view_samples.proofs.Freed.{BeginLater, critical_longer, free_longer, freed_free, freed_more, freed_none, freed_used, used_longer}

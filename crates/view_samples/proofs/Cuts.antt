@@ -23,7 +23,7 @@ use Rattle.laws_bounds.proofs.Finished.{finished_end}
 use Rattle.aps_window.specs.Entries.{IsInOneTick}
 use Rattle.view_samples.specs.Pass.{IsCut, RunsIn, entry_at, is_before, no_entry}
 use Rattle.view_samples.proofs.Fill.{same_read}
-use Rattle.view_samples.proofs.Retraced.{one_more, parted}
+use Rattle.view_replay.proofs.Retraced.{one_more, parted}
 
 -- ---- single entries
 

@@ -1,13 +1,11 @@
 pub mod Tests
 pub mod Fill
-pub mod Texts
 pub mod Along
 pub mod Ticks
 pub mod Changes
 pub mod Looks
 pub mod Notes
 pub mod Passing
-pub mod Retraced
 pub mod Freed
 pub mod Billing
 pub mod Cuts

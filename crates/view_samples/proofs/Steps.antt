@@ -17,32 +17,33 @@ use Rattle.aps_core.specs.Run.{Run, Setup, state_of_run}
 use Rattle.aps_core.specs.Turn.{with_entry}
 use Rattle.laws_bounds.specs.Kinds.{is_free, kind_of, last_kind}
 use Rattle.laws_bounds.proofs.LastPick.{kind_other, kind_own}
+use Rattle.view_replay.specs.Retraced.{front, order_of_run, scenario_of_run}
+use Rattle.view_replay.proofs.Retraced.{front_more}
 use Rattle.view_samples.specs.declared.look.Look.{Look}
 use Rattle.view_samples.specs.declared.pass.Cursor.{Cursor}
 use Rattle.view_samples.specs.declared.pass.Samples.{Samples}
 use Rattle.view_samples.specs.declared.sums.Sums.{Sums}
 use Rattle.view_samples.specs.Look.{IsLook, IsLookAtEntry}
 use Rattle.view_samples.specs.Note.{IsLookAdded, IsFreshNote, IsNote, is_reached}
-use Rattle.view_samples.specs.Pass.{AreFree, HasNote, IsCut, IsPassReady, IsUpTo, KeepsNotes, Opens, entry_at, no_entry, order_of_cursor, scenario_of_cursor}
-use Rattle.view_samples.specs.Retraced.{front}
+use Rattle.view_samples.specs.Pass.{AreFree, HasNote, IsCut, IsPassReady, IsUpTo, KeepsNotes, Opens, entry_at, no_entry}
 use Rattle.view_samples.specs.Sums.{AreWindowSums, GoesOnByMarked, HasRoomInTick}
 use Rattle.view_samples.proofs.Billing.{room_all, room_free, sums_more}
 use Rattle.view_samples.proofs.Cuts.{all_before, all_later, entry_fits, in_one_tick, legal_to, one_longer}
 use Rattle.view_samples.proofs.Fill.{same_read}
 use Rattle.view_samples.proofs.Looks.{seen_is}
 use Rattle.view_samples.proofs.Notes.{note_kept, note_more, split_fresh, split_note}
-use Rattle.view_samples.proofs.Retraced.{front_more}
 use Rattle.view_samples.proofs.Ticks.{reached_last, reached_more, through_next}
 
 -- ---- the next entry
 
 -- the run after it
 pub run_more : (scenario : Scenario) (order : Order) (h : List Entry) (j : ℕ) (cursor : Cursor) (core : Run) → IsUpTo scenario order h j cursor → cursor.next < length h
-    → core ≡ with_entry cursor.core (entry_at h cursor.next) → core ≡ front scenario order core.setup.limit h (cursor.next + 1)
+    → core ≡ with_entry cursor.core (entry_at h cursor.next) → core ≡ front (record { scenario = scenario; order = order; limit = core.setup.limit }) h (cursor.next + 1)
 run_more scenario order h j cursor core up less goes_on =
     let limit : core.setup.limit ≡ cursor.core.setup.limit = ap (λ (run : Run). run.setup.limit) goes_on in
-    front_more scenario order cursor.core.setup.limit h cursor.next (entry_at h cursor.next) cursor.core core less (sym (entry_is h cursor.next less)) up.run goes_on
-    ∙ ap (λ n. front scenario order n h (cursor.next + 1)) (sym limit)
+    let own : ℕ → Setup = λ n. record { scenario = scenario; order = order; limit = n } in
+    front_more (own cursor.core.setup.limit) h cursor.next (entry_at h cursor.next) cursor.core core up.run less (sym (entry_is h cursor.next less)) goes_on
+    ∙ ap (λ n. front (own n) h (cursor.next + 1)) (sym limit)
   where
     entry_is : (h : List Entry) (i : ℕ) → i < length h → entry_at h i ≡ get_or h i (entry_at h i)
     entry_is h i less = same_read h i no_entry (entry_at h i) less
@@ -79,12 +80,13 @@ up_more scenario order h j cursor core sums mark valid legal up less at goes_on 
           (sums_more scenario (take cursor.next h) j up.window cursor.sums sums e (slice_index_or cursor.free e.cpu false) up.sums (in_one_tick scenario order h cursor.next valid legal less) at (up.free e.cpu few) all free span);
     }
 
-pub look_of : (scenario : Scenario) (order : Order) (limit : ℕ) (h : List Entry) (i changes : ℕ) (core : Run) (look : Look) → i < length h → core ≡ front scenario order limit h (i + 1)
-    → changes ≡ length (state_after scenario (take i h)).changes → IsLookAtEntry (state_of_run core) core.entries changes (entry_at h i) look → IsLook scenario (take i h) (entry_at h i) look
-look_of scenario order limit h i changes core look less run count seen =
+pub look_of : (setup : Setup) (h : List Entry) (i changes : ℕ) (core : Run) (look : Look) → i < length h → core ≡ front setup h (i + 1)
+    → changes ≡ length (state_after setup.scenario (take i h)).changes → IsLookAtEntry (state_of_run core) core.entries changes (entry_at h i) look → IsLook setup.scenario (take i h) (entry_at h i) look
+look_of setup h i changes core look less run count seen =
+    let scenario = setup.scenario in
     let ByRun : Run → Type 0 = λ r. IsLookAtEntry (state_of_run r) r.entries changes (entry_at h i) look in
     let ByList : List Entry → ℕ → Type 0 = λ g n. IsLookAtEntry (state_after scenario g) g n (entry_at h i) look in
-    let there : ByRun (front scenario order limit h (i + 1)) = subst ByRun run seen in
+    let there : ByRun (front setup h (i + 1)) = subst ByRun run seen in
     let here : ByList (take i h ++ entry_at h i ∷ []) changes = subst (λ g. ByList g changes) (one_longer h i less) there in
     seen_is scenario (take i h) (entry_at h i) look (subst (λ n. ByList (take i h ++ entry_at h i ∷ []) n) count here)
 
@@ -104,14 +106,14 @@ rooms scenario order h j cursor valid legal up less at =
 -- ---- the pass
 
 pub ready_more : (h : List Entry) (before after : Samples) → IsPassReady h before → after.tick ≡ before.tick → after.cursor.core.setup ≡ before.cursor.core.setup
-    → IsUpTo (scenario_of_cursor before.cursor) (order_of_cursor before.cursor) h before.tick after.cursor → IsPassReady h after
+    → IsUpTo (scenario_of_run before.cursor.core) (order_of_run before.cursor.core) h before.tick after.cursor → IsPassReady h after
 ready_more h before after ready tick setup up =
     let early = ready.early in
     record {
       valid = subst (λ (s : Setup). IsScenario s.scenario) (sym setup) ready.valid;
       legal = subst (λ (s : Setup). IsLegal s.scenario s.order h) (sym setup) ready.legal;
       up = subst (λ (s : Setup). IsUpTo s.scenario s.order h after.tick after.cursor) (sym setup)
-          (subst (λ n. IsUpTo (scenario_of_cursor before.cursor) (order_of_cursor before.cursor) h n after.cursor) (sym tick) up);
+          (subst (λ n. IsUpTo (scenario_of_run before.cursor.core) (order_of_run before.cursor.core) h n after.cursor) (sym tick) up);
       early = omega (arith, early, tick);
     }
 
@@ -139,10 +141,10 @@ at_boundary : (tick j to : ℕ) → 0 < tick → to ≡ j * tick → to / tick �
 at_boundary tick j to pos is = search (arith)
 
 -- the first entry that meets it opens the note
-pub note_begun : (h : List Entry) (j : ℕ) (before after : Samples) → IsScenario (scenario_of_cursor before.cursor) → before.cursor.next < length h → (entry_at h before.cursor.next).to ≡ j * (scenario_of_cursor before.cursor).shape.tick
-    → IsCut h (j * (scenario_of_cursor before.cursor).shape.tick) before.cursor.next → Opens h before after → HasNote (scenario_of_cursor before.cursor) h j after
+pub note_begun : (h : List Entry) (j : ℕ) (before after : Samples) → IsScenario (scenario_of_run before.cursor.core) → before.cursor.next < length h → (entry_at h before.cursor.next).to ≡ j * (scenario_of_run before.cursor.core).shape.tick
+    → IsCut h (j * (scenario_of_run before.cursor.core).shape.tick) before.cursor.next → Opens h before after → HasNote (scenario_of_run before.cursor.core) h j after
 note_begun h j before after valid less at cut opens =
-    let scenario = scenario_of_cursor before.cursor in
+    let scenario = scenario_of_run before.cursor.core in
     let tick = scenario.shape.tick in
     let i = before.cursor.next in
     let e = entry_at h i in
@@ -162,18 +164,18 @@ note_begun h j before after valid less at cut opens =
     }
 
 -- and those that follow on at that moment keep it
-pub note_opened : (h : List Entry) (j moment : ℕ) (before mid after : Samples) → IsScenario (scenario_of_cursor before.cursor) → before.cursor.next < length h → moment ≡ j * (scenario_of_cursor before.cursor).shape.tick
+pub note_opened : (h : List Entry) (j moment : ℕ) (before mid after : Samples) → IsScenario (scenario_of_run before.cursor.core) → before.cursor.next < length h → moment ≡ j * (scenario_of_run before.cursor.core).shape.tick
     → (entry_at h before.cursor.next).to < moment + 1 → IsCut h moment before.cursor.next → Opens h before mid → after.cursor.next ≤ length h → mid.cursor.next ≤ after.cursor.next → IsCut h (moment + 1) after.cursor.next
-    → KeepsNotes (scenario_of_cursor mid.cursor) h mid after → HasNote (scenario_of_cursor before.cursor) h j after
+    → KeepsNotes (scenario_of_run mid.cursor.core) h mid after → HasNote (scenario_of_run before.cursor.core) h j after
 note_opened h j moment before mid after valid less at early cut opens place forward end keeps =
-    let scenario = scenario_of_cursor before.cursor in
+    let scenario = scenario_of_run before.cursor.core in
     let tick = scenario.shape.tick in
     let long = valid.shape.tick_long in
     let pos : 0 < tick = omega (arith, long) in
     let i = before.cursor.next in
     let low = cut.later i (omega arith) less in
     let note = note_begun h j before mid valid less (omega (arith, low, early, at)) (subst (λ n. IsCut h n i) at cut) opens in
-    let same : scenario_of_cursor mid.cursor ≡ scenario = ap (λ (s : Setup). s.scenario) opens.setup in
+    let same : scenario_of_run mid.cursor.core ≡ scenario = ap (λ (s : Setup). s.scenario) opens.setup in
     let keeps' = subst (λ (s : Scenario). KeepsNotes s h mid after) same keeps in
     let next = opens.next in
     keeps' j

@@ -9,12 +9,13 @@ use Rattle.aps_model.specs.Scenario.{Scenario}
 use Rattle.aps_core.specs.Run.{Setup}
 use Rattle.laws_runs.proofs.HeldRows.{tick_in_order}
 use Rattle.aps_window.specs.Window.{advanced, resized}
+use Rattle.view_replay.specs.Retraced.{order_of_run, scenario_of_run}
 use Rattle.view_samples.specs.declared.lasts.Lasts.{Lasts}
 use Rattle.view_samples.specs.declared.pass.Samples.{Samples}
 use Rattle.view_samples.specs.declared.sums.Sums.{Sums}
 use Rattle.view_samples.specs.Lasts.{AreLasts}
 use Rattle.view_samples.specs.Note.{IsNote}
-use Rattle.view_samples.specs.Pass.{BeginsIfMet, GoesUpTo, HasNote, IsAtTickBegin, IsCut, KeepsNotes, RunsIn, entry_at, order_of_cursor, scenario_of_cursor}
+use Rattle.view_samples.specs.Pass.{BeginsIfMet, GoesUpTo, HasNote, IsAtTickBegin, IsCut, KeepsNotes, RunsIn, entry_at}
 use Rattle.view_samples.specs.Passed.{IsPassed}
 use Rattle.view_samples.specs.Sums.{AreWindowSums}
 use Rattle.view_samples.specs.Window.{AreOfWindow}
@@ -24,7 +25,7 @@ use Rattle.view_samples.proofs.Passing.{lasts_more}
 use Rattle.view_samples.proofs.Steps.{in_tick, note_whole}
 
 abbrev tick_of : Samples → ℕ
-tick_of s = (scenario_of_cursor s.cursor).shape.tick
+tick_of s = (scenario_of_run s.cursor.core).shape.tick
 
 -- with other last ticks
 abbrev pub with_lasts : Samples → Lasts → Samples
@@ -50,7 +51,7 @@ ticks_long h s at = let long = at.ready.valid.shape.tick_long in omega (arith, l
 
 runs_in_tick : (h : List Entry) (s : Samples) → IsAtTickBegin h s → RunsIn (tick_of s) h s.cursor.next ((s.tick + 1) * tick_of s) s.tick
 runs_in_tick h s at =
-    runs_after (scenario_of_cursor s.cursor) (order_of_cursor s.cursor) h s.cursor.next ((s.tick + 1) * tick_of s) s.tick at.ready.valid at.ready.legal (omega arith)
+    runs_after (scenario_of_run s.cursor.core) (order_of_run s.cursor.core) h s.cursor.next ((s.tick + 1) * tick_of s) s.tick at.ready.valid at.ready.legal (omega arith)
     (λ k from less. let low = at.cut.later k from less in omega (arith, low))
 
 -- the code has the entries and the tick by other names
@@ -68,7 +69,7 @@ runs_on : (h : List Entry) (a b : Samples) → IsAtTickBegin h a → GoesUpTo h 
 runs_on h a b at up =
     let pos = ticks_long h a at in
     let same : tick_of b ≡ tick_of a = ap (λ (s : Setup). s.scenario.shape.tick) up.setup in
-    let there = runs_after (scenario_of_cursor a.cursor) (order_of_cursor a.cursor) h b.cursor.next ((a.tick + 1) * tick_of a + 1) a.tick at.ready.valid at.ready.legal (omega arith)
+    let there = runs_after (scenario_of_run a.cursor.core) (order_of_run a.cursor.core) h b.cursor.next ((a.tick + 1) * tick_of a + 1) a.tick at.ready.valid at.ready.legal (omega arith)
     (λ k from less. let low = (cut_there h a b at up).later k from less in omega (arith, low, pos)) in
     subst (λ n. RunsIn (tick_of b) h b.cursor.next ((a.tick + 1) * tick_of a + 1) n) (sym up.tick)
     (subst (λ t. RunsIn t h b.cursor.next ((a.tick + 1) * tick_of a + 1) a.tick) (sym same) there)
@@ -80,11 +81,11 @@ runs_second es h t a b same ticks at up =
 
 -- ---- its note
 
-pub note_at : (es h : List Entry) (t : ℕ) (scenario : Scenario) (a b : Samples) → es ≡ h → t ≡ tick_of a → scenario_of_cursor a.cursor ≡ scenario → IsAtTickBegin h a → a.tick < finished_ticks scenario.shape h
-    → GoesUpTo es ((a.tick + 1) * t) a b → KeepsNotes (scenario_of_cursor a.cursor) es a b → IsNote (scenario_of_cursor a.cursor) h a.tick b.note
+pub note_at : (es h : List Entry) (t : ℕ) (scenario : Scenario) (a b : Samples) → es ≡ h → t ≡ tick_of a → scenario_of_run a.cursor.core ≡ scenario → IsAtTickBegin h a → a.tick < finished_ticks scenario.shape h
+    → GoesUpTo es ((a.tick + 1) * t) a b → KeepsNotes (scenario_of_run a.cursor.core) es a b → IsNote (scenario_of_run a.cursor.core) h a.tick b.note
 note_at es h t scenario a b same ticks named at finished up' keeps' =
     let up : GoesUpTo h ((a.tick + 1) * tick_of a) a b = subst (λ (l : List Entry). GoesUpTo l ((a.tick + 1) * tick_of a) a b) same (subst (λ n. GoesUpTo es ((a.tick + 1) * n) a b) ticks up') in
-    let keeps : KeepsNotes (scenario_of_cursor a.cursor) h a b = subst (λ (l : List Entry). KeepsNotes (scenario_of_cursor a.cursor) l a b) same keeps' in
+    let keeps : KeepsNotes (scenario_of_run a.cursor.core) h a b = subst (λ (l : List Entry). KeepsNotes (scenario_of_run a.cursor.core) l a b) same keeps' in
     let pos = ticks_long h a at in
     let cut = cut_there h a b at up in
     let place = up.ready.up.place in
@@ -92,15 +93,15 @@ note_at es h t scenario a b same ticks named at finished up' keeps' =
     let has = keeps a.tick
     (λ k from less. in_tick (tick_of a) a.tick (entry_at h k).to pos (at.cut.later k from (omega (arith, less, place))) (cut.past k less))
     own.reached own.note in
-    note_whole (scenario_of_cursor a.cursor) h a.tick b at.ready.valid place cut has
+    note_whole (scenario_of_run a.cursor.core) h a.tick b at.ready.valid place cut has
 
 pub record IsWide (window : ℕ) : Type 0 where
   pub long : shortest_window ≤ window
   pub short : window ≤ longest_window
 
-pub wide_at : (h : List Entry) (a b : Samples) → IsAtTickBegin h a → IsNote (scenario_of_cursor a.cursor) h a.tick b.note → IsWide b.note.window
+pub wide_at : (h : List Entry) (a b : Samples) → IsAtTickBegin h a → IsNote (scenario_of_run a.cursor.core) h a.tick b.note → IsWide b.note.window
 wide_at h a b at note =
-    let shape = (tick_in_order (scenario_of_cursor a.cursor) (order_of_cursor a.cursor) h a.tick at.ready.valid at.ready.legal).shape in
+    let shape = (tick_in_order (scenario_of_run a.cursor.core) (order_of_run a.cursor.core) h a.tick at.ready.valid at.ready.legal).shape in
     let long = shape.window_long in
     let short = shape.window_short in
     let is = note.begun.window in
@@ -114,17 +115,17 @@ pub record IsTicked (scenario : Scenario) (h : List Entry) (a b d : Samples) : T
   pub sums : AreOfWindow scenario h d.tick (resized_by b.note.window d.cursor.sums)
   pub next : IsAtTickBegin h (one_on d (later_by (resized_by b.note.window d.cursor.sums)))
 
-ticked_of : (h : List Entry) (a b d : Samples) (lasts : Lasts) → IsAtTickBegin h a → a.tick < finished_ticks (scenario_of_cursor a.cursor).shape h → a.tick < last_tick
-    → GoesUpTo h ((a.tick + 1) * tick_of a) a b → IsNote (scenario_of_cursor a.cursor) h a.tick b.note → IsPassed b.tick b.note b.lasts lasts
-    → GoesUpTo h ((a.tick + 1) * tick_of a + 1) (with_lasts b lasts) d → BeginsIfMet (scenario_of_cursor b.cursor) h ((a.tick + 1) * tick_of a) (with_lasts b lasts) d
-    → IsTicked (scenario_of_cursor a.cursor) h a b d
+ticked_of : (h : List Entry) (a b d : Samples) (lasts : Lasts) → IsAtTickBegin h a → a.tick < finished_ticks (scenario_of_run a.cursor.core).shape h → a.tick < last_tick
+    → GoesUpTo h ((a.tick + 1) * tick_of a) a b → IsNote (scenario_of_run a.cursor.core) h a.tick b.note → IsPassed b.tick b.note b.lasts lasts
+    → GoesUpTo h ((a.tick + 1) * tick_of a + 1) (with_lasts b lasts) d → BeginsIfMet (scenario_of_run b.cursor.core) h ((a.tick + 1) * tick_of a) (with_lasts b lasts) d
+    → IsTicked (scenario_of_run a.cursor.core) h a b d
 ticked_of h a b d lasts at finished few up note passed on begins =
-    let scenario = scenario_of_cursor a.cursor in
+    let scenario = scenario_of_run a.cursor.core in
     let j = a.tick in
     let tick = tick_of a in
     let setup : d.cursor.core.setup ≡ a.cursor.core.setup = on.setup ∙ up.setup in
-    let named : scenario_of_cursor d.cursor ≡ scenario = ap (λ (s : Setup). s.scenario) setup in
-    let mid : scenario_of_cursor b.cursor ≡ scenario = ap (λ (s : Setup). s.scenario) up.setup in
+    let named : scenario_of_run d.cursor.core ≡ scenario = ap (λ (s : Setup). s.scenario) setup in
+    let mid : scenario_of_run b.cursor.core ≡ scenario = ap (λ (s : Setup). s.scenario) up.setup in
     let at_tick : d.tick ≡ j = on.tick ∙ up.tick in
     let window = b.note.window in
     let wide = wide_at h a b at note in
@@ -132,7 +133,7 @@ ticked_of h a b d lasts at finished few up note passed on begins =
     let cut_one = cut_there h a b at up in
     let cut_two = on.cut (λ k less. let past = cut_one.past k less in omega (arith, past)) in
     let place = on.ready.up.place in
-    let after = recursion_from_All (λ (e : Entry). (j + 1) * tick ≤ e.from) (drop d.cursor.next h) (begin_later scenario (order_of_cursor a.cursor) h j d.cursor.next at.ready.valid at.ready.legal place cut_two) in
+    let after = recursion_from_All (λ (e : Entry). (j + 1) * tick ≤ e.from) (drop d.cursor.next h) (begin_later scenario (order_of_run a.cursor.core) h j d.cursor.next at.ready.valid at.ready.legal place cut_two) in
     let are_d : AreWindowSums scenario (take d.cursor.next h) j on.ready.up.window d.cursor.sums =
     subst (λ n. AreWindowSums scenario (take d.cursor.next h) n on.ready.up.window d.cursor.sums) at_tick
     (subst (λ (s : Scenario). AreWindowSums s (take d.cursor.next h) d.tick on.ready.up.window d.cursor.sums) named on.ready.up.sums) in
@@ -168,19 +169,19 @@ ticked_of h a b d lasts at finished few up note passed on begins =
         };
         cut = subst (λ (s : Scenario). IsCut h ((d.tick + 1) * s.shape.tick + 1) d.cursor.next) (sym named) (subst (λ n. IsCut h ((n + 1) * tick + 1) d.cursor.next) (sym at_tick) cut_two);
         note = λ less.
-            let met = meets scenario (order_of_cursor a.cursor) h (j + 1) b.cursor.next at.ready.valid at.ready.legal (omega (arith, finished)) (omega (arith, finished)) cut_one in
+            let met = meets scenario (order_of_run a.cursor.core) h (j + 1) b.cursor.next at.ready.valid at.ready.legal (omega (arith, finished)) (omega (arith, finished)) cut_one in
             let has = begins (j + 1) (ap (λ (s : Scenario). (j + 1) * s.shape.tick) (sym mid)) cut_one met in
-            let has' : HasNote (scenario_of_cursor d.cursor) h (d.tick + 1) d =
-            subst (λ (s : Scenario). HasNote s h (d.tick + 1) d) (mid ∙ sym named) (subst (λ n. HasNote (scenario_of_cursor b.cursor) h (n + 1) d) (sym at_tick) has) in
+            let has' : HasNote (scenario_of_run d.cursor.core) h (d.tick + 1) d =
+            subst (λ (s : Scenario). HasNote s h (d.tick + 1) d) (mid ∙ sym named) (subst (λ n. HasNote (scenario_of_run b.cursor.core) h (n + 1) d) (sym at_tick) has) in
             record { reached = has'.reached; note = has'.note };
         lasts = subst (λ (s : Scenario). AreLasts s h (d.tick + 1) d.lasts) (sym named) (subst (λ n. AreLasts scenario h (n + 1) d.lasts) (sym at_tick) new);
       };
     }
 
-pub ticked : (es h : List Entry) (t : ℕ) (scenario : Scenario) (a b d : Samples) (lasts : Lasts) → es ≡ h → t ≡ tick_of a → scenario_of_cursor a.cursor ≡ scenario
+pub ticked : (es h : List Entry) (t : ℕ) (scenario : Scenario) (a b d : Samples) (lasts : Lasts) → es ≡ h → t ≡ tick_of a → scenario_of_run a.cursor.core ≡ scenario
     → IsAtTickBegin h a → a.tick < finished_ticks scenario.shape h → a.tick < last_tick
-    → GoesUpTo es ((a.tick + 1) * t) a b → KeepsNotes (scenario_of_cursor a.cursor) es a b → IsPassed b.tick b.note b.lasts lasts
-    → GoesUpTo es ((a.tick + 1) * t + 1) (with_lasts b lasts) d → BeginsIfMet (scenario_of_cursor b.cursor) es ((a.tick + 1) * t) (with_lasts b lasts) d
+    → GoesUpTo es ((a.tick + 1) * t) a b → KeepsNotes (scenario_of_run a.cursor.core) es a b → IsPassed b.tick b.note b.lasts lasts
+    → GoesUpTo es ((a.tick + 1) * t + 1) (with_lasts b lasts) d → BeginsIfMet (scenario_of_run b.cursor.core) es ((a.tick + 1) * t) (with_lasts b lasts) d
     → IsTicked scenario h a b d
 ticked es h t scenario a b d lasts same ticks named at finished few up keeps passed on begins =
     subst (λ (s : Scenario). IsTicked s h a b d) named
@@ -188,4 +189,4 @@ ticked es h t scenario a b d lasts same ticks named at finished few up keeps pas
     (subst (λ (l : List Entry). GoesUpTo l ((a.tick + 1) * tick_of a) a b) same (subst (λ n. GoesUpTo es ((a.tick + 1) * n) a b) ticks up))
     (note_at es h t scenario a b same ticks named at finished up keeps) passed
     (subst (λ (l : List Entry). GoesUpTo l ((a.tick + 1) * tick_of a + 1) (with_lasts b lasts) d) same (subst (λ n. GoesUpTo es ((a.tick + 1) * n + 1) (with_lasts b lasts) d) ticks on))
-    (subst (λ (l : List Entry). BeginsIfMet (scenario_of_cursor b.cursor) l ((a.tick + 1) * tick_of a) (with_lasts b lasts) d) same (subst (λ n. BeginsIfMet (scenario_of_cursor b.cursor) es ((a.tick + 1) * n) (with_lasts b lasts) d) ticks begins)))
+    (subst (λ (l : List Entry). BeginsIfMet (scenario_of_run b.cursor.core) l ((a.tick + 1) * tick_of a) (with_lasts b lasts) d) same (subst (λ n. BeginsIfMet (scenario_of_run b.cursor.core) es ((a.tick + 1) * n) (with_lasts b lasts) d) ticks begins)))

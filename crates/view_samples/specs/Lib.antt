@@ -5,7 +5,6 @@ pub mod Sample
 pub mod Note
 pub mod Passed
 pub mod Lasts
-pub mod Retraced
 pub mod Sums
 pub mod Window
 pub mod Pass

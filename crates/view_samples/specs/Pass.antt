@@ -12,6 +12,7 @@ use Rattle.aps_model.specs.Scenario.{Scenario}
 use Rattle.aps_model.specs.Valid.{IsScenario}
 use Rattle.aps_window.specs.Window.{opened}
 use Rattle.laws_bounds.specs.Kinds.{is_free, last_kind}
+use Rattle.view_replay.specs.Retraced.{front, order_of_run, scenario_of_run, start_of}
 use Rattle.view_samples.specs.declared.look.Look.{Look}
 use Rattle.view_samples.specs.declared.note.Note.{Note}
 use Rattle.view_samples.specs.declared.pass.Cursor.{Cursor}
@@ -20,7 +21,6 @@ use Rattle.view_samples.specs.Lasts.{AreLasts}
 use Rattle.view_samples.specs.Look.{IsLook}
 use Rattle.view_samples.specs.Note.{IsLookAdded, IsFreshNote, IsNote, is_reached, no_note}
 use Rattle.view_samples.specs.Passed.{no_lasts}
-use Rattle.view_samples.specs.Retraced.{front, start_of}
 use Rattle.view_samples.specs.Sums.{AreWindowSums}
 
 -- what is read past the end
@@ -52,7 +52,7 @@ AreFree scenario h free = (c : ℕ) → c < most_cpus → slice_index_or free c 
 -- the first entries are done: the core made their steps, and the windows, which stand at tick j, have their bills
 pub record IsUpTo (scenario : Scenario) (order : Order) (h : List Entry) (j : ℕ) (cursor : Cursor) : Type 0 where
   pub window : ℕ
-  pub run : cursor.core ≡ front scenario order cursor.core.setup.limit h cursor.next
+  pub run : cursor.core ≡ front (record { scenario = scenario; order = order; limit = cursor.core.setup.limit }) h cursor.next
   pub place : cursor.next ≤ length h
   pub room : length h ≤ cursor.core.setup.limit
   pub free : AreFree scenario (take cursor.next h) cursor.free
@@ -68,18 +68,11 @@ abbrev pub RunsIn : ℕ → List Entry → ℕ → ℕ → ℕ → Type 0
 RunsIn tick h i bound j =
     (k : ℕ) → i ≤ k → k < length h → (entry_at h k).to < bound → (entry_at h k).from < (entry_at h k).to → (entry_at h k).from / tick ≡ j
 
--- the scenario and the order of the pass
-abbrev pub scenario_of_cursor : Cursor → Scenario
-scenario_of_cursor cursor = cursor.core.setup.scenario
-
-abbrev pub order_of_cursor : Cursor → Order
-order_of_cursor cursor = cursor.core.setup.order
-
 -- the entries so far are done, those of a legal history
 pub record IsPassReady (h : List Entry) (s : Samples) : Type 0 where
-  pub valid : IsScenario (scenario_of_cursor s.cursor)
-  pub legal : IsLegal (scenario_of_cursor s.cursor) (order_of_cursor s.cursor) h
-  pub up : IsUpTo (scenario_of_cursor s.cursor) (order_of_cursor s.cursor) h s.tick s.cursor
+  pub valid : IsScenario (scenario_of_run s.cursor.core)
+  pub legal : IsLegal (scenario_of_run s.cursor.core) (order_of_run s.cursor.core) h
+  pub up : IsUpTo (scenario_of_run s.cursor.core) (order_of_run s.cursor.core) h s.tick s.cursor
   pub early : s.tick ≤ last_tick
 
 -- it goes on to the first entry that doesn't end before the bound
@@ -114,8 +107,8 @@ pub record Opens (h : List Entry) (before after : Samples) : Type 0 where
   pub next : after.cursor.next ≡ before.cursor.next + 1
   pub fresh : Note
   pub look : Look
-  pub is_fresh : IsFreshNote (state_after (scenario_of_cursor before.cursor) (take (before.cursor.next + 1) h)) fresh
-  pub is_look : IsLook (scenario_of_cursor before.cursor) (take before.cursor.next h) (entry_at h before.cursor.next) look
+  pub is_fresh : IsFreshNote (state_after (scenario_of_run before.cursor.core) (take (before.cursor.next + 1) h)) fresh
+  pub is_look : IsLook (scenario_of_run before.cursor.core) (take before.cursor.next h) (entry_at h before.cursor.next) look
   pub is_added : IsLookAdded look fresh after.note
 
 -- where tick j begins at this moment, and an entry meets it, there is a note of this tick then
@@ -130,9 +123,9 @@ BeginsIfMet scenario h moment before after =
 -- the pass stands at the beginning of its next tick
 pub record IsAtTickBegin (h : List Entry) (s : Samples) : Type 0 where
   pub ready : IsPassReady h s
-  pub cut : IsCut h (s.tick * (scenario_of_cursor s.cursor).shape.tick + 1) s.cursor.next
-  pub note : s.tick < finished_ticks (scenario_of_cursor s.cursor).shape h → HasNote (scenario_of_cursor s.cursor) h s.tick s
-  pub lasts : AreLasts (scenario_of_cursor s.cursor) h s.tick s.lasts
+  pub cut : IsCut h (s.tick * (scenario_of_run s.cursor.core).shape.tick + 1) s.cursor.next
+  pub note : s.tick < finished_ticks (scenario_of_run s.cursor.core).shape h → HasNote (scenario_of_run s.cursor.core) h s.tick s
+  pub lasts : AreLasts (scenario_of_run s.cursor.core) h s.tick s.lasts
 
 -- before its first step
 abbrev pub samples_at_start : History → Order → Samples

@@ -61,6 +61,10 @@ had_share scenario h j p = was_out scenario h p (first_at scenario h j) (j + 1)
 abbrev pub of_each : {A : Type 0} → (ℕ → A) → List A
 of_each f = map f (range_with_len 0 most_partitions)
 
+-- the window is full, and a change lies in it
+abbrev pub is_changed : Sample → Bool
+is_changed sample = sample.full && not sample.unchanged
+
 abbrev pub sample_of : Scenario → List Entry → ℕ → Sample
 sample_of scenario h j = record {
   tick = j;

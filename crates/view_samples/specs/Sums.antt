@@ -8,6 +8,7 @@ use Rattle.aps_window.specs.Entries.{IsInOneTick}
 use Rattle.aps_window.specs.Window.{Window, billed_on}
 use Rattle.aps_core.specs.Counts.{Counts}
 use Rattle.laws_bounds.specs.Kinds.{is_free, last_kind}
+use Rattle.view_replay.specs.Shape.{shape_with}
 use Rattle.view_samples.specs.declared.sums.Sums.{Sums}
 
 -- the entry with another mark
@@ -32,10 +33,6 @@ abbrev pub GoesOnByMarked : Window → ℕ → Entry → Bool → Window → Typ
 GoesOnByMarked before tick e mark after =
     (shape : Shape) (h : List Entry) → Counts shape h tick before → IsInOneTick shape.tick e → (e.from < e.to → e.from / shape.tick ≡ tick)
     → Counts shape (h ++ entry_marked e mark ∷ []) tick after
-
--- the shape with another window
-abbrev pub shape_with : Scenario → ℕ → Shape
-shape_with scenario window = record scenario.shape { window = window }
 
 -- the windows stand at tick j, count as many ticks, and have the bills of these entries
 pub record AreWindowSums (scenario : Scenario) (h : List Entry) (j window : ℕ) (sums : Sums) : Type 0 where

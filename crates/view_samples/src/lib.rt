@@ -5,13 +5,13 @@
 mod lasts;
 mod look;
 mod note;
+mod overspent;
 mod pass;
-mod retracing;
 mod sample;
 mod sums;
 pub mod table;
 mod truth;
 
+pub use overspent::Overspent;
 pub use pass::Samples;
-pub use retracing::{boot, retrace, rows_after};
 pub use sample::Sample;

@@ -5,21 +5,22 @@ ghost use Rattle.aps_model.specs.After.{state_after};
 ghost use Rattle.aps_model.specs.Legal.{IsLegal};
 ghost use Rattle.aps_model.specs.Loaded.{finished_ticks};
 ghost use Rattle.aps_model.specs.Valid.{IsScenario};
+ghost use Rattle.view_replay.specs.Retraced.{order_of_run, scenario_of_run};
 ghost use Rattle.view_samples.specs.Look.{IsLook};
-ghost use Rattle.view_samples.specs.Pass.{BeginsIfMet, GoesUpTo, IsAtTickBegin, IsPassReady, IsUpTo, KeepsNotes, Opens, RunsIn, samples_at_start, entry_at, is_before, order_of_cursor, scenario_of_cursor};
+ghost use Rattle.view_samples.specs.Pass.{BeginsIfMet, GoesUpTo, IsAtTickBegin, IsPassReady, IsUpTo, KeepsNotes, Opens, RunsIn, samples_at_start, entry_at, is_before};
 ghost use Rattle.view_samples.specs.Sample.{sample_of};
 ghost use Rattle.aps_model.specs.Limits.{last_tick, most_entries, most_partitions};
 
 use crate::lasts::Lasts;
 use crate::look::Look;
 use crate::note::Note;
-use crate::retracing::{boot, retrace, retrace_rest, rows_of};
 use crate::sample::{Sample, sample_at};
 use crate::sums::Sums;
 use aps_core::Core;
 use aps_model::limits::MOST_CPUS;
 use aps_model::{Entry, History, NoMemory, Order, PartitionRow};
 use std::alloc::Global;
+use view_replay::{boot, retrace, retrace_rest, rows_of};
 
 /// How far the pass has come: a core that has made the steps of so many entries again, whether the last pick of each processor
 /// was free, and what these entries bill.
@@ -47,7 +48,7 @@ impl Samples {
         requires legal { IsLegal history.now.scenario order history.now.entries }
         requires few { length history.now.entries ≤ most_entries }
         ensures at { IfOk result (λ samples. IsAtTickBegin history.now.entries samples) }
-        ensures of { IfOk result (λ samples. scenario_of_cursor samples.cursor ≡ history.now.scenario) }
+        ensures of { IfOk result (λ samples. scenario_of_run samples.cursor.core ≡ history.now.scenario) }
         ensures first { IfOk result (λ samples. samples.tick ≡ 0) }
     {
         let mut samples = Samples::new(alloc, history, order)?;
@@ -80,12 +81,12 @@ impl Samples {
     /// The sample of the next tick, which is finished; the one after it comes next then.
     pub fn next(&mut self, history: &History) -> Sample
         requires at { IsAtTickBegin history.now.entries self.old }
-        requires of { scenario_of_cursor self.old.cursor ≡ history.now.scenario }
+        requires of { scenario_of_run self.old.cursor.core ≡ history.now.scenario }
         requires finished { self.old.tick < finished_ticks history.now.scenario.shape history.now.entries }
         requires few { self.old.tick < last_tick }
         ensures same { result ≡ sample_of history.now.scenario history.now.entries self.old.tick }
         ensures at { IsAtTickBegin history.now.entries self.new }
-        ensures of { scenario_of_cursor self.new.cursor ≡ history.now.scenario }
+        ensures of { scenario_of_run self.new.cursor.core ≡ history.now.scenario }
         ensures next { self.new.tick ≡ self.old.tick + 1 }
     {
         let entries = history.entries();
@@ -104,7 +105,7 @@ impl Samples {
     /// The partition rows that all entries of the history leave; the pass ends with that. `NoMemory` comes where memory runs out.
     pub fn last_rows(self, alloc: Global, history: &History) -> Result<Vec<PartitionRow>, NoMemory>
         requires at { IsAtTickBegin history.now.entries self }
-        requires of { scenario_of_cursor self.cursor ≡ history.now.scenario }
+        requires of { scenario_of_run self.cursor.core ≡ history.now.scenario }
         ensures same { IfOk result (λ rows. rows.items ≡ (state_after history.now.scenario history.now.entries).rows) }
         ensures few { IfOk result (λ rows. length rows.items ≤ most_partitions) }
     {
@@ -116,9 +117,9 @@ impl Samples {
     /// Makes the steps of the entries that end before a moment, and notes their picks. Their time lies in the next tick.
     fn go_through(&mut self, entries: &[Entry], bound: u64)
         requires ready { IsPassReady entries.now self.old }
-        requires runs { RunsIn (scenario_of_cursor self.old.cursor).shape.tick entries.now self.old.cursor.next bound self.old.tick }
+        requires runs { RunsIn (scenario_of_run self.old.cursor.core).shape.tick entries.now self.old.cursor.next bound self.old.tick }
         ensures up { GoesUpTo entries.now bound self.old self.new }
-        ensures notes { KeepsNotes (scenario_of_cursor self.old.cursor) entries.now self.old self.new }
+        ensures notes { KeepsNotes (scenario_of_run self.old.cursor.core) entries.now self.old self.new }
     {
         while is_before(entries, self.cursor.next, bound) {
             let look = self.cursor.go_on(entries, self.tick as u32);
@@ -130,10 +131,11 @@ impl Samples {
     /// a fresh note.
     fn begin_tick(&mut self, entries: &[Entry], moment: u64)
         requires ready { IsPassReady entries.now self.old }
-        requires runs { RunsIn (scenario_of_cursor self.old.cursor).shape.tick entries.now self.old.cursor.next (moment + 1) self.old.tick }
+        requires runs { RunsIn (scenario_of_run self.old.cursor.core).shape.tick entries.now self.old.cursor.next (moment + 1)
+            self.old.tick }
         requires fits { moment ≤ 1000000000000000 }
         ensures up { GoesUpTo entries.now (moment + 1) self.old self.new }
-        ensures begins { BeginsIfMet (scenario_of_cursor self.old.cursor) entries.now moment self.old self.new }
+        ensures begins { BeginsIfMet (scenario_of_run self.old.cursor.core) entries.now moment self.old self.new }
     {
         if is_before(entries, self.cursor.next, moment + 1) {
             self.open(entries);
@@ -146,7 +148,7 @@ impl Samples {
         requires ready { IsPassReady entries.now self.old }
         requires some { self.old.cursor.next < length entries.now }
         requires runs { (entry_at entries.now self.old.cursor.next).from < (entry_at entries.now self.old.cursor.next).to
-            → (entry_at entries.now self.old.cursor.next).from / (scenario_of_cursor self.old.cursor).shape.tick ≡ self.old.tick }
+            → (entry_at entries.now self.old.cursor.next).from / (scenario_of_run self.old.cursor.core).shape.tick ≡ self.old.tick }
         ensures { Opens entries.now self.old self.new }
     {
         let look = self.cursor.go_on(entries, self.tick as u32);
@@ -158,16 +160,16 @@ impl Samples {
 impl Cursor {
     /// Makes the step of the next entry, whose time lies in this tick. The answer is what is seen at its pick.
     fn go_on(&mut self, entries: &[Entry], tick: u32) -> Look
-        requires valid { IsScenario (scenario_of_cursor self.old) }
-        requires legal { IsLegal (scenario_of_cursor self.old) (order_of_cursor self.old) entries.now }
-        requires up { IsUpTo (scenario_of_cursor self.old) (order_of_cursor self.old) entries.now tick self.old }
+        requires valid { IsScenario (scenario_of_run self.old.core) }
+        requires legal { IsLegal (scenario_of_run self.old.core) (order_of_run self.old.core) entries.now }
+        requires up { IsUpTo (scenario_of_run self.old.core) (order_of_run self.old.core) entries.now tick self.old }
         requires some { self.old.next < length entries.now }
         requires runs { (entry_at entries.now self.old.next).from < (entry_at entries.now self.old.next).to
-            → (entry_at entries.now self.old.next).from / (scenario_of_cursor self.old).shape.tick ≡ tick }
-        ensures up { IsUpTo (scenario_of_cursor self.old) (order_of_cursor self.old) entries.now tick self.new }
+            → (entry_at entries.now self.old.next).from / (scenario_of_run self.old.core).shape.tick ≡ tick }
+        ensures up { IsUpTo (scenario_of_run self.old.core) (order_of_run self.old.core) entries.now tick self.new }
         ensures setup { self.new.core.setup ≡ self.old.core.setup }
         ensures next { self.new.next ≡ self.old.next + 1 }
-        ensures look { IsLook (scenario_of_cursor self.old) (take self.old.next entries.now) (entry_at entries.now self.old.next) result }
+        ensures look { IsLook (scenario_of_run self.old.core) (take self.old.next entries.now) (entry_at entries.now self.old.next) result }
     {
         let e = &entries[self.next];
         let changes = self.core.history().changes().len();

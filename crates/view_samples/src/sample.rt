@@ -6,7 +6,7 @@ ghost use Rattle.aps_model.specs.Loaded.{has_change};
 ghost use Rattle.view_samples.specs.Lasts.{AreLasts};
 ghost use Rattle.view_samples.specs.Note.{IsNote};
 ghost use Rattle.view_samples.specs.Picks.{changes_in};
-ghost use Rattle.view_samples.specs.Sample.{of_each, sample_of};
+ghost use Rattle.view_samples.specs.Sample.{is_changed, of_each, sample_of};
 ghost use Rattle.view_samples.specs.Window.{AreOfWindow};
 
 use crate::lasts::Lasts;
@@ -32,6 +32,15 @@ pub struct Sample {
     pub allowance: [Nanos; MOST_PARTITIONS],
     pub demand: [bool; MOST_PARTITIONS],
     pub had: [bool; MOST_PARTITIONS],
+}
+
+impl Sample {
+    /// Whether the window is full, and a change lies in it.
+    pub fn is_changed(&self) -> bool
+        ensures { result ≡ is_changed self.now }
+    {
+        self.full && !self.unchanged
+    }
 }
 
 /// The sample of tick `j`, of which this is the note, after all ticks up to it, and with the sums of its window.

@@ -4,17 +4,18 @@ ghost use Rattle.std.specs.List.{flat_map, range_with_len};
 ghost use Rattle.aps_model.specs.After.{state_after};
 ghost use Rattle.aps_model.specs.Legal.{IsLegal};
 ghost use Rattle.aps_model.specs.Loaded.{finished_ticks};
+ghost use Rattle.view_replay.specs.Retraced.{scenario_of_run};
 ghost use Rattle.view_samples.specs.Csv.{bit, csv_text, first_cells, head_line, line_of_tick, part_cells, tick_past_lines, row_titles, sample_line};
-ghost use Rattle.view_samples.specs.Pass.{IsAtTickBegin, scenario_of_cursor};
+ghost use Rattle.view_samples.specs.Pass.{IsAtTickBegin};
 ghost use Rattle.aps_model.specs.Limits.{last_tick, longest_tick, most_entries, most_partitions};
 
 use crate::pass::Samples;
-use crate::retracing::rows_after;
 use crate::sample::Sample;
-use aps_model::{History, Name, NoMemory, Order, PartitionRow, finished_ticks};
+use aps_model::{History, NoMemory, Order, PartitionRow, finished_ticks};
 use std::alloc::Global;
 use std::fmt::Write;
-use std::str::from_utf8;
+use view_replay::rows_after;
+use view_texts::text_of;
 
 /// Which ticks are told: from one on, and to before another, or to the last.
 #[derive(Clone, Copy)]
@@ -45,7 +46,7 @@ fn text_of_samples(
 ) -> Result<String, NoMemory>
     requires rows { rows.now ≡ (state_after history.now.scenario history.now.entries).rows }
     requires at { IsAtTickBegin history.now.entries samples.old }
-    requires of { scenario_of_cursor samples.old.cursor ≡ history.now.scenario }
+    requires of { scenario_of_run samples.old.cursor.core ≡ history.now.scenario }
     requires first { samples.old.tick ≡ 0 }
     requires few_rows { length rows.now ≤ most_partitions }
     ensures { IfOk result (λ text. string_bytes text ≡ csv_text history.now.scenario history.now.entries ticks) }
@@ -116,16 +117,6 @@ fn add_titles(out: &mut String, row: &PartitionRow) -> Result<(), NoMemory>
     )
 }
 
-/// A name as text.
-fn text_of(name: &Name) -> &str
-    ensures { result.now ≡ name.now }
-{
-    match from_utf8(name.text()) {
-        Ok(text) => text,
-        Err(_) => unreachable!(),
-    }
-}
-
 /// A line for each tick from `first` to `end - 1`, which are finished, by a pass that begins.
 fn add_lines(
     out: &mut String,
@@ -138,7 +129,7 @@ fn add_lines(
     requires rows { rows ≡ length (state_after history.now.scenario history.now.entries).rows }
     requires few_rows { rows ≤ most_partitions }
     requires at { IsAtTickBegin history.now.entries samples.old }
-    requires of { scenario_of_cursor samples.old.cursor ≡ history.now.scenario }
+    requires of { scenario_of_run samples.old.cursor.core ≡ history.now.scenario }
     requires first { samples.old.tick ≡ 0 }
     requires finished { end ≤ finished_ticks history.now.scenario.shape history.now.entries }
     requires few { end ≤ last_tick }

@@ -5,3 +5,4 @@ pub mod Room
 pub mod Rows
 pub mod Tested
 pub mod Untested
+pub mod Counted

@@ -1,12 +1,10 @@
 -- What a pass notes of overspending, entry by entry.
-use Rattle.std.proofs.Common.{◌≡◌, ℕ, ◌+◌, ◌-◌, ◌/◌, ◌<◌, ◌≤◌, List, [], ◌∷◌, ◌++◌, length, get_or, replicate, take, drop, refl, sym, ap, subst, ◌∙◌, Bool, true, false, ◌&&◌, cond, nat_eq, nat_lt, Option, Some, None, option_and_then, IfSome, arith, append_assoc}
+use Rattle.std.proofs.Common.{◌≡◌, ℕ, ◌+◌, ◌-◌, ◌/◌, ◌<◌, ◌≤◌, List, [], ◌∷◌, ◌++◌, length, get_or, replicate, refl, sym, ap, subst, ◌∙◌, Bool, true, false, ◌&&◌, cond, nat_eq, nat_lt, Option, Some, None, option_and_then, IfSome, arith, append_assoc}
 use Rattle.std.specs.Option.{option_map}
 use Rattle.std.proofs.lemmas.Bool.{eqb-true}
-use Rattle.std.proofs.lemmas.List.{append-nil, get_or-replicate, length-take-le}
+use Rattle.std.proofs.lemmas.List.{append-nil, get_or-replicate}
 use Rattle.aps_model.specs.declared.entry.Entry.{Entry}
-use Rattle.aps_model.specs.declared.entry.End.TheVariants.{Limit}
 use Rattle.aps_model.specs.declared.entry.Order.{Order}
-use Rattle.aps_model.specs.After.{or_limit}
 use Rattle.aps_model.specs.Bill.{exceeding}
 use Rattle.aps_model.specs.Legal.{IsLegal}
 use Rattle.aps_model.specs.Limits.{longest_window, most_entries, most_partitions, shortest_window}
@@ -15,26 +13,24 @@ use Rattle.aps_model.specs.SchedulerState.{SchedulerState, row_at}
 use Rattle.aps_model.specs.Usage.{names, window_critical}
 use Rattle.aps_model.specs.Valid.{IsScenario}
 use Rattle.laws_runs.specs.Moments.{moment}
-use Rattle.laws_runs.specs.Runs.{GoesOn}
 use Rattle.laws_runs.proofs.MomentLaws.{moment-append}
-use Rattle.laws_runs.proofs.Prefixes.{goes_on, legal_up_to}
-use Rattle.laws_runs.proofs.WaitFacts.{test_ne}
 use Rattle.aps_window.specs.Window.{opened, resized}
-use Rattle.aps_core.specs.Run.{Run, Setup}
-use Rattle.aps_core.specs.Turn.{IsTurnTaken, with_entry}
-use Rattle.aps_core.specs.Counts.{Counts}
-use Rattle.aps_core.proofs.Counting.{counts_none, counts_resized, total_critical}
+use Rattle.aps_core.specs.Run.{Run}
+use Rattle.aps_core.specs.Turn.{with_entry}
+use Rattle.aps_core.proofs.Counting.{counts_resized, total_critical}
+use Rattle.view_replay.specs.Retraced.{order_of_run, scenario_of_run}
+use Rattle.view_replay.specs.Shape.{shape_with}
 use Rattle.view_shares.specs.declared.critical_budget.CriticalBudget.{CriticalBudget}
-use Rattle.view_shares.specs.declared.critical_time.CriticalTime.{CriticalTime}
+use Rattle.view_shares.specs.declared.usages.Usages.{Usages}
 use Rattle.view_shares.specs.declared.overspending.Pass.{Pass}
 use Rattle.view_shares.specs.declared.spent.Spent.{Spent}
 use Rattle.view_shares.specs.CriticalBudget.{budget_at, budget_by}
-use Rattle.view_shares.specs.CriticalTime.{IsTimeCounted, for_span, shape_with}
-use Rattle.view_shares.specs.Overspending.{AreFewOverspent, PassFollowsCore, excess_by, most_overspent, order_of_pass, scenario_of_pass, used_by}
-use Rattle.view_marks.specs.declared.overspent.Overspent.{Overspent}
+use Rattle.view_shares.specs.Usages.{AreUsagesCounted, for_span}
+use Rattle.view_shares.specs.Overspending.{AreFewOverspent, PassFollowsCore, excess_by, most_overspent, used_by}
+use Rattle.view_samples.specs.declared.overspent.Overspent.{Overspent}
 use Rattle.view_shares.specs.Spent.{AreSpent, excess_at, excess_of, overspent_listed, overspent_as, overspent_by, overspent_from, overspent_of, spent_from, spent_of, spent_with, state_tested}
 use Rattle.view_shares.specs.Standing.{standing_of}
-use Rattle.view_samples.proofs.Retraced.{parted}
+use Rattle.view_shares.proofs.Counted.{counted_none}
 use Rattle.view_shares.proofs.Tested.{tested_shape}
 
 -- ---- by how much an entry exceeds a critical budget
@@ -99,8 +95,8 @@ excess_found s h e b n p f used_is =
     ∙ excess_same used budget q p (nat_eq q p) (nat_lt (budget q) (used q)) refl refl
     ∙ sym (λ i. cond (names (cond (f.test i) (exceeding s h j (f.billed i)) None) p) (Some (used p - budget p)) None)
 
-pub excess_some : (scenario : Scenario) (order : Order) (h : List Entry) (e : Entry) (b : CriticalBudget) (time : CriticalTime) (p : ℕ) → IsScenario scenario → IsLegal scenario order (h ++ e ∷ []) → budget_at scenario h e ≡ Some b
-    → b.partition < most_partitions → IsTimeCounted scenario (h ++ e ∷ []) (for_span b.window time) → excess_by b (used_by b time) p ≡ excess_of scenario p h e
+pub excess_some : (scenario : Scenario) (order : Order) (h : List Entry) (e : Entry) (b : CriticalBudget) (time : Usages) (p : ℕ) → IsScenario scenario → IsLegal scenario order (h ++ e ∷ []) → budget_at scenario h e ≡ Some b
+    → b.partition < most_partitions → AreUsagesCounted scenario (h ++ e ∷ []) (for_span b.window time) → excess_by b (used_by b time) p ≡ excess_of scenario p h e
 excess_some scenario order h e b time p valid legal is small counted =
     let s = state_tested scenario h e in
     let f = found scenario h e b is in
@@ -124,12 +120,12 @@ budget_window scenario order h e b valid legal is =
     (omega (arith, window, long), omega (arith, window, short))
 
 -- what it overspends
-pub overspent_found : (scenario : Scenario) (order : Order) (h : List Entry) (e : Entry) (b : CriticalBudget) (time : CriticalTime) → IsScenario scenario → IsLegal scenario order (h ++ e ∷ []) → budget_at scenario h e ≡ Some b
-    → b.partition < most_partitions → IsTimeCounted scenario (h ++ e ∷ []) time → overspent_as e.to b.partition (excess_by b (used_by b time) b.partition) ≡ overspent_by scenario h e
+pub overspent_found : (scenario : Scenario) (order : Order) (h : List Entry) (e : Entry) (b : CriticalBudget) (time : Usages) → IsScenario scenario → IsLegal scenario order (h ++ e ∷ []) → budget_at scenario h e ≡ Some b
+    → b.partition < most_partitions → AreUsagesCounted scenario (h ++ e ∷ []) time → overspent_as e.to b.partition (excess_by b (used_by b time) b.partition) ≡ overspent_by scenario h e
 overspent_found scenario order h e b time valid legal is small counted =
     let g = h ++ e ∷ [] in
     let short = (budget_window scenario order h e b valid legal is).1 in
-    let there : IsTimeCounted scenario g (for_span b.window time) = counts_resized (shape_with scenario time.span) (shape_with scenario b.window) g (moment g / scenario.shape.tick) time.window counted refl short in
+    let there : AreUsagesCounted scenario g (for_span b.window time) = counts_resized (shape_with scenario time.span) (shape_with scenario b.window) g (moment g / scenario.shape.tick) time.window counted refl short in
     ap (overspent_as e.to b.partition) (excess_some scenario order h e b time b.partition valid legal is small there)
     ∙ sym (ap (λ o. option_and_then (λ p. overspent_as e.to p (excess_of scenario p h e)) o) (found scenario h e b is).billed)
 
@@ -206,80 +202,57 @@ spent_few scenario h spent short are = λ p less.
 
 -- ---- the pass
 
-no_ticks : (t : ℕ) → 0 / t ≡ 0
-no_ticks t = search (arith)
-
 -- at the start
-pub at_begin : (core start : Run) (time : CriticalTime) (window : ℕ) → core ≡ start → IsScenario start.setup.scenario → start.entries ≡ [] → time ≡ record { window = opened window; span = window } → window ≡ start.setup.scenario.shape.window
+pub at_begin : (core start : Run) (time : Usages) (window : ℕ) → core ≡ start → IsScenario start.setup.scenario → start.entries ≡ [] → time ≡ record { window = opened window; span = window } → window ≡ start.setup.scenario.shape.window
     → PassFollowsCore (record { core = core; moment = 0; time = time; spent = replicate most_partitions None })
 unfolding spent_of
 at_begin core start time window is valid begins new wide =
     let scenario = start.setup.scenario in
-    let At : Run → CriticalTime → Type 0 = λ r t. PassFollowsCore (record { core = r; moment = 0; time = t; spent = replicate most_partitions None }) in
+    let At : Run → Usages → Type 0 = λ r t. PassFollowsCore (record { core = r; moment = 0; time = t; spent = replicate most_partitions None }) in
     let none : Run = record { setup = start.setup; entries = [] } in
     let short : window ≤ longest_window = let s = valid.shape.window_short in omega (arith, s, wide) in
-    let counts : Counts (shape_with scenario window) [] 0 (opened window) = counts_none (shape_with scenario window) short in
     let at_none : At none (record { window = opened window; span = window }) = record {
       valid = valid;
       moment = refl;
-      counted = subst (λ j. Counts (shape_with scenario window) [] j (opened window)) (sym (no_ticks scenario.shape.tick)) counts;
+      counted = counted_none scenario window short;
       spent = λ p less. get_or-replicate most_partitions p None None less;
     } in
     let whole : start ≡ none = ap (λ es. record start { entries = es }) begins in
     subst (At core) (sym new) (subst (λ r. At r (record { window = opened window; span = window })) (sym (is ∙ whole)) at_none)
 
--- the next entry is the step of its processor, which has the turn
-pub taken : (run : Run) (e : Entry) → IsLegal run.setup.scenario run.setup.order (run.entries ++ e ∷ []) → length run.entries < run.setup.limit → IsTurnTaken run e.cpu e
-taken run e legal less =
-    let next : GoesOn run.setup.scenario run.setup.order run.entries e = goes_on run.setup.scenario run.setup.order run.entries [] e legal in
-    record {
-      goes_on = ap (λ o. or_limit o run.setup.limit (length run.entries)) next.running
-          ∙ ap (λ t. cond t (Some Limit) None) (test_ne (length run.entries) run.setup.limit (λ same. omega (arith, same, less)));
-      turn = next.turn;
-      stepped = next.same;
-    }
-
--- each entry of a legal history is
-pub taken_at : (setup : Setup) (run : Run) (h : List Entry) (i : ℕ) (e : Entry) → run ≡ record { setup = setup; entries = take i h } → IsLegal setup.scenario setup.order h → i < length h → get_or h i e ≡ e → length h ≤ setup.limit
-    → IsTurnTaken run e.cpu e
-taken_at setup run h i e here legal less is few =
-    let count = length-take-le i h (omega (arith, less)) in
-    let up_to = legal_up_to setup.scenario setup.order (take i h) (drop (i + 1) h) e (subst (IsLegal setup.scenario setup.order) (parted h i e less is) legal) in
-    subst (λ (r : Run). IsTurnTaken r e.cpu e) (sym here) (taken (record { setup = setup; entries = take i h }) e up_to (omega (arith, count, less, few)))
-
--- after it
-pub at_more : (pass after : Pass) (e : Entry) → PassFollowsCore pass → after.core ≡ with_entry pass.core e → after.moment ≡ e.to → IsTimeCounted (scenario_of_pass pass) (pass.core.entries ++ e ∷ []) after.time
-    → ((p : ℕ) → p < most_partitions → get_or after.spent p None ≡ spent_with (get_or pass.spent p None) e.to (excess_of (scenario_of_pass pass) p pass.core.entries e)) → PassFollowsCore after
+-- after the next entry
+pub at_more : (pass after : Pass) (e : Entry) → PassFollowsCore pass → after.core ≡ with_entry pass.core e → after.moment ≡ e.to → AreUsagesCounted (scenario_of_run pass.core) (pass.core.entries ++ e ∷ []) after.time
+    → ((p : ℕ) → p < most_partitions → get_or after.spent p None ≡ spent_with (get_or pass.spent p None) e.to (excess_of (scenario_of_run pass.core) p pass.core.entries e)) → PassFollowsCore after
 at_more pass after e at core now counted spent =
-    let scenario = scenario_of_pass pass in
+    let scenario = scenario_of_run pass.core in
     let h = pass.core.entries in
     let entries : after.core.entries ≡ h ++ e ∷ [] = ap (λ (r : Run). r.entries) core in
-    let same : scenario_of_pass after ≡ scenario = ap (λ (r : Run). r.setup.scenario) core in
+    let same : scenario_of_run after.core ≡ scenario = ap (λ (r : Run). r.setup.scenario) core in
     record {
       valid = subst IsScenario (sym same) at.valid;
       moment = now ∙ sym (moment-append h e) ∙ ap moment (sym entries);
-      counted = subst (λ (r : Run). IsTimeCounted r.setup.scenario r.entries after.time) (sym core) counted;
+      counted = subst (λ (r : Run). AreUsagesCounted r.setup.scenario r.entries after.time) (sym core) counted;
       spent = λ p less.
           spent p less ∙ ap (λ o. spent_with o e.to (excess_of scenario p h e)) (at.spent p less) ∙ sym (spent_more scenario h e p)
           ∙ ap (λ (r : Run). spent_of r.setup.scenario r.entries p) (sym core);
     }
 
-pub at_quiet : (pass after : Pass) (e : Entry) → PassFollowsCore pass → after.core ≡ with_entry pass.core e → after.moment ≡ e.to → IsTimeCounted (scenario_of_pass pass) (pass.core.entries ++ e ∷ []) after.time
-    → budget_at (scenario_of_pass pass) pass.core.entries e ≡ None → after.spent ≡ pass.spent → PassFollowsCore after
+pub at_quiet : (pass after : Pass) (e : Entry) → PassFollowsCore pass → after.core ≡ with_entry pass.core e → after.moment ≡ e.to → AreUsagesCounted (scenario_of_run pass.core) (pass.core.entries ++ e ∷ []) after.time
+    → budget_at (scenario_of_run pass.core) pass.core.entries e ≡ None → after.spent ≡ pass.spent → PassFollowsCore after
 at_quiet pass after e at core now counted none spent =
     at_more pass after e at core now counted
     (λ p less. ap (λ (l : List (Option Spent)). get_or l p None) spent
-    ∙ sym (ap (spent_with (get_or pass.spent p None) e.to) (excess_none (scenario_of_pass pass) pass.core.entries e p none)))
+    ∙ sym (ap (spent_with (get_or pass.spent p None) e.to) (excess_none (scenario_of_run pass.core) pass.core.entries e p none)))
 
-pub at_compared : (pass after : Pass) (e : Entry) (b : CriticalBudget) (time : CriticalTime) → PassFollowsCore pass → IsLegal (scenario_of_pass pass) (order_of_pass pass) (pass.core.entries ++ e ∷ []) → after.core ≡ with_entry pass.core e → after.moment ≡ e.to
-    → IsTimeCounted (scenario_of_pass pass) (pass.core.entries ++ e ∷ []) time → after.time ≡ for_span b.window time
-    → budget_at (scenario_of_pass pass) pass.core.entries e ≡ Some b → b.partition < most_partitions
+pub at_compared : (pass after : Pass) (e : Entry) (b : CriticalBudget) (time : Usages) → PassFollowsCore pass → IsLegal (scenario_of_run pass.core) (order_of_run pass.core) (pass.core.entries ++ e ∷ []) → after.core ≡ with_entry pass.core e → after.moment ≡ e.to
+    → AreUsagesCounted (scenario_of_run pass.core) (pass.core.entries ++ e ∷ []) time → after.time ≡ for_span b.window time
+    → budget_at (scenario_of_run pass.core) pass.core.entries e ≡ Some b → b.partition < most_partitions
     → ((p : ℕ) → p < most_partitions → get_or after.spent p None ≡ spent_with (get_or pass.spent p None) e.to (excess_by b (used_by b time) p)) → PassFollowsCore after
 at_compared pass after e b time at legal core now counted resized_is is small spent =
-    let scenario = scenario_of_pass pass in
+    let scenario = scenario_of_run pass.core in
     let h = pass.core.entries in
     let g = h ++ e ∷ [] in
-    let short = (budget_window scenario (order_of_pass pass) h e b at.valid legal is).1 in
-    let there : IsTimeCounted scenario g (for_span b.window time) = counts_resized (shape_with scenario time.span) (shape_with scenario b.window) g (moment g / scenario.shape.tick) time.window counted refl short in
-    at_more pass after e at core now (subst (IsTimeCounted scenario g) (sym resized_is) there)
-    (λ p less. spent p less ∙ ap (spent_with (get_or pass.spent p None) e.to) (excess_some scenario (order_of_pass pass) h e b time p at.valid legal is small there))
+    let short = (budget_window scenario (order_of_run pass.core) h e b at.valid legal is).1 in
+    let there : AreUsagesCounted scenario g (for_span b.window time) = counts_resized (shape_with scenario time.span) (shape_with scenario b.window) g (moment g / scenario.shape.tick) time.window counted refl short in
+    at_more pass after e at core now (subst (AreUsagesCounted scenario g) (sym resized_is) there)
+    (λ p less. spent p less ∙ ap (spent_with (get_or pass.spent p None) e.to) (excess_some scenario (order_of_run pass.core) h e b time p at.valid legal is small there))

@@ -21,8 +21,9 @@ use Rattle.aps_window.specs.Entries.{IsInOneTick}
 use Rattle.aps_window.specs.Window.{Window, advanced, resized}
 use Rattle.aps_core.specs.Counts.{Counts}
 use Rattle.aps_core.proofs.Counting.{can_bill, counts_later, counts_resized}
-use Rattle.view_shares.specs.declared.critical_time.CriticalTime.{CriticalTime}
-use Rattle.view_shares.specs.CriticalTime.{HasRoomInWindow, IsTimeCounted, shape_with}
+use Rattle.view_replay.specs.Shape.{shape_with}
+use Rattle.view_shares.specs.declared.usages.Usages.{Usages}
+use Rattle.view_shares.specs.Usages.{HasRoomInWindow, AreUsagesCounted}
 
 -- the next entry: it has its moments, crosses no boundary, ends no earlier than the last one, and in one of a million ticks
 pub record IsLater (scenario : Scenario) (h : List Entry) (e : Entry) : Type 0 where
@@ -50,7 +51,7 @@ is_later scenario order h e valid legal =
     }
 
 -- where the window has gone on to its tick
-pub gone_on : (scenario : Scenario) (h : List Entry) (j : ℕ) (time : CriticalTime) (after : Window) → IsTimeCounted scenario h time → moment h / scenario.shape.tick ≤ j → after ≡ advanced (j - time.window.tick) time.window
+pub gone_on : (scenario : Scenario) (h : List Entry) (j : ℕ) (time : Usages) (after : Window) → AreUsagesCounted scenario h time → moment h / scenario.shape.tick ≤ j → after ≡ advanced (j - time.window.tick) time.window
     → Counts (shape_with scenario time.span) h j after
 gone_on scenario h j time after counted forward is =
     subst (Counts (shape_with scenario time.span) h j) (sym is) (counts_later (shape_with scenario time.span) h (moment h / scenario.shape.tick) j time.window counted forward)

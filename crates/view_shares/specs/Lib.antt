@@ -1,5 +1,5 @@
 pub mod CriticalBudget
-pub mod CriticalTime
+pub mod Usages
 pub mod Overspending
 pub mod Share
 pub mod Shares

@@ -1,35 +1,27 @@
 -- How far a pass over the entries of a history has come that tells who overspends.
 use Rattle.std.specs.Prelude.{◌≡◌, ℕ, ◌-◌, ◌<◌, ◌≤◌, List, ◌&&◌, nat_eq, nat_lt, if◌then◌else◌, slice_index_or, Option, Some, None, IfSome}
 use Rattle.aps_model.specs.Limits.{most_partitions}
-use Rattle.aps_model.specs.declared.entry.Order.{Order}
-use Rattle.aps_model.specs.Scenario.{Scenario}
 use Rattle.aps_model.specs.Valid.{IsScenario}
 use Rattle.laws_runs.specs.Moments.{moment}
 use Rattle.aps_window.specs.Window.{resized, total_of}
+use Rattle.view_replay.specs.Retraced.{scenario_of_run}
 use Rattle.view_shares.specs.declared.critical_budget.CriticalBudget.{CriticalBudget}
-use Rattle.view_shares.specs.declared.critical_time.CriticalTime.{CriticalTime}
+use Rattle.view_shares.specs.declared.usages.Usages.{Usages}
 use Rattle.view_shares.specs.declared.overspending.Pass.{Pass}
 use Rattle.view_shares.specs.declared.spent.Spent.{Spent}
-use Rattle.view_shares.specs.CriticalTime.{IsTimeCounted}
+use Rattle.view_shares.specs.Usages.{AreUsagesCounted}
 use Rattle.view_shares.specs.Spent.{AreSpent}
-
--- the scenario and the order of the pass
-abbrev pub scenario_of_pass : Pass → Scenario
-scenario_of_pass pass = pass.core.setup.scenario
-
-abbrev pub order_of_pass : Pass → Order
-order_of_pass pass = pass.core.setup.order
 
 -- the entries of its core are done: the moment is that of the last one's end, their time is counted, and who has overspent is
 -- noted
 pub record PassFollowsCore (pass : Pass) : Type 0 where
-  pub valid : IsScenario (scenario_of_pass pass)
+  pub valid : IsScenario (scenario_of_run pass.core)
   pub moment : pass.moment ≡ moment pass.core.entries
-  pub counted : IsTimeCounted (scenario_of_pass pass) pass.core.entries pass.time
-  pub spent : AreSpent (scenario_of_pass pass) pass.core.entries pass.spent
+  pub counted : AreUsagesCounted (scenario_of_run pass.core) pass.core.entries pass.time
+  pub spent : AreSpent (scenario_of_run pass.core) pass.core.entries pass.spent
 
 -- what the partition of the budget used of critical time in the window of the budget
-abbrev pub used_by : CriticalBudget → CriticalTime → ℕ
+abbrev pub used_by : CriticalBudget → Usages → ℕ
 used_by budget time = (total_of (resized budget.window time.window) budget.partition).critical
 
 -- by how much partition p exceeds the budget, where that is its own and so much was used

@@ -2,6 +2,7 @@
 use Rattle.std.specs.Prelude.{ℕ, ◌+◌, ◌-◌, slice_index, slice_index_or, Bool, false, not, ◌&&◌, nat_eq, nat_lt, if◌then◌else◌, Option, Some, None}
 use Rattle.std.specs.List.{sum_by, range_with_len}
 use Rattle.view_samples.specs.declared.sample.Sample.{Sample}
+use Rattle.view_samples.specs.Sample.{is_changed}
 use Rattle.view_shares.specs.declared.share.Amount.{Amount}
 use Rattle.view_shares.specs.declared.share.Counts.{Counts}
 use Rattle.view_shares.specs.declared.share.Share.{Share}
@@ -83,10 +84,6 @@ shortfall_in turn p sample = record {
 
 abbrev pub is_shorter : Shortfall → Shortfall → Bool
 is_shorter a b = nat_lt b.ns a.ns
-
--- the window is full, and a change lies in it
-abbrev pub is_changed : Sample → Bool
-is_changed sample = sample.full && not sample.unchanged
 
 -- the window is unchanged, and the partition always had a candidate in it
 abbrev pub is_asked : ℕ → Sample → Bool

@@ -8,7 +8,7 @@ use Rattle.aps_model.specs.Scenario.{Scenario}
 use Rattle.aps_model.specs.SchedulerState.{SchedulerState, row_at}
 use Rattle.aps_model.specs.Usage.{names, window_critical}
 use Rattle.laws_runs.specs.Between.{after_tick}
-use Rattle.view_marks.specs.declared.overspent.Overspent.{Overspent}
+use Rattle.view_samples.specs.declared.overspent.Overspent.{Overspent}
 use Rattle.view_shares.specs.declared.spent.Spent.{Spent}
 
 -- the rows and the shape at the test of bankruptcy in the step of the entry, which follows on these: those after the work of the

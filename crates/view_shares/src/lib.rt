@@ -3,16 +3,15 @@
 #![tactic(auto)]
 
 mod critical_budget;
-mod critical_time;
 mod lines;
 mod overspending;
-mod retracing;
 mod running;
 mod share;
 mod shares;
 mod spent;
 mod standing;
 mod text;
+mod usages;
 
 pub use overspending::{all_overspent, all_spent};
 pub use running::{Spending, spend_run};
@@ -20,3 +19,4 @@ pub use share::{Amount, Counts, Share, Shortfall, Used};
 pub use shares::Shares;
 pub use spent::Spent;
 pub use text::{shares_text, shares_text_with};
+pub use usages::Usages;

@@ -6,7 +6,7 @@ use crate::share::{Amount, Counts, Share, Shortfall, Used};
 use crate::spent::Spent;
 use aps_model::{Name, Nanos, NoMemory};
 use std::fmt::Write;
-use std::str::from_utf8;
+use view_texts::text_of;
 
 /// How many windows there are, and the time of all processors in a tick.
 pub fn add_head(out: &mut String, counts: &Counts, turn: Nanos) -> Result<(), NoMemory>
@@ -130,15 +130,5 @@ fn add_spent(out: &mut String, spent: &Option<Spent>) -> Result<(), NoMemory>
                 at,
             },
         ) => write!(out, "{count} first {first} worst {worst} at {at}\n"),
-    }
-}
-
-/// A name as text.
-fn text_of(name: &Name) -> &str
-    ensures { result.now ≡ name.now }
-{
-    match from_utf8(name.text()) {
-        Ok(text) => text,
-        Err(_) => unreachable!(),
     }
 }

@@ -1,26 +1,25 @@
 //! By how much each partition overspends its critical budget: one pass over the entries of a recorded history.
-ghost use Rattle.std.specs.Prelude.{◌≡◌, ℕ, ◌<◌, ◌≤◌, ◌++◌, [], ◌∷◌, length, slice_index_or, is_some, None, IfOk, OnOk};
+ghost use Rattle.std.specs.Prelude.{◌≡◌, ℕ, ◌<◌, ◌≤◌, ◌++◌, [], length, slice_index_or, is_some, None, IfOk, OnOk};
 ghost use Rattle.aps_model.specs.Legal.{IsLegal};
 ghost use Rattle.aps_core.specs.Run.{end_of_run};
 ghost use Rattle.aps_core.specs.Turn.{HasTurnIn, with_entry};
+ghost use Rattle.view_replay.specs.Retraced.{order_of_run, scenario_of_run};
 ghost use Rattle.view_replay.specs.Entry.{entry_of};
-ghost use Rattle.view_shares.specs.Overspending.{AreFewOverspent, PassFollowsCore, excess_by, order_of_pass, scenario_of_pass, used_by};
-ghost use Rattle.view_samples.specs.Retraced.{start_of};
+ghost use Rattle.view_shares.specs.Overspending.{AreFewOverspent, PassFollowsCore, excess_by, used_by};
 ghost use Rattle.view_shares.specs.CriticalBudget.{AreUntestedFrom, tested_by};
-ghost use Rattle.view_shares.specs.CriticalTime.{for_span};
+ghost use Rattle.view_shares.specs.Usages.{for_span};
 ghost use Rattle.view_shares.specs.Spent.{AreSpent, overspent_listed, overspent_as, overspent_by, overspent_of, spent_with};
 ghost use Rattle.aps_model.specs.Limits.{longest_window, most_entries, most_partitions, shortest_window};
 
 use crate::critical_budget::{CriticalBudget, budget_next, if_lasts, tested};
-use crate::critical_time::CriticalTime;
-use crate::retracing::boot;
 use crate::spent::Spent;
+use crate::usages::Usages;
 use aps_core::Core;
 use aps_model::limits::MOST_PARTITIONS;
 use aps_model::{CpuId, Entry, History, Nanos, NoMemory, Order};
 use std::alloc::Global;
-use view_marks::Overspent;
-use view_replay::take_turn;
+use view_replay::{boot, take_turn};
+use view_samples::Overspent;
 
 /// How far a pass has come: a core that has made the steps of so many entries again, when the last of them ended, the time
 /// that they bill, and by how much each partition has overspent.
@@ -28,7 +27,7 @@ use view_replay::take_turn;
 pub struct Pass {
     pub core: Core,
     pub moment: Nanos,
-    pub time: CriticalTime,
+    pub time: Usages,
     pub spent: [Option<Spent>; MOST_PARTITIONS],
 }
 
@@ -98,7 +97,7 @@ impl Pass {
         ensures core { IfOk result (λ pass. pass.core ≡ core) }
     {
         let window = core.history().scenario().shape().window;
-        let time = CriticalTime::new(alloc, window)?;
+        let time = Usages::new(alloc, window)?;
         Ok(Pass {
             core,
             moment: 0,
@@ -111,10 +110,10 @@ impl Pass {
     fn collect(&mut self, alloc: Global, entries: &[Entry]) -> Result<Vec<Overspent>, NoMemory>
         requires at { PassFollowsCore self.old }
         requires begins { self.old.core.entries ≡ [] }
-        requires legal { IsLegal (scenario_of_pass self.old) (order_of_pass self.old) entries.now }
+        requires legal { IsLegal (scenario_of_run self.old.core) (order_of_run self.old.core) entries.now }
         requires few { length entries.now ≤ self.old.core.setup.limit }
         requires most { self.old.core.setup.limit ≤ most_entries }
-        ensures { IfOk result (λ all. all.items ≡ overspent_of (scenario_of_pass self.old) entries.now) }
+        ensures { IfOk result (λ all. all.items ≡ overspent_of (scenario_of_run self.old.core) entries.now) }
     {
         let mut all = Vec::new(alloc);
         for e in entries {
@@ -128,10 +127,10 @@ impl Pass {
     fn go_through(&mut self, alloc: Global, entries: &[Entry]) -> Result<(), NoMemory>
         requires at { PassFollowsCore self.old }
         requires begins { self.old.core.entries ≡ [] }
-        requires legal { IsLegal (scenario_of_pass self.old) (order_of_pass self.old) entries.now }
+        requires legal { IsLegal (scenario_of_run self.old.core) (order_of_run self.old.core) entries.now }
         requires few { length entries.now ≤ self.old.core.setup.limit }
         requires most { self.old.core.setup.limit ≤ most_entries }
-        ensures { OnOk result (AreSpent (scenario_of_pass self.old) entries.now self.new.spent) }
+        ensures { OnOk result (AreSpent (scenario_of_run self.old.core) entries.now self.new.spent) }
     {
         for e in entries {
             let _overspent = self.go_on(alloc, e.cpu)?;
@@ -148,7 +147,7 @@ impl Pass {
         ensures at { OnOk result (PassFollowsCore self.new) }
         ensures core { OnOk result (self.new.core ≡ with_entry self.old.core (entry_of self.old.core cpu)) }
         ensures overspent { IfOk result (λ overspent. overspent
-            ≡ overspent_by (scenario_of_pass self.old) self.old.core.entries (entry_of self.old.core cpu)) }
+            ≡ overspent_by (scenario_of_run self.old.core) self.old.core.entries (entry_of self.old.core cpu)) }
         ensures room { OnOk result (length self.old.core.entries < self.old.core.setup.limit) }
     {
         // the check wants to see here that the core's entries are legal

@@ -10,7 +10,6 @@ use aps_core::Core;
 use aps_model::NoMemory;
 use aps_model::limits::MOST_PARTITIONS;
 use std::alloc::Global;
-use view_replay::first_due;
 
 /// A core whose run has ended, and how often each partition overspent its critical budget in it, when first, and by how much at worst.
 #[derive(Drop)]
@@ -30,7 +29,7 @@ pub fn spend_run(alloc: Global, core: Core) -> Result<Spending, NoMemory>
 {
     let mut pass = Pass::begin(alloc, core)?;
     while pass.core.ended().is_none() {
-        let first = first_due(&pass.core);
+        let first = pass.core.first_due();
         let _overspent = pass.go_on(alloc, first)?;
     }
     Ok(Spending {

@@ -126,17 +126,10 @@ impl Share {
             demand: counted(self.demand, asked),
             had: counted(self.had, both(asked, sample.had[p])),
             least: least_with(self.least, used_in(sample, p), asked),
-            changed: most_with(self.changed, used_in(sample, p), is_changed(sample)),
+            changed: most_with(self.changed, used_in(sample, p), sample.is_changed()),
             short: short_with(self.short, sample, p, turn, but_not(asked, sample.had[p])),
         }
     }
-}
-
-/// Whether the window is full, and a change lies in it.
-fn is_changed(sample: &Sample) -> bool
-    ensures { result ≡ spec.is_changed sample.now }
-{
-    but_not(sample.full, sample.unchanged)
 }
 
 /// Whether both hold.

@@ -4,7 +4,8 @@ ghost use Rattle.aps_model.specs.After.{state_after};
 ghost use Rattle.aps_model.specs.Legal.{IsLegal};
 ghost use Rattle.aps_model.specs.Loaded.{finished_ticks};
 ghost use Rattle.aps_model.specs.Shape.{IsShape};
-ghost use Rattle.view_samples.specs.Pass.{IsAtTickBegin, scenario_of_cursor};
+ghost use Rattle.view_replay.specs.Retraced.{scenario_of_run};
+ghost use Rattle.view_samples.specs.Pass.{IsAtTickBegin};
 ghost use Rattle.view_shares.specs.Share.{counts_with, no_counts, no_share, share_with};
 ghost use Rattle.view_shares.specs.Shares.{AreFewShares, AreUpTo, IsFew, tick_of_all};
 ghost use Rattle.aps_model.specs.Limits.{last_tick, most_entries, most_partitions};
@@ -48,11 +49,11 @@ pub fn all_shares(alloc: Global, history: &History, order: Order) -> Result<AllS
 /// The same, by a pass that begins.
 fn shares_of(history: &History, samples: &mut Samples) -> Shares
     requires at { IsAtTickBegin history.now.entries samples.old }
-    requires of { scenario_of_cursor samples.old.cursor ≡ history.now.scenario }
+    requires of { scenario_of_run samples.old.cursor.core ≡ history.now.scenario }
     requires first { samples.old.tick ≡ 0 }
     ensures told { AreUpTo history.now.scenario history.now.entries (finished_ticks history.now.scenario.shape history.now.entries) result }
     ensures at { IsAtTickBegin history.now.entries samples.new }
-    ensures of { scenario_of_cursor samples.new.cursor ≡ history.now.scenario }
+    ensures of { scenario_of_run samples.new.cursor.core ≡ history.now.scenario }
 {
     let shape = history.scenario().shape();
     let finished = finished_ticks(shape, history.entries());

@@ -5,7 +5,7 @@ use Rattle.std.specs.Fmt.{decimal}
 use Rattle.aps_model.specs.declared.partition.PartitionRow.{PartitionRow}
 use Rattle.aps_model.specs.declared.scenario.ThreadRow.{ThreadRow}
 use Rattle.view_marks.specs.declared.alteration.Alteration.{Alteration}
-use Rattle.view_marks.specs.declared.overspent.Overspent.{Overspent}
+use Rattle.view_samples.specs.declared.overspent.Overspent.{Overspent}
 use Rattle.view_marks.specs.Text.{alteration_text}
 use Rattle.view_trace_events.specs.Place.{track_place_text}
 use Rattle.view_trace_events.specs.Track.{of_partition, of_processors}

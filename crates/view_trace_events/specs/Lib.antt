@@ -1,9 +1,7 @@
 pub mod Arrows
 pub mod Counters
-pub mod Faults
 pub mod Instants
 pub mod Names
-pub mod Piece
 pub mod Place
 pub mod Slices
 pub mod Time

@@ -7,7 +7,7 @@ use Rattle.aps_model.specs.declared.partition.PartitionRow.{PartitionRow}
 use Rattle.aps_model.specs.After.{state_after}
 use Rattle.aps_model.specs.Scenario.{Scenario}
 use Rattle.view_marks.specs.declared.bar.Bar.{Bar}
-use Rattle.view_marks.specs.declared.overspent.Overspent.{Overspent}
+use Rattle.view_samples.specs.declared.overspent.Overspent.{Overspent}
 use Rattle.view_marks.specs.Alteration.{alterations_of}
 use Rattle.view_marks.specs.Bar.{lane_of}
 use Rattle.view_lives.specs.Life.{life_of}

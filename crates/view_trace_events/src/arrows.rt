@@ -2,17 +2,16 @@
 ghost use Rattle.std.specs.Prelude.{◌≡◌, ◌≤◌, ◌++◌, length, string_bytes, IfOk, IsErrOf, OnOk};
 ghost use Rattle.aps_io.specs.Causes.{Rose};
 ghost use Rattle.view_trace_events.specs.Arrows as spec;
-ghost use Rattle.view_trace_events.specs.Piece.{IsTold};
+ghost use Rattle.view_texts.specs.Piece.{IsTold};
 ghost use Rattle.aps_model.specs.Limits.{most_entries};
 
-use crate::fault::TraceFault;
-use crate::piece::make_room;
 use crate::place::add_place;
 use crate::tracks::of_thread;
 use aps_io::Sink;
 use aps_model::{Entry, Nanos, NoMemory, ThreadId, ThreadRow};
 use std::fmt::Write;
 use view_marks::{Arrow, Carried, arrow_of};
+use view_texts::{TraceFault, make_room};
 
 /// Two events for each arrow of these entries, which are numbered from 0.
 pub fn write_arrows<K: Sink>(

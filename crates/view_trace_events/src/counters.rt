@@ -3,13 +3,12 @@ ghost use Rattle.std.specs.Prelude.{◌≡◌, ◌≤◌, ◌++◌, length, stri
 ghost use Rattle.aps_io.specs.Causes.{Rose};
 ghost use Rattle.aps_model.specs.Legal.{IsLegal};
 ghost use Rattle.aps_model.specs.Loaded.{finished_ticks};
-ghost use Rattle.view_samples.specs.Pass.{IsAtTickBegin, scenario_of_cursor};
+ghost use Rattle.view_replay.specs.Retraced.{scenario_of_run};
+ghost use Rattle.view_samples.specs.Pass.{IsAtTickBegin};
 ghost use Rattle.view_trace_events.specs.Counters as spec;
-ghost use Rattle.view_trace_events.specs.Piece.{IsTold};
+ghost use Rattle.view_texts.specs.Piece.{IsTold};
 ghost use Rattle.aps_model.specs.Limits.{last_partition, last_tick, longest_tick, most_entries, most_partitions};
 
-use crate::fault::TraceFault;
-use crate::piece::make_room;
 use crate::tracks::{Track, of_partition};
 use crate::words::add_us;
 use aps_io::Sink;
@@ -17,6 +16,7 @@ use aps_model::{History, Nanos, NoMemory, Order, PartitionId, finished_ticks};
 use std::alloc::Global;
 use std::fmt::Write;
 use view_samples::{Sample, Samples};
+use view_texts::{TraceFault, make_room};
 
 /// Of the first so many partitions, events for the values in the window that ends with each finished tick, where one differs
 /// from what was told last. The history is legal in this order of turns.
@@ -50,7 +50,7 @@ fn write_ticks<K: Sink>(
 ) -> Result<(), TraceFault>
     requires few_rows { rows ≤ most_partitions }
     requires at { IsAtTickBegin history.now.entries samples.old }
-    requires of { scenario_of_cursor samples.old.cursor ≡ history.now.scenario }
+    requires of { scenario_of_run samples.old.cursor.core ≡ history.now.scenario }
     requires first { samples.old.tick ≡ 0 }
     ensures told { OnOk result (IsTold (K.written sink.old) (K.written sink.new) (string_bytes out.old) (string_bytes out.new)
         (spec.counters_text history.now.scenario history.now.entries rows)) }

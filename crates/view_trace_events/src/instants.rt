@@ -3,17 +3,17 @@ ghost use Rattle.std.specs.Prelude.{◌≡◌, ◌≤◌, ◌++◌, string_bytes
 ghost use Rattle.std.specs.List.{flat_map};
 ghost use Rattle.aps_io.specs.Causes.{Rose};
 ghost use Rattle.view_trace_events.specs.Instants as spec;
-ghost use Rattle.view_trace_events.specs.Piece.{IsTold};
+ghost use Rattle.view_texts.specs.Piece.{IsTold};
 
-use crate::fault::TraceFault;
-use crate::piece::make_room;
 use crate::place::add_place;
 use crate::tracks::{of_partition, of_processors};
 use aps_io::Sink;
 use aps_model::{Nanos, NoMemory, PartitionRow, ThreadRow};
 use std::fmt::Write;
+use view_marks::Alteration;
 use view_marks::text::add_alteration;
-use view_marks::{Alteration, Overspent};
+use view_samples::Overspent;
+use view_texts::{TraceFault, make_room};
 
 /// An event for each entry that made its partition bankrupt.
 pub fn write_overspent<K: Sink>(

@@ -3,17 +3,15 @@ ghost use Rattle.std.specs.Prelude.{◌≡◌, ◌≤◌, ◌++◌, length, stri
 ghost use Rattle.std.specs.List.{flat_map, enumerate_from, range_with_len};
 ghost use Rattle.aps_io.specs.Causes.{Rose};
 ghost use Rattle.view_trace_events.specs.Names as spec;
-ghost use Rattle.view_trace_events.specs.Piece.{IsTold};
+ghost use Rattle.view_texts.specs.Piece.{IsTold};
 ghost use Rattle.aps_model.specs.Limits.{most_cpus, most_partitions, most_threads};
 
-use crate::fault::TraceFault;
-use crate::piece::make_room;
 use crate::place::add_track;
 use crate::tracks::{Track, of_partition, of_processor, of_processors, of_thread};
 use aps_io::Sink;
 use aps_model::{CpuId, Name, NoMemory, PartitionId, PartitionRow, ThreadId, ThreadRow};
 use std::fmt::Write;
-use view_marks::text::text_of;
+use view_texts::{TraceFault, make_room, text_of};
 
 /// The head of a trace with its first event, and the names of so many processors.
 pub fn add_processors(out: &mut String, cpus: u8) -> Result<(), NoMemory>

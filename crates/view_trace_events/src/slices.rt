@@ -2,12 +2,10 @@
 ghost use Rattle.std.specs.Prelude.{◌≡◌, ◌≤◌, ◌++◌, length, string_bytes, IsErrOf, OnOk};
 ghost use Rattle.std.specs.List.{flat_map, enumerate_from};
 ghost use Rattle.aps_io.specs.Causes.{Rose};
-ghost use Rattle.view_trace_events.specs.Piece.{IsTold};
+ghost use Rattle.view_texts.specs.Piece.{IsTold};
 ghost use Rattle.view_trace_events.specs.Slices as spec;
 ghost use Rattle.aps_model.specs.Limits.{most_cpus};
 
-use crate::fault::TraceFault;
-use crate::piece::make_room;
 use crate::place::add_place;
 use crate::tracks::{Track, of_processor, of_thread};
 use crate::words::{add_us, bit, channel_name};
@@ -17,6 +15,7 @@ use std::fmt::Write;
 use view_lives::{Doing, Life, Segment};
 use view_marks::text::{row_name, thread_name};
 use view_marks::{Bar, Lane};
+use view_texts::{TraceFault, make_room};
 
 /// An event for each bar of each processor.
 pub fn write_lanes<K: Sink>(

@@ -4,9 +4,9 @@ ghost use Rattle.view_samples.specs.Csv.{bit};
 ghost use Rattle.view_trace_events.specs.Time.{us_text};
 ghost use Rattle.view_trace_events.specs.Words as spec;
 
-use aps_model::{ChannelId, Name, Nanos, NoMemory, State};
+use aps_model::{ChannelId, Name, Nanos, NoMemory};
 use std::fmt::Write;
-use view_marks::text::text_of;
+use view_texts::text_of;
 
 /// A time in microseconds, with three decimals, so that no nanosecond is lost.
 pub fn add_us(out: &mut String, ns: Nanos) -> Result<(), NoMemory>
@@ -34,19 +34,4 @@ pub fn bit(is_so: bool) -> u8
     ensures { result ≡ bit is_so }
 {
     if is_so { 1 } else { 0 }
-}
-
-/// The word of a state.
-pub fn state_word(state: &State) -> &'static str
-    ensures { result.now ≡ spec.state_word state.now }
-{
-    match state {
-        State::Ready => "ready",
-        State::Running(_) => "running",
-        State::Sleeping(_) => "sleeping",
-        State::Sending(_) => "sending",
-        State::Receiving(_) => "receiving",
-        State::Replying(_) => "replying",
-        State::Gone => "gone",
-    }
 }

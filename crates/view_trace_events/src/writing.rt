@@ -7,22 +7,22 @@ ghost use Rattle.aps_model.specs.After.{state_after};
 ghost use Rattle.aps_model.specs.Legal.{IsLegal};
 ghost use Rattle.view_marks.specs.Alteration.{alterations_of};
 ghost use Rattle.view_trace_events.specs.Instants.{alteration_event, overspent_event};
-ghost use Rattle.view_trace_events.specs.Piece.{IsTold};
+ghost use Rattle.view_texts.specs.Piece.{IsTold};
 ghost use Rattle.view_trace_events.specs.Trace as spec;
 ghost use Rattle.aps_model.specs.Limits.{most_entries, most_partitions};
 
 use crate::arrows::write_arrows;
 use crate::counters::write_counters;
-use crate::fault::TraceFault;
 use crate::instants::{write_alterations, write_overspent};
 use crate::names;
-use crate::piece::write_out;
 use crate::slices::{write_lanes, write_lives};
 use aps_io::Sink;
 use aps_model::{History, NoMemory, Order, PartitionRow, Scenario};
 use std::alloc::Global;
 use view_lives::lives;
-use view_marks::{Alteration, Drawn, Overspent, drawn_of};
+use view_marks::{Alteration, Drawn, drawn_of};
+use view_samples::Overspent;
+use view_texts::{TraceFault, write_out};
 
 /// Writes the trace events of a history, which is legal in this order of turns, in pieces of some 65,536 bytes: names of tracks,
 /// what processors and threads did, messages and replies, usages by tick, overspent budgets and changes (docs/FORMATS.md). The

@@ -6,7 +6,7 @@ use Rattle.aps_model.specs.declared.entry.Entry.{Entry}
 use Rattle.aps_model.specs.declared.partition.PartitionRow.{PartitionRow}
 use Rattle.aps_model.specs.declared.scenario.ThreadRow.{ThreadRow}
 use Rattle.aps_core.specs.Run.{Setup}
-use Rattle.view_marks.specs.declared.overspent.Overspent.{Overspent}
+use Rattle.view_samples.specs.declared.overspent.Overspent.{Overspent}
 use Rattle.view_value_changes.specs.declared.told.Told.{Told}
 use Rattle.view_value_changes.specs.declared.value.Value.{Value}
 use Rattle.view_value_changes.specs.Dump.{Telling, dumped, dumped_with}

@@ -1,4 +1,4 @@
 pub mod Alike
 pub mod Codes
-pub mod Counted
+pub mod Begun
 pub mod Dumped

@@ -8,7 +8,7 @@ use Rattle.aps_model.specs.declared.scenario.ThreadRow.{ThreadRow}
 use Rattle.aps_model.specs.After.{state_after}
 use Rattle.aps_model.specs.Scenario.{Scenario}
 use Rattle.laws_runs.specs.Moments.{moment}
-use Rattle.view_marks.specs.declared.overspent.Overspent.{Overspent}
+use Rattle.view_samples.specs.declared.overspent.Overspent.{Overspent}
 use Rattle.aps_core.specs.Run.{Run, Setup}
 use Rattle.view_value_changes.specs.declared.dump.Dump.{Dump}
 use Rattle.view_value_changes.specs.declared.told.Told.{Told}

@@ -7,5 +7,4 @@ pub mod Retraced
 pub mod Save
 pub mod Signals
 pub mod Told
-pub mod Usages
 pub mod Value

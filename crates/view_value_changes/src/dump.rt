@@ -3,14 +3,14 @@ ghost use Rattle.std.specs.Prelude.{◌≡◌, ◌++◌, ◌<◌, ◌≤◌, Lis
 ghost use Rattle.aps_io.specs.Causes.{Rose};
 ghost use Rattle.aps_model.specs.Legal.{IsLegal};
 ghost use Rattle.aps_model.specs.Limits.{most_entries, most_partitions};
-ghost use Rattle.view_marks.specs.declared.overspent.Overspent.{Overspent};
+ghost use Rattle.view_samples.specs.declared.overspent.Overspent.{Overspent};
 ghost use Rattle.aps_core.specs.Turn.{with_entry};
-ghost use Rattle.view_samples.specs.Retraced.{start_of};
-ghost use Rattle.view_trace_events.specs.Piece.{IsTold};
+ghost use Rattle.view_replay.specs.Retraced.{order_of_run, scenario_of_run, start_of};
+ghost use Rattle.view_texts.specs.Piece.{IsTold};
 ghost use Rattle.view_value_changes.specs.Dump as spec;
 ghost use Rattle.view_value_changes.specs.Dump.{telling_of};
 ghost use Rattle.view_value_changes.specs.Moment.{moment_values};
-ghost use Rattle.view_value_changes.specs.Retraced.{RetracedFollowsCore, order_of_retraced, scenario_of_retraced};
+ghost use Rattle.view_value_changes.specs.Retraced.{RetracedFollowsCore};
 
 use crate::changes::add_moment;
 use crate::moments::add_values;
@@ -20,9 +20,8 @@ use crate::value::Value;
 use aps_io::Sink;
 use aps_model::{Entry, History, Nanos, NoMemory, Order, PartitionId, PartitionRow, ThreadRow};
 use std::alloc::Global;
-use view_marks::Overspent;
-use view_trace_events::fault::TraceFault;
-use view_trace_events::piece::make_room;
+use view_samples::Overspent;
+use view_texts::{TraceFault, make_room};
 
 /// A dump under way: how far the steps were made again, what the entries tell that ended at the last moment, the values that were
 /// told last, those that stand now, and how many of the entries that made their partition bankrupt have passed.
@@ -66,7 +65,7 @@ impl Dump {
     ) -> Result<(), TraceFault>
         requires at { RetracedFollowsCore self.old.at }
         requires begins { self.old.at.core.entries ≡ [] }
-        requires legal { IsLegal (scenario_of_retraced self.old.at) (order_of_retraced self.old.at) entries.now }
+        requires legal { IsLegal (scenario_of_run self.old.at.core) (order_of_run self.old.at.core) entries.now }
         requires few { length entries.now ≤ self.old.at.core.setup.limit }
         requires few_rows { length rows.now ≤ most_partitions }
         ensures at { OnOk result (RetracedFollowsCore self.new.at) }
@@ -114,7 +113,8 @@ impl Dump {
     /// Makes the step of the next entry, and notes what it tells.
     fn go_on(&mut self, overspent: &[Overspent], e: &Entry)
         requires at { RetracedFollowsCore self.old.at }
-        requires legal { IsLegal (scenario_of_retraced self.old.at) (order_of_retraced self.old.at) (self.old.at.core.entries ++ e.now ∷ []) }
+        requires legal { IsLegal (scenario_of_run self.old.at.core) (order_of_run self.old.at.core)
+            (self.old.at.core.entries ++ e.now ∷ []) }
         requires room { length self.old.at.core.entries < self.old.at.core.setup.limit }
         ensures at { RetracedFollowsCore self.new.at }
         ensures core { self.new.at.core ≡ with_entry self.old.at.core e.now }

@@ -1,11 +1,12 @@
 //! A history as a value change dump: every change of every signal, to the nanosecond.
 ghost use Rattle.std.specs.Prelude.{◌≡◌, ◌≤◌, ◌++◌, List, [], IsErrOf, OnOk, length, string_bytes};
 ghost use Rattle.std.specs.Io.KnownBytes.{Appends};
-ghost use Rattle.view_marks.specs.declared.overspent.Overspent.{Overspent};
+ghost use Rattle.view_replay.specs.Retraced.{order_of_run, scenario_of_run};
+ghost use Rattle.view_samples.specs.declared.overspent.Overspent.{Overspent};
 ghost use Rattle.aps_io.specs.Causes.{Rose};
 ghost use Rattle.aps_model.specs.Legal.{IsLegal};
 ghost use Rattle.view_value_changes.specs.Dump as spec;
-ghost use Rattle.view_value_changes.specs.Retraced.{RetracedFollowsCore, order_of_retraced, scenario_of_retraced};
+ghost use Rattle.view_value_changes.specs.Retraced.{RetracedFollowsCore};
 ghost use Rattle.view_value_changes.specs.Signals.{head_text};
 ghost use Rattle.aps_model.specs.Limits.{most_entries, most_partitions};
 
@@ -14,10 +15,9 @@ use crate::signals::add_head;
 use aps_io::Sink;
 use aps_model::{History, Order, PartitionRow};
 use std::alloc::Global;
-use view_marks::Overspent;
-use view_samples::rows_after;
-use view_trace_events::fault::TraceFault;
-use view_trace_events::piece::write_out;
+use view_replay::rows_after;
+use view_samples::Overspent;
+use view_texts::{TraceFault, write_out};
 
 /// Writes the value change dump of a history, which is legal in this order of turns, in pieces of some 65,536 bytes: what each
 /// processor keeps, how each partition stands in the window, and the state of each thread, after all entries that end at a
@@ -62,7 +62,7 @@ fn write_dump<K: Sink>(
 ) -> Result<(), TraceFault>
     requires at { RetracedFollowsCore dump.old.at }
     requires begins { dump.old.at.core.entries ≡ [] }
-    requires legal { IsLegal (scenario_of_retraced dump.old.at) (order_of_retraced dump.old.at) history.now.entries }
+    requires legal { IsLegal (scenario_of_run dump.old.at.core) (order_of_run dump.old.at.core) history.now.entries }
     requires few { length history.now.entries ≤ dump.old.at.core.setup.limit }
     requires few_rows { length rows.now ≤ most_partitions }
     requires empty { string_bytes out.old ≡ [] }

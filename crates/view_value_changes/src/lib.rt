@@ -12,7 +12,6 @@ mod retracing;
 mod save;
 mod signals;
 mod told;
-mod usages;
 mod value;
 
 pub use dumping::vcd;

@@ -6,17 +6,17 @@ ghost use Rattle.aps_model.specs.Shape.{IsShape};
 ghost use Rattle.laws_runs.specs.Moments.{moment};
 ghost use Rattle.aps_core.specs.Run.{state_of_run};
 ghost use Rattle.view_value_changes.specs.Moment as spec;
-ghost use Rattle.view_value_changes.specs.Usages.{AreUsagesUpTo};
+ghost use Rattle.view_shares.specs.Usages.{AreUsagesUpTo};
 ghost use Rattle.aps_model.specs.Limits.{most_cpus, most_critical, most_partitions, most_threads};
 
 use crate::kind::Kind;
 use crate::told::Told;
-use crate::usages::Usages;
 use crate::value::Value;
 use aps_core::Core;
 use aps_model::{
     CpuId, Nanos, NoMemory, PartitionId, PartitionRow, Pick, Shape, ThreadId, has_allowance,
 };
+use view_shares::Usages;
 
 /// The values of all signals after the entries of the core, for so many partitions, by what was told of these.
 pub fn add_values(

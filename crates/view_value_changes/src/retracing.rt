@@ -2,15 +2,15 @@
 ghost use Rattle.std.specs.Prelude.{◌≡◌, ◌<◌, ◌≤◌, ◌++◌, [], ◌∷◌, IfOk, length};
 ghost use Rattle.aps_model.specs.Legal.{IsLegal};
 ghost use Rattle.aps_core.specs.Turn.{with_entry};
-ghost use Rattle.view_samples.specs.Retraced.{start_of};
-ghost use Rattle.view_value_changes.specs.Retraced.{RetracedFollowsCore, order_of_retraced, scenario_of_retraced};
+ghost use Rattle.view_replay.specs.Retraced.{order_of_run, scenario_of_run, start_of};
+ghost use Rattle.view_value_changes.specs.Retraced.{RetracedFollowsCore};
 ghost use Rattle.aps_model.specs.Limits.{most_entries};
 
-use crate::usages::Usages;
 use aps_core::Core;
 use aps_model::{Entry, History, Nanos, NoMemory, Order};
 use std::alloc::Global;
-use view_samples::{boot, retrace};
+use view_replay::{boot, retrace};
+use view_shares::Usages;
 
 /// A core that has made the steps of so many entries again, when the last of them ended (ns; 0 where there is none), and what
 /// they bill.
@@ -41,13 +41,13 @@ impl Retraced {
     /// Makes the step of the next entry.
     pub fn go_on(&mut self, e: &Entry)
         requires at { RetracedFollowsCore self.old }
-        requires legal { IsLegal (scenario_of_retraced self.old) (order_of_retraced self.old) (self.old.core.entries ++ e.now ∷ []) }
+        requires legal { IsLegal (scenario_of_run self.old.core) (order_of_run self.old.core) (self.old.core.entries ++ e.now ∷ []) }
         requires room { length self.old.core.entries < self.old.core.setup.limit }
         ensures at { RetracedFollowsCore self.new }
         ensures core { self.new.core ≡ with_entry self.old.core e.now }
     {
-        self.usages.add(&self.core, e);
         retrace(&mut self.core, e);
+        self.usages.add(&self.core, e);
         self.usages.resize(&self.core);
         self.moment = e.to;
     }

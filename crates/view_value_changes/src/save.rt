@@ -9,8 +9,8 @@ ghost use Rattle.view_value_changes.specs.Save as spec;
 use aps_model::{Entry, History, Nanos, NoMemory, Order, PartitionRow};
 use std::alloc::Global;
 use std::fmt::Write;
-use view_marks::text::text_of;
-use view_samples::rows_after;
+use view_replay::rows_after;
+use view_texts::text_of;
 
 /// How many markers the viewer has.
 const MARKERS: usize = 26;

@@ -7,7 +7,7 @@ ghost use Rattle.view_value_changes.specs.Signals as spec;
 use crate::code::add_code;
 use aps_model::{Name, NoMemory, PartitionRow, ThreadRow};
 use std::fmt::Write;
-use view_marks::text::text_of;
+use view_texts::text_of;
 
 /// How many signals a processor has.
 const SIGNALS_OF_CPU: usize = 3;

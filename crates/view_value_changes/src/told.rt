@@ -10,7 +10,7 @@ ghost use Rattle.view_value_changes.specs.Told as spec;
 use aps_core::Core;
 use aps_model::limits::MOST_PARTITIONS;
 use aps_model::{CpuId, End, Entry, PartFacts, PartitionId, Pick};
-use view_marks::Overspent;
+use view_samples::Overspent;
 
 /// Which partitions had a candidate at the last pick, and which of them an entry of this moment made bankrupt.
 #[derive(Clone, Copy)]

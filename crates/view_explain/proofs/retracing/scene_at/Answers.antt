@@ -2,7 +2,6 @@ use Rattle.std.proofs.Common.{◌≡◌, ◌≤◌, ◌∙◌, ℕ, List, [], ta
 use Rattle.std.specs.Prelude.{All, IfOk}
 use Rattle.std.proofs.lemmas.List.{get_or-take, length-take-le, take-append-drop}
 use Rattle.aps_model.specs.declared.entry.Entry.{Entry}
-use Rattle.aps_model.specs.After.{state_after}
 use Rattle.aps_model.specs.History.{IsEntry}
 use Rattle.aps_model.specs.Legal.{IsLegal}
 use Rattle.aps_model.specs.Scenario.{Scenario}
@@ -21,10 +20,9 @@ all_take P xs n within each k d below =
 
 pub scene_of-requires-clause-tied : goal.scene_of-requires-clause-tied
 scene_of-requires-clause-tied c =
-    let scenario = c.scenario-scenario.result.now in
     let made : ℕ → Ties = λ n. record { messages = replicate n []; triples = [] } in
-    c.in_ok-ties.ensures ∙ ap made (ap (λ (l : List (List ℕ)). length l) c.channels.ensures.same) ∙ sym (ties_none scenario)
-    ∙ ap (λ (s : Scenario). ties_of (state_after s [])) (sym c.in_ok-copy.ensures) ∙ ap (λ (run : Run). ties_of (state_of_run run)) (sym c.in_ok-core.ensures)
+    c.in_ok-ties.ensures ∙ ap made (ap (λ (l : List (List ℕ)). length l) (c.channels.ensures.same ∙ ap (λ (s : Scenario). s.channels) c.scenario.ensures)) ∙ sym (ties_none c.args.history.now.scenario)
+    ∙ ap (λ (run : Run). ties_of (state_of_run run)) (sym c.in_ok-core.ensures.same)
 
 pub scene_of-requires-clause-entries : goal.scene_of-requires-clause-entries
 scene_of-requires-clause-entries c =
@@ -40,8 +38,7 @@ scene_of-requires-clause-legal c =
     let whole : IsLegal h.scenario order es = subst (IsLegal h.scenario order) (sym c.entries-entries.ensures.same) c.requires.legal in
     let front : IsLegal h.scenario order (take n es) =
     prefix_legal h.scenario order (take n es) (drop n es) (subst (IsLegal h.scenario order) (sym (take-append-drop n es)) whole) in
-    subst (λ (run : Run). IsLegal run.setup.scenario run.setup.order (take n es)) (sym c.in_ok-core.ensures)
-    (subst (λ (s : Scenario). IsLegal s order (take n es)) (sym (c.in_ok-copy.ensures ∙ c.scenario-scenario.ensures)) front)
+    subst (λ (run : Run). IsLegal run.setup.scenario run.setup.order (take n es)) (sym c.in_ok-core.ensures.same) front
 
 pub returns : goal.returns
 returns c =
@@ -49,6 +46,6 @@ returns c =
     let es = c.entries-entries.result.now in
     let made : Scenario → List Entry → Past = λ s l. record { scenario = s; entries = l } in
     subst (λ (past : Past). IfOk c.scene_of.result (λ scene. scene ≡ past))
-    (ap (λ s. made s (take c.ended_by-count.result es)) (ap (λ (run : Run). run.setup.scenario) c.in_ok-core.ensures ∙ c.in_ok-copy.ensures ∙ c.scenario-scenario.ensures)
+    (ap (λ (run : Run). made run.setup.scenario (take c.ended_by-count.result es)) c.in_ok-core.ensures.same
     ∙ ap (made h.scenario) (sym c.ended_by-count.ensures.same ∙ ap (λ l. until c.args.at l) c.entries-entries.ensures.same))
     c.scene_of.ensures

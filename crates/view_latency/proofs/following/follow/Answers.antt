@@ -3,8 +3,7 @@ use Rattle.std.proofs.lemmas.List.{take_all}
 use Rattle.aps_model.specs.declared.entry.Entry.{Entry}
 use Rattle.aps_core.specs.Run.{Run}
 use Rattle.aps_core.specs.Turn.{IsTurnTaken, with_entry}
-use Rattle.view_lives.proofs.Retraced.{front, front_more, next_taken}
-use Rattle.view_replay.specs.Entry.{entry_of}
+use Rattle.view_replay.proofs.Retraced.{front_more, next_taken}
 use Rattle.view_latency.specs.Following.{IsBeside}
 use Rattle.view_latency.proofs.following.follow.Goals as goal
 
@@ -16,9 +15,7 @@ loop-e-init c =
 -- the entry is that of the next step
 taken : (c : goal.After-go_on-arg-in-loop-e-1) → IsTurnTaken c.loop-e.core c.e-item.result.cpu c.e-item.result
 taken c =
-    let setup = c.args.core.now.setup in
-    subst (λ (run : Run). IsTurnTaken run c.e-item.result.cpu c.e-item.result) (sym c.loop-e.invariant.core)
-    (next_taken setup.scenario setup.order setup.limit c.args.entries.now c.loop-e.e-index c.e-item.result c.requires.legal c.loop-e-test.true (sym c.e-item.is) c.requires.few)
+    next_taken c.args.core.now.setup c.args.entries.now c.loop-e.e-index c.e-item.result c.loop-e.core c.loop-e.invariant.core c.requires.legal c.loop-e-test.true (sym c.e-item.is) c.requires.few
 
 pub go_on-requires-clause-goes_on : goal.go_on-requires-clause-goes_on
 go_on-requires-clause-goes_on c = (taken c).goes_on
@@ -32,11 +29,10 @@ loop-e-preserved c =
     let h = c.args.entries.now in
     let i = c.loop-e.e-index in
     let e = c.e-item.result in
-    let here : IsTurnTaken (front setup.scenario setup.order setup.limit h i) e.cpu e = next_taken setup.scenario setup.order setup.limit h i e c.requires.legal c.loop-e-test.true (sym c.e-item.is) c.requires.few in
-    let is : entry_of c.loop-e.core e.cpu ≡ e = ap (λ (run : Run). entry_of run e.cpu) c.loop-e.invariant.core ∙ sym here.stepped in
+    let here : IsTurnTaken c.loop-e.core e.cpu e = next_taken setup h i e c.loop-e.core c.loop-e.invariant.core c.requires.legal c.loop-e-test.true (sym c.e-item.is) c.requires.few in
     record {
-      core = front_more setup.scenario setup.order setup.limit h i e c.loop-e.core c.go_on.new.core c.loop-e-test.true (sym c.e-item.is) c.loop-e.invariant.core
-          (c.in_ok-go_on.ensures.run ∙ ap (λ (d : Entry). with_entry c.loop-e.core d) is);
+      core = front_more setup h i e c.loop-e.core c.go_on.new.core c.loop-e.invariant.core c.loop-e-test.true (sym c.e-item.is)
+          (c.in_ok-go_on.ensures.run ∙ ap (λ (d : Entry). with_entry c.loop-e.core d) (sym here.stepped));
       beside = c.in_ok-go_on.ensures.beside;
     }
 

@@ -1,4 +1,4 @@
-use Rattle.std.proofs.Common.{◌≡◌, ◌∙◌, IfOk, List, ap, subst}
+use Rattle.std.proofs.Common.{IfOk, List, ap, subst}
 use Rattle.aps_model.specs.declared.entry.Entry.{Entry}
 use Rattle.aps_model.specs.Scenario.{Scenario}
 use Rattle.aps_core.specs.Run.{Run}
@@ -8,6 +8,5 @@ use Rattle.view_latency.proofs.following.follow_all.Goals as goal
 pub returns : goal.returns
 returns c =
     let h = c.args.history.now in
-    let scenario : c.in_ok-core.core.setup.scenario ≡ h.scenario = ap (λ (r : Run). r.setup.scenario) c.in_ok-core.ensures ∙ c.in_ok-copy.ensures ∙ c.scenario-scenario.ensures in
-    subst (λ (s : Scenario). IfOk c.follow.result (AreFollowed s h.entries)) scenario
-    (subst (λ (es : List Entry). IfOk c.follow.result (AreFollowed c.in_ok-core.core.setup.scenario es)) c.entries-entries.ensures.same c.follow.ensures)
+    subst (λ (s : Scenario). IfOk c.follow.result (AreFollowed s h.entries)) (ap (λ (r : Run). r.setup.scenario) c.in_ok-core.ensures.same)
+    (subst (λ (es : List Entry). IfOk c.follow.result (AreFollowed c.in_ok-core.core.setup.scenario es)) c.entries.ensures.same c.follow.ensures)

@@ -1,5 +1,5 @@
 use Rattle.std.proofs.Common.{arith}
-use Rattle.view_lives.proofs.Rows.{row_more, rows_all}
+use Rattle.view_texts.proofs.Rows.{row_more, rows_all}
 use Rattle.view_latency.specs.Text.{thread_by_known}
 use Rattle.view_latency.proofs.latency.add_threads.Goals as goal
 

@@ -1,5 +1,5 @@
 use Rattle.std.proofs.Common.{arith}
-use Rattle.view_lives.proofs.Rows.{row_more, rows_all}
+use Rattle.view_texts.proofs.Rows.{row_more, rows_all}
 use Rattle.view_latency.specs.Text.{channel_lines}
 use Rattle.view_latency.proofs.lines.add_calls.Goals as goal
 

@@ -1,7 +1,7 @@
 use Rattle.std.proofs.Common.{◌≡◌, ◌<◌, ◌++◌, ◌∙◌, [], length, get_or, string_bytes, ap, arith}
 use Rattle.std.proofs.lemmas.List.{get_or_read}
 use Rattle.view_lives.specs.Text.{cycle_lines, thread_cycle_lines}
-use Rattle.view_lives.proofs.Rows.{row_more, rows_all}
+use Rattle.view_texts.proofs.Rows.{row_more, rows_all}
 use Rattle.view_lives.proofs.text.add_threads.Goals as goal
 
 pub loop-x-preserved : goal.loop-x-preserved

@@ -6,5 +6,5 @@ use Rattle.view_marks.proofs.drawn.drawn_of.Goals as goal
 
 pub returns : goal.returns
 returns c =
-    subst (λ (s : Scenario). IfOk c.drawn_by.result (IsDrawnHistory s c.args.history.now.entries)) c.scenario-scenario.ensures
-    (subst (λ (es : List Entry). IfOk c.drawn_by.result (IsDrawnHistory c.scenario-scenario.result.now es)) c.entries-entries.ensures.same c.drawn_by.ensures)
+    subst (λ (s : Scenario). IfOk c.drawn_by.result (IsDrawnHistory s c.args.history.now.entries)) c.scenario.ensures
+    (subst (λ (es : List Entry). IfOk c.drawn_by.result (IsDrawnHistory c.scenario.result.now es)) c.entries.ensures.same c.drawn_by.ensures)

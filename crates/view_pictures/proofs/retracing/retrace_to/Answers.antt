@@ -1,8 +1,7 @@
-use Rattle.std.proofs.Common.{◌<◌, List, ap, arith, rules, sym, subst, ◌∙◌}
+use Rattle.std.proofs.Common.{List, ap, arith, rules, sym, ◌∙◌}
 use Rattle.aps_model.specs.declared.entry.Entry.{Entry}
 use Rattle.aps_core.specs.Run.{Run}
-use Rattle.aps_core.specs.Turn.{IsTurnTaken}
-use Rattle.view_samples.proofs.Retraced.{front_more, next_exists, next_taken}
+use Rattle.view_replay.proofs.Retraced.{front_more, next_taken}
 use Rattle.view_pictures.proofs.UpTo.{all_up_to, met_up_to, more_up_to, none_up_to}
 use Rattle.view_pictures.proofs.retracing.retrace_to.Goals as goal
 
@@ -11,23 +10,14 @@ loop-e-init c =
     let whole : List Entry → Run = λ es. record { setup = c.args.core.now.setup; entries = es } in
     record { made = ap whole c.requires.begins; so_far = none_up_to c.args.moment c.args.entries.now }
 
-pub retrace-requires-clause-exists : goal.retrace-requires-clause-exists
-retrace-requires-clause-exists c =
-    let setup = c.args.core.now.setup in
-    subst (λ (run : Run). c.e-item.result.cpu < run.setup.scenario.shape.cpus) (sym c.loop-e.invariant.made)
-    (next_exists setup.scenario setup.order c.args.entries.now c.loop-e.e-index c.e-item.result c.requires.valid c.requires.legal c.loop-e-test.true (sym c.e-item.is))
-
-pub retrace-requires-clause-taken : goal.retrace-requires-clause-taken
-retrace-requires-clause-taken c =
-    let setup = c.args.core.now.setup in
-    subst (λ (run : Run). IsTurnTaken run c.e-item.result.cpu c.e-item.result) (sym c.loop-e.invariant.made)
-    (next_taken setup.scenario setup.order setup.limit c.args.entries.now c.loop-e.e-index c.e-item.result c.requires.legal c.loop-e-test.true (sym c.e-item.is) c.requires.few)
+pub retrace-requires : goal.retrace-requires
+retrace-requires c =
+    next_taken c.args.core.now.setup c.args.entries.now c.loop-e.e-index c.e-item.result c.loop-e.core c.loop-e.invariant.made c.requires.legal c.loop-e-test.true (sym c.e-item.is) c.requires.few
 
 pub loop-e-preserved : goal.loop-e-preserved
 loop-e-preserved c =
-    let setup = c.args.core.now.setup in
     record {
-      made = front_more setup.scenario setup.order setup.limit c.args.entries.now c.loop-e.e-index c.e-item.result c.loop-e.core c.retrace.new.core c.loop-e-test.true (sym c.e-item.is) c.loop-e.invariant.made c.retrace.ensures;
+      made = front_more c.args.core.now.setup c.args.entries.now c.loop-e.e-index c.e-item.result c.loop-e.core c.retrace.new.core c.loop-e.invariant.made c.loop-e-test.true (sym c.e-item.is) c.retrace.ensures;
       so_far = more_up_to c.args.moment c.args.entries.now c.loop-e.e-index c.e-item.result c.loop-e-test.true c.e-item.is (search rules) c.loop-e.invariant.so_far;
     }
 
@@ -35,7 +25,7 @@ pub returns-then-moment-e : goal.returns-then-moment-e
 returns-then-moment-e c =
     let setup = c.args.core.now.setup in
     let whole : List Entry → Run = λ es. record { setup = setup; entries = es } in
-    front_more setup.scenario setup.order setup.limit c.args.entries.now c.loop-e.e-index c.e-item.result c.loop-e.core c.retrace.new.core c.loop-e-test.true (sym c.e-item.is) c.loop-e.invariant.made c.retrace.ensures
+    front_more setup c.args.entries.now c.loop-e.e-index c.e-item.result c.loop-e.core c.retrace.new.core c.loop-e.invariant.made c.loop-e-test.true (sym c.e-item.is) c.retrace.ensures
     ∙ ap whole (sym (met_up_to c.args.moment c.args.entries.now c.loop-e.e-index c.e-item.result c.loop-e-test.true c.e-item.is (search rules) c.loop-e.invariant.so_far))
 
 pub returns : goal.returns

@@ -1,7 +1,7 @@
 use Rattle.std.proofs.Common.{codes}
 use Rattle.std.specs.List.{flat_map}
 use Rattle.view_samples.specs.Csv.{row_titles}
-use Rattle.view_samples.proofs.Texts.{three_pieces}
+use Rattle.view_texts.proofs.Texts.{three_pieces}
 use Rattle.view_samples.proofs.table.add_head.Goals as goal
 
 pub returns : goal.returns

@@ -5,7 +5,7 @@ use Rattle.aps_model.specs.Scenario.{Scenario}
 use Rattle.view_samples.specs.declared.sample.Sample.{Sample}
 use Rattle.view_samples.specs.Csv.{line_of_tick, sample_line}
 use Rattle.view_samples.specs.Sample.{sample_of}
-use Rattle.view_samples.proofs.Texts.{next_tick, no_tick, same_ticks}
+use Rattle.view_texts.proofs.Texts.{next_tick, no_tick, same_ticks}
 use Rattle.view_samples.proofs.table.add_lines.Goals as goal
 use Rattle.view_samples.proofs.table.add_lines.Goals.{then-first-j+in_ok-add_line, else-first-j}
 

@@ -1,6 +1,6 @@
 use Rattle.std.proofs.Common.{arith}
 use Rattle.view_samples.specs.Csv.{part_cells}
-use Rattle.view_samples.proofs.Texts.{tick_more}
+use Rattle.view_texts.proofs.Texts.{tick_more}
 use Rattle.view_samples.proofs.table.add_parts.Goals as goal
 
 pub loop-p-preserved : goal.loop-p-preserved

@@ -1,6 +1,6 @@
 use Rattle.std.proofs.Common.{sym}
 use Rattle.view_samples.specs.Csv.{row_titles}
-use Rattle.view_samples.proofs.Texts.{line_more}
+use Rattle.view_texts.proofs.Texts.{line_more}
 use Rattle.view_samples.proofs.table.add_row_titles.Goals as goal
 
 pub loop-row-preserved : goal.loop-row-preserved

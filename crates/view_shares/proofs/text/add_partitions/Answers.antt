@@ -1,7 +1,7 @@
 use Rattle.std.proofs.Common.{get_or, None, arith}
 use Rattle.view_shares.specs.Share.{no_share}
 use Rattle.view_shares.specs.Text.{partition_share_text}
-use Rattle.view_shares.proofs.Rows.{row_more, rows_all}
+use Rattle.view_texts.proofs.Rows.{row_more, rows_all}
 use Rattle.view_shares.proofs.text.add_partitions.Goals as goal
 
 pub loop-p-preserved : goal.loop-p-preserved

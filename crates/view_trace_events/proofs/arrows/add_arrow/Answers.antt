@@ -1,6 +1,6 @@
 use lib.Chars.{codes}
 use Rattle.std.proofs.Common.{◌-◌}
-use Rattle.view_trace_events.proofs.Pieces.{as_other, four, on_ok, on_put}
+use Rattle.view_texts.proofs.Pieces.{as_other, four, on_ok, on_put}
 use Rattle.view_trace_events.specs.Arrows.{end_text}
 use Rattle.view_trace_events.proofs.arrows.add_arrow.Goals as goal
 

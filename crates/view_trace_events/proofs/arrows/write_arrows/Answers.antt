@@ -1,9 +1,9 @@
 use Rattle.std.proofs.Common.{◌∙◌, ap, arith, subst, sym}
 use Rattle.view_marks.specs.Arrow.{arrow_of}
 use Rattle.std.proofs.Common.{◌≤◌, ◌+◌}
-use Rattle.view_trace_events.proofs.Pieces.{as_other}
+use Rattle.view_texts.proofs.Pieces.{as_other}
 use Rattle.view_trace_events.proofs.ArrowCounts.{arrows_more, one_number_more}
-use Rattle.view_trace_events.proofs.Told.{told_both, told_item, told_same}
+use Rattle.view_texts.proofs.Told.{told_both, told_item, told_same}
 use Rattle.view_trace_events.specs.Arrows.{Arrows, entry_events, arrow_number_after}
 use Rattle.view_trace_events.proofs.arrows.write_arrows.Goals as goal
 

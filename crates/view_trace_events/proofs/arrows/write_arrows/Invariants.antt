@@ -1,6 +1,6 @@
 use Rattle.std.proofs.Common.{◌≡◌, ◌≤◌, string_bytes, take}
 use Rattle.view_trace_events.specs.Arrows.{arrows_in, arrows_text}
-use Rattle.view_trace_events.specs.Piece.{IsTold}
+use Rattle.view_texts.specs.Piece.{IsTold}
 use Rattle.view_trace_events.proofs.arrows.write_arrows.Given as goal
 
 abbrev pub invariant-loop-e : goal.invariant-loop-e

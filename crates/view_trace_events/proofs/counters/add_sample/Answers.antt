@@ -1,6 +1,6 @@
 use Rattle.std.proofs.Common.{◌+◌, ◌*◌, arith}
-use Rattle.view_samples.proofs.Texts.{tick_more}
-use Rattle.view_trace_events.proofs.Pieces.{as_other}
+use Rattle.view_texts.proofs.Texts.{tick_more}
+use Rattle.view_texts.proofs.Pieces.{as_other}
 use Rattle.view_trace_events.specs.Counters.{partition_counters}
 use Rattle.view_trace_events.proofs.counters.add_sample.Goals as goal
 

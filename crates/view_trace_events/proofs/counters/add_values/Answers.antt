@@ -1,6 +1,6 @@
 use lib.Chars.{codes}
 use Rattle.std.proofs.Common.{slice_index}
-use Rattle.view_trace_events.proofs.Pieces.{as_other, on_ok, three}
+use Rattle.view_texts.proofs.Pieces.{as_other, on_ok, three}
 use Rattle.view_trace_events.specs.Counters.{value_event}
 use Rattle.view_trace_events.proofs.counters.add_values.Goals as goal
 

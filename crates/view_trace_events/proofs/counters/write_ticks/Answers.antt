@@ -4,8 +4,8 @@ use Rattle.aps_model.specs.declared.shape.Shape.{Shape}
 use Rattle.aps_model.specs.Scenario.{Scenario}
 use Rattle.view_samples.specs.declared.sample.Sample.{Sample}
 use Rattle.view_samples.specs.Sample.{sample_of}
-use Rattle.view_trace_events.proofs.Pieces.{as_other}
-use Rattle.view_trace_events.proofs.Told.{told_item, told_tick}
+use Rattle.view_texts.proofs.Pieces.{as_other}
+use Rattle.view_texts.proofs.Told.{told_item, told_tick}
 use Rattle.view_trace_events.specs.Counters.{before_tick, sample_events, tick_events}
 use Rattle.view_trace_events.proofs.counters.write_ticks.Goals as goal
 

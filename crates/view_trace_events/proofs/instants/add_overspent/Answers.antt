@@ -1,7 +1,7 @@
 use lib.Chars.{codes}
 use Rattle.std.proofs.Common.{◌++◌}
 use Rattle.std.specs.Fmt.{decimal}
-use Rattle.view_trace_events.proofs.Pieces.{as_other, on_ok, three}
+use Rattle.view_texts.proofs.Pieces.{as_other, on_ok, three}
 use Rattle.view_trace_events.specs.Place.{track_place_text}
 use Rattle.view_trace_events.specs.Track.{of_partition}
 use Rattle.view_trace_events.proofs.instants.add_overspent.Goals as goal

@@ -1,5 +1,5 @@
 use Rattle.std.proofs.Common.{arith, sym}
-use Rattle.view_trace_events.proofs.Told.{told_item, told_line}
+use Rattle.view_texts.proofs.Told.{told_item, told_line}
 use Rattle.view_trace_events.specs.Instants.{alteration_event}
 use Rattle.view_trace_events.proofs.instants.write_alterations.Goals as goal
 

@@ -1,6 +1,6 @@
 use Rattle.std.proofs.Common.{arith}
-use Rattle.view_samples.proofs.Texts.{tick_more}
-use Rattle.view_trace_events.proofs.Pieces.{as_other}
+use Rattle.view_texts.proofs.Texts.{tick_more}
+use Rattle.view_texts.proofs.Pieces.{as_other}
 use Rattle.view_trace_events.specs.Names.{processor_names}
 use Rattle.view_trace_events.proofs.names.add_each_processor.Goals as goal
 

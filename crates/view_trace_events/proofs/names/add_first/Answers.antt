@@ -1,5 +1,5 @@
 use lib.Chars.{codes}
-use Rattle.view_trace_events.proofs.Pieces.{as_other, four, on_ok}
+use Rattle.view_texts.proofs.Pieces.{as_other, four, on_ok}
 use Rattle.view_trace_events.specs.Names.{index_event}
 use Rattle.view_trace_events.specs.Place.{track_text}
 use Rattle.view_trace_events.specs.Track.{of_processors}

@@ -1,6 +1,6 @@
 use lib.Chars.{codes}
 use Rattle.std.proofs.Common.{ℕ, List, ◌+◌, ◌++◌}
-use Rattle.view_trace_events.proofs.Pieces.{as_other, on_ok, three}
+use Rattle.view_texts.proofs.Pieces.{as_other, on_ok, three}
 use Rattle.view_trace_events.specs.Names.{track_head_text, index_event}
 use Rattle.view_trace_events.specs.Track.{of_partition}
 use Rattle.view_trace_events.proofs.names.add_partition.Goals as goal

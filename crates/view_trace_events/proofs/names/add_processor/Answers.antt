@@ -1,7 +1,7 @@
 use lib.Chars.{codes}
 use Rattle.std.proofs.Common.{◌++◌}
 use Rattle.std.specs.Fmt.{decimal}
-use Rattle.view_trace_events.proofs.Pieces.{as_other, on_ok, three}
+use Rattle.view_texts.proofs.Pieces.{as_other, on_ok, three}
 use Rattle.view_trace_events.specs.Names.{track_head_text, index_event}
 use Rattle.view_trace_events.specs.Track.{of_processor}
 use Rattle.view_trace_events.proofs.names.add_processor.Goals as goal

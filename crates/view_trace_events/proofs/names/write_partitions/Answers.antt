@@ -1,6 +1,6 @@
 use Rattle.std.proofs.Common.{arith}
-use Rattle.view_trace_events.proofs.Pieces.{as_other}
-use Rattle.view_trace_events.proofs.Told.{told_item, told_row, told_rows}
+use Rattle.view_texts.proofs.Pieces.{as_other}
+use Rattle.view_texts.proofs.Told.{told_item, told_row, told_rows}
 use Rattle.view_trace_events.specs.Names.{named_partition, partition_names}
 use Rattle.view_trace_events.proofs.names.write_partitions.Goals as goal
 

@@ -1,7 +1,7 @@
 use Rattle.std.proofs.Common.{◌≤◌, string_bytes, take}
 use Rattle.std.specs.List.{flat_map, enumerate_from}
 use Rattle.view_trace_events.specs.Names.{thread_names}
-use Rattle.view_trace_events.specs.Piece.{IsTold}
+use Rattle.view_texts.specs.Piece.{IsTold}
 use Rattle.view_trace_events.proofs.names.write_threads.Given as goal
 
 abbrev pub invariant-loop-x : goal.invariant-loop-x

@@ -1,7 +1,7 @@
 use Rattle.std.proofs.Common.{◌≤◌, string_bytes, take}
 use Rattle.std.specs.List.{flat_map}
 use Rattle.view_trace_events.specs.Slices.{bar_event}
-use Rattle.view_trace_events.specs.Piece.{IsTold}
+use Rattle.view_texts.specs.Piece.{IsTold}
 use Rattle.view_trace_events.proofs.slices.write_bars.Given as goal
 
 abbrev pub invariant-loop-bar : goal.invariant-loop-bar

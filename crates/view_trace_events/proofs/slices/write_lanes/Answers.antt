@@ -1,7 +1,7 @@
 use Rattle.std.proofs.Common.{◌∙◌, List, ap, arith}
 use Rattle.std.specs.List.{flat_map}
 use Rattle.view_marks.specs.declared.bar.Bar.{Bar}
-use Rattle.view_trace_events.proofs.Told.{told_row, told_rows, told_same}
+use Rattle.view_texts.proofs.Told.{told_row, told_rows, told_same}
 use Rattle.view_trace_events.specs.declared.tracks.Track.{Track}
 use Rattle.view_trace_events.specs.Slices.{bar_event, lane_events}
 use Rattle.view_trace_events.specs.Track.{of_processor}

@@ -1,7 +1,7 @@
 use Rattle.std.proofs.Common.{◌≤◌, string_bytes, take}
 use Rattle.std.specs.List.{flat_map, enumerate_from}
 use Rattle.view_trace_events.specs.Slices.{lane_events}
-use Rattle.view_trace_events.specs.Piece.{IsTold}
+use Rattle.view_texts.specs.Piece.{IsTold}
 use Rattle.view_trace_events.proofs.slices.write_lanes.Given as goal
 
 abbrev pub invariant-loop-c : goal.invariant-loop-c

@@ -2,7 +2,7 @@ use Rattle.std.proofs.Common.{◌∙◌, List, ap, arith}
 use Rattle.std.specs.List.{flat_map}
 use Rattle.aps_model.specs.declared.scenario.ThreadRow.{ThreadRow}
 use Rattle.view_lives.specs.declared.life.Segment.{Segment}
-use Rattle.view_trace_events.proofs.Told.{told_row, told_rows, told_same}
+use Rattle.view_texts.proofs.Told.{told_row, told_rows, told_same}
 use Rattle.view_trace_events.specs.declared.tracks.Track.{Track}
 use Rattle.view_trace_events.specs.Slices.{life_events, segment_event}
 use Rattle.view_trace_events.specs.Track.{of_thread}

@@ -1,5 +1,5 @@
-use Rattle.view_trace_events.proofs.Pieces.{on_ok}
-use Rattle.view_trace_events.proofs.Told.{told_all, told_both, told_put}
+use Rattle.view_texts.proofs.Pieces.{on_ok}
+use Rattle.view_texts.proofs.Told.{told_all, told_both, told_put}
 use Rattle.view_trace_events.proofs.writing.trace.Goals as goal
 
 pub returns-clause-whole : goal.returns-clause-whole

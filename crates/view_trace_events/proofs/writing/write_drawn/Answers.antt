@@ -4,8 +4,8 @@ use Rattle.aps_model.specs.declared.partition.PartitionRow.{PartitionRow}
 use Rattle.aps_model.specs.declared.scenario.ThreadRow.{ThreadRow}
 use Rattle.aps_model.specs.declared.shape.Shape.{Shape}
 use Rattle.view_marks.specs.declared.bar.Bar.{Bar}
-use Rattle.view_trace_events.proofs.Pieces.{as_other, on_ok}
-use Rattle.view_trace_events.proofs.Told.{told_both, told_put, told_same}
+use Rattle.view_texts.proofs.Pieces.{as_other, on_ok}
+use Rattle.view_texts.proofs.Told.{told_both, told_put, told_same}
 use Rattle.view_trace_events.specs.Names.{partition_names, processors_text, thread_names}
 use Rattle.view_trace_events.specs.Slices.{lane_events}
 use Rattle.view_trace_events.proofs.writing.write_drawn.Goals as goal

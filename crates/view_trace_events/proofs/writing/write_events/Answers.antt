@@ -4,8 +4,8 @@ use Rattle.aps_model.specs.declared.partition.PartitionRow.{PartitionRow}
 use Rattle.aps_model.specs.After.{state_after}
 use Rattle.aps_model.specs.Scenario.{Scenario}
 use Rattle.view_marks.specs.declared.alteration.Alteration.{Alteration}
-use Rattle.view_trace_events.proofs.Pieces.{on_ok}
-use Rattle.view_trace_events.proofs.Told.{told_both, told_same}
+use Rattle.view_texts.proofs.Pieces.{on_ok}
+use Rattle.view_texts.proofs.Told.{told_both, told_same}
 use Rattle.view_trace_events.specs.Instants.{alteration_event, overspent_event}
 use Rattle.view_trace_events.specs.Trace.{lasting_part}
 use Rattle.view_trace_events.proofs.writing.write_events.Goals as goal

@@ -1,8 +1,8 @@
 use Rattle.std.proofs.Common.{List, ap}
 use Rattle.std.specs.List.{flat_map}
 use Rattle.aps_model.specs.declared.scenario.ThreadRow.{ThreadRow}
-use Rattle.view_trace_events.proofs.Pieces.{on_ok}
-use Rattle.view_trace_events.proofs.Told.{told_both, told_same}
+use Rattle.view_texts.proofs.Pieces.{on_ok}
+use Rattle.view_texts.proofs.Told.{told_both, told_same}
 use Rattle.view_trace_events.specs.Instants.{alteration_event}
 use Rattle.view_trace_events.proofs.writing.write_instants.Goals as goal
 

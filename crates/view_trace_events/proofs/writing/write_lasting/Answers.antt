@@ -2,8 +2,8 @@ use Rattle.std.proofs.Common.{◌∙◌, List, ap}
 use Rattle.aps_model.specs.declared.entry.Entry.{Entry}
 use Rattle.aps_model.specs.declared.scenario.ThreadRow.{ThreadRow}
 use Rattle.aps_model.specs.Scenario.{Scenario}
-use Rattle.view_trace_events.proofs.Pieces.{on_ok}
-use Rattle.view_trace_events.proofs.Told.{told_both, told_same}
+use Rattle.view_texts.proofs.Pieces.{on_ok}
+use Rattle.view_texts.proofs.Told.{told_both, told_same}
 use Rattle.view_trace_events.specs.Arrows.{arrows_text}
 use Rattle.view_trace_events.proofs.writing.write_lasting.Goals as goal
 

@@ -3,7 +3,7 @@ use Rattle.aps_model.specs.declared.partition.PartitionRow.{PartitionRow}
 use Rattle.aps_model.specs.After.{state_after}
 use Rattle.aps_model.specs.Scenario.{Scenario}
 use Rattle.view_trace_events.proofs.Numbered.{lanes_same}
-use Rattle.view_trace_events.proofs.Told.{told_same}
+use Rattle.view_texts.proofs.Told.{told_same}
 use Rattle.view_trace_events.specs.Trace.{drawn_part, names_text}
 use Rattle.view_trace_events.proofs.writing.write_processors.Goals as goal
 

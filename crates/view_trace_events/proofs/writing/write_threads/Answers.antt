@@ -2,8 +2,8 @@ use Rattle.std.proofs.Common.{◌∙◌, List, ap, length, sym}
 use Rattle.std.specs.List.{flat_map, enumerate_from}
 use Rattle.aps_model.specs.Scenario.{Scenario}
 use Rattle.view_lives.specs.declared.life.Segment.{Segment}
-use Rattle.view_trace_events.proofs.Pieces.{on_ok}
-use Rattle.view_trace_events.proofs.Told.{told_same}
+use Rattle.view_texts.proofs.Pieces.{on_ok}
+use Rattle.view_texts.proofs.Told.{told_same}
 use Rattle.view_trace_events.proofs.Numbered.{lives_same}
 use Rattle.view_trace_events.specs.Slices.{life_events}
 use Rattle.view_trace_events.proofs.writing.write_threads.Goals as goal

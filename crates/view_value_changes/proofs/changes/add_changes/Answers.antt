@@ -1,6 +1,6 @@
 use Rattle.std.proofs.Common.{arith}
-use Rattle.view_samples.proofs.Texts.{tick_more}
-use Rattle.view_trace_events.proofs.Pieces.{as_other}
+use Rattle.view_texts.proofs.Texts.{tick_more}
+use Rattle.view_texts.proofs.Pieces.{as_other}
 use Rattle.view_value_changes.specs.declared.value.Value.{Value}
 use Rattle.view_value_changes.specs.Changes.{change_at, change_line, value_at}
 use Rattle.view_value_changes.proofs.Alike.{read_before, read_now}

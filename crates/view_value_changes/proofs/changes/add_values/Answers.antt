@@ -1,4 +1,4 @@
-use Rattle.view_lives.proofs.Rows.{row_more, rows_all}
+use Rattle.view_texts.proofs.Rows.{row_more, rows_all}
 use Rattle.view_value_changes.specs.Changes.{signal_value}
 use Rattle.view_value_changes.proofs.changes.add_values.Goals as goal
 

@@ -3,7 +3,7 @@ use Rattle.std.specs.Io.KnownBytes.{Appends}
 use Rattle.aps_model.specs.declared.partition.PartitionRow.{PartitionRow}
 use Rattle.aps_model.specs.After.{state_after}
 use Rattle.aps_core.specs.Run.{Run, Setup}
-use Rattle.view_trace_events.proofs.Pieces.{on_ok}
+use Rattle.view_texts.proofs.Pieces.{on_ok}
 use Rattle.view_value_changes.specs.Dump.{body_text, dump_text}
 use Rattle.view_value_changes.specs.Signals.{head_text}
 use Rattle.view_value_changes.proofs.dumping.vcd.Goals as goal

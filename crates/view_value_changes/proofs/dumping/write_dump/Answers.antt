@@ -3,8 +3,8 @@ use Rattle.aps_model.specs.declared.scenario.ThreadRow.{ThreadRow}
 use Rattle.aps_model.specs.declared.shape.Shape.{Shape}
 use Rattle.aps_model.specs.Scenario.{Scenario}
 use Rattle.aps_core.specs.Run.{Setup}
-use Rattle.view_trace_events.proofs.Pieces.{on_ok}
-use Rattle.view_trace_events.proofs.Told.{told_all, told_both, told_put, told_same}
+use Rattle.view_texts.proofs.Pieces.{on_ok}
+use Rattle.view_texts.proofs.Told.{told_all, told_both, told_put, told_same}
 use Rattle.view_value_changes.specs.Dump.{Dumped, Telling, dumped, moment_text, start_telling, telling_of}
 use Rattle.view_value_changes.specs.Signals.{head_text}
 use Rattle.view_value_changes.proofs.dumping.write_dump.Goals as goal

@@ -1,5 +1,5 @@
 use Rattle.std.proofs.Common.{arith}
-use Rattle.view_samples.proofs.Texts.{tick_more}
+use Rattle.view_texts.proofs.Texts.{tick_more}
 use Rattle.view_value_changes.specs.Moment.{values_of_partition}
 use Rattle.view_value_changes.proofs.moments.add_partitions.Goals as goal
 

@@ -1,6 +1,6 @@
 use Rattle.std.proofs.Common.{arith}
 use Rattle.aps_core.specs.Run.{state_of_run}
-use Rattle.view_samples.proofs.Texts.{tick_more}
+use Rattle.view_texts.proofs.Texts.{tick_more}
 use Rattle.view_value_changes.specs.Moment.{cpu_values}
 use Rattle.view_value_changes.proofs.moments.add_processors.Goals as goal
 

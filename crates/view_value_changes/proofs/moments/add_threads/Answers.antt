@@ -1,6 +1,6 @@
 use Rattle.std.proofs.Common.{arith}
 use Rattle.aps_core.specs.Run.{state_of_run}
-use Rattle.view_samples.proofs.Texts.{tick_more}
+use Rattle.view_texts.proofs.Texts.{tick_more}
 use Rattle.view_value_changes.specs.Moment.{values_of_thread}
 use Rattle.view_value_changes.proofs.moments.add_threads.Goals as goal
 

@@ -1,5 +1,5 @@
 use Rattle.std.proofs.Common.{arith}
-use Rattle.view_samples.proofs.Texts.{tick_more}
+use Rattle.view_texts.proofs.Texts.{tick_more}
 use Rattle.view_value_changes.specs.Save.{no_marker}
 use Rattle.view_value_changes.proofs.save.add_no_markers.Goals as goal
 

@@ -1,6 +1,6 @@
 use lib.Chars.{codes}
 use Rattle.std.proofs.Common.{◌++◌}
-use Rattle.view_trace_events.proofs.Pieces.{four, on_ok}
+use Rattle.view_texts.proofs.Pieces.{four, on_ok}
 use Rattle.view_value_changes.specs.Save.{bit_entries}
 use Rattle.view_value_changes.proofs.save.add_partition.Goals as goal
 

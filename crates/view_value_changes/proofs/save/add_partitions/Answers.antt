@@ -1,6 +1,6 @@
 use Rattle.std.proofs.Common.{sym}
-use Rattle.view_samples.proofs.Texts.{line_more}
-use Rattle.view_trace_events.proofs.Pieces.{as_other}
+use Rattle.view_texts.proofs.Texts.{line_more}
+use Rattle.view_texts.proofs.Pieces.{as_other}
 use Rattle.view_value_changes.specs.Save.{partition_group, row_group}
 use Rattle.view_value_changes.proofs.save.add_partitions.Goals as goal
 

@@ -1,7 +1,7 @@
 use lib.Chars.{codes}
 use Rattle.std.proofs.Common.{◌++◌}
 use Rattle.std.specs.Fmt.{decimal}
-use Rattle.view_trace_events.proofs.Pieces.{four, on_ok}
+use Rattle.view_texts.proofs.Pieces.{four, on_ok}
 use Rattle.view_value_changes.proofs.save.add_processor.Goals as goal
 
 pub returns : goal.returns

@@ -2,7 +2,7 @@ use lib.Chars.{codes}
 use Rattle.std.proofs.Common.{◌≡◌, ◌-◌, ◌++◌, ◌∙◌, ap}
 use Rattle.std.specs.Fmt.{decimal}
 use Rattle.std.specs.List.{flat_map, range_with_len}
-use Rattle.view_trace_events.proofs.Pieces.{as_other, on_ok, on_put, three}
+use Rattle.view_texts.proofs.Pieces.{as_other, on_ok, on_put, three}
 use Rattle.view_value_changes.specs.Save.{markers, no_marker, zoom_of}
 use Rattle.view_value_changes.proofs.save.add_zoom.Goals as goal
 

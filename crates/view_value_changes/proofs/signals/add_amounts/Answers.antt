@@ -1,6 +1,6 @@
 use lib.Chars.{codes}
 use Rattle.std.proofs.Common.{◌+◌}
-use Rattle.view_trace_events.proofs.Pieces.{on_ok, three}
+use Rattle.view_texts.proofs.Pieces.{on_ok, three}
 use Rattle.view_value_changes.specs.Signals.{amount_line}
 use Rattle.view_value_changes.proofs.signals.add_amounts.Goals as goal
 

@@ -1,6 +1,6 @@
 use lib.Chars.{codes}
 use Rattle.std.proofs.Common.{◌+◌}
-use Rattle.view_trace_events.proofs.Pieces.{four, on_ok}
+use Rattle.view_texts.proofs.Pieces.{four, on_ok}
 use Rattle.view_value_changes.specs.Signals.{bit_signal}
 use Rattle.view_value_changes.proofs.signals.add_bits.Goals as goal
 

@@ -1,4 +1,4 @@
-use Rattle.view_lives.proofs.Rows.{row_more, rows_all}
+use Rattle.view_texts.proofs.Rows.{row_more, rows_all}
 use Rattle.view_value_changes.specs.Signals.{row_scope}
 use Rattle.view_value_changes.proofs.signals.add_each_partition.Goals as goal
 

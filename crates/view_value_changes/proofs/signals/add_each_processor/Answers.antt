@@ -1,5 +1,5 @@
 use Rattle.std.proofs.Common.{arith}
-use Rattle.view_samples.proofs.Texts.{tick_more}
+use Rattle.view_texts.proofs.Texts.{tick_more}
 use Rattle.view_value_changes.specs.Signals.{cpu_scope}
 use Rattle.view_value_changes.proofs.signals.add_each_processor.Goals as goal
 

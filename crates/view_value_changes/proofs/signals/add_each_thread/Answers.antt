@@ -1,6 +1,6 @@
 use Rattle.std.proofs.Common.{◌+◌}
-use Rattle.view_lives.proofs.Rows.{row_more, rows_all}
-use Rattle.view_trace_events.proofs.Pieces.{as_other}
+use Rattle.view_texts.proofs.Rows.{row_more, rows_all}
+use Rattle.view_texts.proofs.Pieces.{as_other}
 use Rattle.view_value_changes.specs.Signals.{thread_signal, word_signal}
 use Rattle.view_value_changes.proofs.signals.add_each_thread.Goals as goal
 

@@ -1,5 +1,5 @@
 use Rattle.std.proofs.Common.{◌+◌, ◌*◌, length}
-use Rattle.view_trace_events.proofs.Pieces.{four, on_ok, on_put, two}
+use Rattle.view_texts.proofs.Pieces.{four, on_ok, on_put, two}
 use Rattle.view_value_changes.specs.Signals.{cpus_text, head_end, head_start, partitions_text, threads_text}
 use Rattle.view_value_changes.proofs.signals.add_head.Goals as goal
 

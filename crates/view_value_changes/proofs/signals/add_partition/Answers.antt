@@ -1,5 +1,5 @@
 use Rattle.std.proofs.Common.{◌+◌}
-use Rattle.view_trace_events.proofs.Pieces.{as_other, four, on_ok}
+use Rattle.view_texts.proofs.Pieces.{as_other, four, on_ok}
 use Rattle.view_value_changes.specs.Signals.{amount_signals, bit_signals, scope_end_line, module_line}
 use Rattle.view_value_changes.proofs.signals.add_partition.Goals as goal
 

@@ -1,7 +1,7 @@
 use lib.Chars.{codes}
 use Rattle.std.proofs.Common.{◌*◌, ◌++◌}
 use Rattle.std.specs.Fmt.{decimal}
-use Rattle.view_trace_events.proofs.Pieces.{on_ok, three}
+use Rattle.view_texts.proofs.Pieces.{on_ok, three}
 use Rattle.view_value_changes.specs.Signals.{cpu_signals, scope_end_line}
 use Rattle.view_value_changes.proofs.signals.add_processor.Goals as goal
 

@@ -1,7 +1,8 @@
 use Rattle.std.proofs.Common.{List, sym, subst}
 use Rattle.aps_model.specs.declared.entry.Entry.{Entry}
+use Rattle.view_replay.specs.Retraced.{scenario_of_run}
 use Rattle.view_samples.specs.declared.pass.Samples.{Samples}
-use Rattle.view_samples.specs.Pass.{IsPassReady, RunsIn, samples_at_start, scenario_of_cursor}
+use Rattle.view_samples.specs.Pass.{IsPassReady, RunsIn, samples_at_start}
 use Rattle.view_samples.proofs.Begun.{begun, start_ready, start_runs}
 use Rattle.view_samples.proofs.pass.Samples.begin.Goals as goal
 
@@ -13,7 +14,7 @@ begin_tick-requires-clause-ready c =
 
 pub begin_tick-requires-clause-runs : goal.begin_tick-requires-clause-runs
 begin_tick-requires-clause-runs c =
-    subst (λ (s : Samples). RunsIn (scenario_of_cursor s.cursor).shape.tick c.entries.result.now s.cursor.next 1 s.tick) (sym c.in_ok-samples.ensures.same)
+    subst (λ (s : Samples). RunsIn (scenario_of_run s.cursor.core).shape.tick c.entries.result.now s.cursor.next 1 s.tick) (sym c.in_ok-samples.ensures.same)
     (start_runs c.args.history.now.scenario.shape.tick c.entries.result.now)
 
 pub returns-clause-at : goal.returns-clause-at

@@ -1,5 +1,6 @@
 use Rattle.std.proofs.Common.{◌∙◌, ◌<◌, ◌+◌, ℕ, refl, sym, arith}
-use Rattle.view_samples.specs.Pass.{entry_at, order_of_cursor, scenario_of_cursor}
+use Rattle.view_replay.specs.Retraced.{order_of_run, scenario_of_run}
+use Rattle.view_samples.specs.Pass.{entry_at}
 use Rattle.view_samples.proofs.Cuts.{cut_at, is_there}
 use Rattle.view_samples.proofs.Steps.{note_opened, past_more}
 use Rattle.view_samples.proofs.pass.Samples.begin_tick.Goals as goal
@@ -29,5 +30,5 @@ returns-else-is_before-clause-up c =
       lasts = refl;
       setup = refl;
       forward = omega arith;
-      cut = λ past. cut_at (scenario_of_cursor self.cursor) (order_of_cursor self.cursor) h (c.args.moment + 1) self.cursor.next ready.valid ready.legal ready.up.place (sym c.is_before.ensures ∙ c.if-is_before.false) past;
+      cut = λ past. cut_at (scenario_of_run self.cursor.core) (order_of_run self.cursor.core) h (c.args.moment + 1) self.cursor.next ready.valid ready.legal ready.up.place (sym c.is_before.ensures ∙ c.if-is_before.false) past;
     }

@@ -1,7 +1,8 @@
 use Rattle.std.proofs.Common.{◌∙◌, refl, sym, subst, take, arith}
 use Rattle.aps_core.specs.Run.{Setup}
+use Rattle.view_replay.specs.Retraced.{order_of_run, scenario_of_run}
 use Rattle.view_samples.specs.Look.{IsLook}
-use Rattle.view_samples.specs.Pass.{entry_at, order_of_cursor, scenario_of_cursor}
+use Rattle.view_samples.specs.Pass.{entry_at}
 use Rattle.view_samples.proofs.Cuts.{cut_at, is_there}
 use Rattle.view_samples.proofs.Steps.{notes_more, past_more, ready_more}
 use Rattle.view_samples.proofs.pass.Samples.go_through.Goals as goal
@@ -22,7 +23,7 @@ loop-self-preserved c =
       setup = c.go_on-look.ensures.setup ∙ inv.setup;
       forward = omega (arith, forward, next);
       past = λ start k less. past_more h c.args.bound i there.1 (inv.past start) k (omega (arith, less, next));
-      notes = notes_more (scenario_of_cursor c.args.self.now.cursor) h c.args.self.now self _ c.go_on-look.result there.0 forward next
+      notes = notes_more (scenario_of_run c.args.self.now.cursor.core) h c.args.self.now self _ c.go_on-look.result there.0 forward next
           (subst (λ (s : Setup). IsLook s.scenario (take i h) (entry_at h i) c.go_on-look.result) inv.setup c.go_on-look.ensures.look) c.add.ensures inv.notes;
     }
 
@@ -37,5 +38,5 @@ returns-clause-up c =
       lasts = inv.lasts;
       setup = inv.setup;
       forward = inv.forward;
-      cut = λ past. cut_at (scenario_of_cursor self.cursor) (order_of_cursor self.cursor) h c.args.bound self.cursor.next inv.ready.valid inv.ready.legal inv.ready.up.place (sym c.is_before.ensures ∙ c.loop-self-test.false) (inv.past past);
+      cut = λ past. cut_at (scenario_of_run self.cursor.core) (order_of_run self.cursor.core) h c.args.bound self.cursor.next inv.ready.valid inv.ready.legal inv.ready.up.place (sym c.is_before.ensures ∙ c.loop-self-test.false) (inv.past past);
     }

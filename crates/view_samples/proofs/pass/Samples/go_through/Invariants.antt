@@ -1,5 +1,6 @@
 use Rattle.std.proofs.Common.{◌≡◌, ℕ, ◌-◌, ◌<◌, ◌≤◌, length}
-use Rattle.view_samples.specs.Pass.{IsPassReady, KeepsNotes, entry_at, scenario_of_cursor}
+use Rattle.view_replay.specs.Retraced.{scenario_of_run}
+use Rattle.view_samples.specs.Pass.{IsPassReady, KeepsNotes, entry_at}
 use Rattle.view_samples.proofs.pass.Samples.go_through.Given as goal
 
 abbrev pub invariant-loop-self : goal.invariant-loop-self
@@ -10,7 +11,7 @@ invariant-loop-self l = record {
   setup : l.self.cursor.core.setup ≡ l.initial.self.cursor.core.setup;
   forward : l.initial.self.cursor.next ≤ l.self.cursor.next;
   past : ((k : ℕ) → k < l.initial.self.cursor.next → (entry_at l.entries k).to < l.bound) → (k : ℕ) → k < l.self.cursor.next → (entry_at l.entries k).to < l.bound;
-  notes : KeepsNotes (scenario_of_cursor l.initial.self.cursor) l.entries l.initial.self l.self;
+  notes : KeepsNotes (scenario_of_run l.initial.self.cursor.core) l.entries l.initial.self l.self;
 }
 
 abbrev pub decreases-loop-self : goal.decreases-loop-self

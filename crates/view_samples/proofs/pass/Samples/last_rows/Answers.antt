@@ -4,7 +4,7 @@ use Rattle.aps_model.specs.After.{state_after}
 use Rattle.aps_model.specs.Legal.{IsLegal}
 use Rattle.aps_model.specs.Scenario.{Scenario}
 use Rattle.aps_core.specs.Run.{Run}
-use Rattle.view_samples.specs.Pass.{order_of_cursor, scenario_of_cursor}
+use Rattle.view_replay.specs.Retraced.{order_of_run, scenario_of_run}
 use Rattle.view_samples.proofs.pass.Samples.last_rows.Goals as goal
 
 pub retrace_rest-requires-clause-done : goal.retrace_rest-requires-clause-done
@@ -16,7 +16,7 @@ retrace_rest-requires-clause-place c = subst (λ (l : List Entry). c.args.self.c
 
 pub retrace_rest-requires-clause-legal : goal.retrace_rest-requires-clause-legal
 retrace_rest-requires-clause-legal c =
-    subst (IsLegal (scenario_of_cursor c.args.self.cursor) (order_of_cursor c.args.self.cursor)) (sym c.entries.ensures.same) c.requires.at.ready.legal
+    subst (IsLegal (scenario_of_run c.args.self.cursor.core) (order_of_run c.args.self.cursor.core)) (sym c.entries.ensures.same) c.requires.at.ready.legal
 
 pub retrace_rest-requires-clause-few : goal.retrace_rest-requires-clause-few
 retrace_rest-requires-clause-few c = subst (λ (l : List Entry). length l ≤ c.args.self.cursor.core.setup.limit) (sym c.entries.ensures.same) c.requires.at.ready.up.room
@@ -25,5 +25,5 @@ pub returns-clause-same : goal.returns-clause-same
 returns-clause-same c =
     let after : Run → Type 0 = λ r. IfOk c.rows_of.result (λ rows. rows.items ≡ (state_after r.setup.scenario r.entries).rows) in
     subst (λ (s : Scenario). IfOk c.rows_of.result (λ rows. rows.items ≡ (state_after s c.args.history.now.entries).rows)) c.requires.of
-    (subst (λ (l : List Entry). IfOk c.rows_of.result (λ rows. rows.items ≡ (state_after (scenario_of_cursor c.args.self.cursor) l).rows)) c.entries.ensures.same
+    (subst (λ (l : List Entry). IfOk c.rows_of.result (λ rows. rows.items ≡ (state_after (scenario_of_run c.args.self.cursor.core) l).rows)) c.entries.ensures.same
     (subst after c.retrace_rest.ensures c.rows_of.ensures.same))

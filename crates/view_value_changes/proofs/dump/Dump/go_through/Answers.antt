@@ -4,9 +4,8 @@ use Rattle.aps_model.specs.declared.entry.Entry.{Entry}
 use Rattle.aps_model.specs.Legal.{IsLegal}
 use Rattle.laws_runs.proofs.Prefixes.{legal_up_to}
 use Rattle.aps_core.specs.Run.{Run, Setup}
-use Rattle.aps_core.specs.Turn.{with_entry}
-use Rattle.view_samples.proofs.Retraced.{one_more, parted}
-use Rattle.view_trace_events.proofs.Told.{told_both, told_none, told_same}
+use Rattle.view_replay.proofs.Retraced.{front_more, parted}
+use Rattle.view_texts.proofs.Told.{told_both, told_none, told_same}
 use Rattle.view_value_changes.specs.declared.retracing.Retraced.{Retraced}
 use Rattle.view_value_changes.specs.Dump.{Dumped, Telling, dumped, noted, telling_before, telling_of, text_before}
 use Rattle.view_value_changes.specs.Retraced.{RetracedFollowsCore}
@@ -45,8 +44,6 @@ loop-e-preserved g c =
     let h = c.args.entries.now in
     let i = c.loop-e.e-index in
     let e = c.e-item.result in
-    let whole : List Entry → Run = λ es. record { setup = setup; entries = es } in
-    let one = sym (one_more h i e c.loop-e-test.true (sym c.e-item.is)) in
     let so_far = dumped setup threads rows (telling_of overspent c.args.self.now) (take i h) in
     let more = dumped_more setup threads rows (telling_of overspent c.args.self.now) h i e c.loop-e-test.true (sym c.e-item.is) in
     let same : c.loop-e.self.at.core.setup ≡ setup = ap (λ (r : Run). r.setup) c.loop-e.invariant.core in
@@ -56,7 +53,7 @@ loop-e-preserved g c =
     ∙ ap (telling_before setup (length rows) e.to) c.loop-e.invariant.telling in
     record {
       at = c.go_on.ensures.at;
-      core = c.go_on.ensures.core ∙ ap (λ (r : Run). with_entry r e) (ap (λ (x : Retraced). x.core) c.in_ok-tell_before.ensures.at ∙ c.loop-e.invariant.core) ∙ ap whole one;
+      core = front_more setup h i e _ _ (ap (λ (x : Retraced). x.core) c.in_ok-tell_before.ensures.at ∙ c.loop-e.invariant.core) c.loop-e-test.true (sym c.e-item.is) c.go_on.ensures.core;
       told = told_same _ _ _ _ _ _ (sym (ap (λ (d : Dumped). d.text) more))
           (told_both _ _ _ _ _ _ _ _ c.loop-e.invariant.told
           (told_same _ _ _ _ _ _

@@ -1,5 +1,5 @@
 use Rattle.std.proofs.Common.{◌≡◌, ◌≤◌, string_bytes, take}
-use Rattle.view_trace_events.specs.Piece.{IsTold}
+use Rattle.view_texts.specs.Piece.{IsTold}
 use Rattle.view_value_changes.specs.Dump.{dumped, telling_of}
 use Rattle.view_value_changes.specs.Retraced.{RetracedFollowsCore}
 use Rattle.view_value_changes.proofs.dump.Dump.go_through.Given as goal

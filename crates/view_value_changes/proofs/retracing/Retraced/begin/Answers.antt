@@ -1,8 +1,8 @@
 use Rattle.std.proofs.Common.{◌∙◌, ap, refl}
 use Rattle.aps_model.specs.declared.shape.Shape.{Shape}
 use Rattle.aps_model.specs.Scenario.{Scenario}
-use Rattle.view_samples.specs.Retraced.{start_of}
-use Rattle.view_value_changes.proofs.Counted.{at_begin}
+use Rattle.view_replay.specs.Retraced.{start_of}
+use Rattle.view_value_changes.proofs.Begun.{at_begin}
 use Rattle.view_value_changes.proofs.retracing.Retraced.begin.Goals as goal
 
 pub returns-clause-at : goal.returns-clause-at

@@ -1,8 +1,0 @@
-use Rattle.std.proofs.Common.{map}
-use Rattle.view_marks.specs.declared.alteration.Alteration.{Alteration}
-use Rattle.view_timeline.specs.Strip.{all_drawn}
-use Rattle.view_timeline.proofs.Marked.{AreSoFar}
-use Rattle.view_timeline.proofs.strip.marks_of_changes.Given as goal
-
-abbrev pub invariant-loop-i : goal.invariant-loop-i
-invariant-loop-i l = AreSoFar l.span.from l.span.to (map (λ (one : Alteration). one.moment) l.alterations) l.i (all_drawn l.marks.items)
