@@ -21,7 +21,7 @@ sys.dont_write_bytecode = True
 TOOLS = os.path.dirname(os.path.abspath(__file__))
 ROOT = os.path.dirname(TOOLS)
 SCHEMA = os.path.join(ROOT, "docs", "scenario.schema.json")
-FOLDERS = ("scenarios", "crates/worked/data", "crates/worked_views/data")
+FOLDERS = ("scenarios", "crates/worked/data", "crates/worked/data/views")
 STATUS_OF_A_REFUSAL = 2
 MOST_SECONDS = 20
 

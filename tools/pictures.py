@@ -2,9 +2,9 @@
 """The pictures of docs/pictures/, each a report of ./apsview on a scenario of scenarios/.
 
     tools/pictures.py            fails where ./apsview draws another picture than stands there
-    tools/pictures.py --write    draws them anew, there and for the test of crates/worked_views
+    tools/pictures.py --write    draws them anew, there and among the texts of crates/worked
 
-The gate makes them too: crates/worked_views compares them with its copies. Whoever changes how pictures are drawn looks at them, for example with
+The gate makes them too: crates/worked compares them with its copies. Whoever changes how pictures are drawn looks at them, for example with
 `rsvg-convert docs/pictures/NAME.svg -o NAME.png` of the Debian package librsvg2-bin: nothing may overlap or be cut.
 """
 import pathlib
@@ -13,7 +13,7 @@ import sys
 
 ROOT = pathlib.Path(__file__).resolve().parent.parent
 FOLDER = ROOT / "docs" / "pictures"
-COPIES = ROOT / "crates" / "worked_views" / "data"
+COPIES = ROOT / "crates" / "worked" / "data" / "views"
 PICTURES = [
     ("cockpit-timeline", "cockpit", ["timeline", "--from", "0", "--to", "40"]),
     ("cockpit-usage", "cockpit", ["usage"]),
